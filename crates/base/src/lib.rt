@@ -1,0 +1,1 @@
+// Definitions that every part uses, and their laws; no code.

@@ -1,0 +1,71 @@
+-- How many records each group has: "counts DG by DG" (document 01, counting and Order).
+use Prim.Native.Nat.{ℕ, zero, suc, _+_, _*_, _-_, _/_, _^_}
+use mathlib.Core.List.{List, [], _∷_, _++_}
+use lib.ListN.{length}
+use Rattle.base.specs.Choice.{pick, ifLt, ifEq}
+use Rattle.base.specs.Checked.{Checked, ok, refused, andThen}
+use Rattle.mdf.specs.Chain.{Kind, dt, dv, Fragment}
+use Rattle.mdf.specs.Group.{Group, DataGroup, samples}
+use Rattle.mdf.specs.Records.{recordSize, Frame, unsortedFrames}
+
+abbrev pub most64 : ℕ
+most64 = 18446744073709551615
+
+-- the bytes of the DT, and of the DV
+abbrev dtBytes : Kind → ℕ → ℕ
+dtBytes dt n = n
+dtBytes dv n = 0
+
+abbrev dvBytes : Kind → ℕ → ℕ
+dvBytes dt n = 0
+dvBytes dv n = n
+
+unfoldable pub sizeDT : List Fragment → ℕ
+sizeDT [] = 0
+sizeDT (f ∷ fs) = dtBytes (f .kind) (f .size) + sizeDT fs
+
+unfoldable pub sizeDV : List Fragment → ℕ
+sizeDV [] = 0
+sizeDV (f ∷ fs) = dvBytes (f .kind) (f .size) + sizeDV fs
+
+-- "a zero divisor giving 0"
+unfoldable pub quotient : ℕ → ℕ → ℕ
+quotient n m = ifEq m 0 0 (n / m)
+
+-- "count = floor(DT bytes / (id size + samples + invalidation bytes)) + floor(DV bytes / samples)"
+unfoldable pub sortedCount : List ℕ → ℕ → ℕ → List Fragment → ℕ
+sortedCount s d g fs = quotient (sizeDT fs) (recordSize s d g dt) + quotient (sizeDV fs) (recordSize s d g dv)
+
+-- "19, DG: the DT bytes, the DV bytes or the count of one group exceed 2^64 − 1"
+unfoldable pub countOne : List ℕ → ℕ → ℕ → List Fragment → Checked (List ℕ)
+countOne s d g fs =
+    ifLt most64 (sizeDT fs) (refused 19 d)
+    (ifLt most64 (sizeDV fs) (refused 19 d)
+    (ifLt most64 (sortedCount s d g fs) (refused 19 d) (ok (sortedCount s d g fs ∷ []))))
+
+-- how many of the records are of group k
+unfoldable pub ofGroup : ℕ → List Frame → ℕ
+ofGroup k [] = 0
+ofGroup k (r ∷ rs) = ifEq (r .group) k 1 0 + ofGroup k rs
+
+-- the counts of n groups, from group k on
+unfoldable pub tallies : ℕ → ℕ → List Frame → List ℕ
+tallies zero k rs = []
+tallies (suc n) k rs = ofGroup k rs ∷ tallies n (k + 1) rs
+
+-- the counts of a DG's groups: none, one by its bytes, several by reading to the end
+abbrev countGroups : List ℕ → DataGroup → List Group → Checked (List ℕ)
+countGroups s d [] = ok []
+countGroups s d (g ∷ []) = countOne s (d .at) (g .at) (d .fragments)
+countGroups s d (g ∷ h ∷ gs) = andThen (unsortedFrames s d) (λ rs. ok (tallies (length (g ∷ h ∷ gs)) 0 rs))
+
+unfoldable pub countIn : List ℕ → DataGroup → Checked (List ℕ)
+countIn s d = countGroups s d (d .groups)
+
+-- the counts of all groups, in the order of the walk, after those counted before
+unfoldable pub countsFrom : List ℕ → List DataGroup → List ℕ → Checked (List ℕ)
+countsFrom s [] done = ok done
+countsFrom s (d ∷ ds) done = andThen (countIn s d) (λ ns. countsFrom s ds (done ++ ns))
+
+unfoldable pub counts : List ℕ → List DataGroup → Checked (List ℕ)
+counts s ds = countsFrom s ds []

@@ -1,0 +1,1 @@
+// Definitions of what is read from a recording; no code.
