@@ -5,7 +5,7 @@ use lib.ListN.{length}
 use Rattle.base.specs.Choice.{pick, ifLt, ifEq}
 use Rattle.base.specs.Checked.{Checked, ok, refused, andThen}
 use Rattle.mdf.specs.Chain.{Kind, dt, dv, Fragment}
-use Rattle.mdf.specs.Group.{Group, DataGroup, samples}
+use Rattle.mdf.specs.Group.{DataGroup, addresses}
 use Rattle.mdf.specs.Records.{recordSize, Frame, unsortedFrames}
 
 abbrev pub most64 : ℕ
@@ -53,19 +53,17 @@ unfoldable pub tallies : ℕ → ℕ → List Frame → List ℕ
 tallies zero k rs = []
 tallies (suc n) k rs = ofGroup k rs ∷ tallies n (k + 1) rs
 
--- the counts of a DG's groups: none, one by its bytes, several by reading to the end
-abbrev countGroups : List ℕ → DataGroup → List Group → Checked (List ℕ)
-countGroups s d [] = ok []
-countGroups s d (g ∷ []) = countOne s (d .at) (g .at) (d .fragments)
-countGroups s d (g ∷ h ∷ gs) = andThen (unsortedFrames s d) (λ rs. ok (tallies (length (g ∷ h ∷ gs)) 0 rs))
-
-unfoldable pub countIn : List ℕ → DataGroup → Checked (List ℕ)
-countIn s d = countGroups s d (d .groups)
+-- the counts of the DG at d: of no group, of one by its bytes, of several by reading to the end
+unfoldable pub countGroups : List ℕ → ℕ → List ℕ → List Fragment → Checked (List ℕ)
+countGroups s d [] fs = ok []
+countGroups s d (g ∷ []) fs = countOne s d g fs
+countGroups s d (g ∷ h ∷ gs) fs = andThen (unsortedFrames s d (g ∷ h ∷ gs) fs) (λ rs. ok (tallies (length (g ∷ h ∷ gs)) 0 rs))
 
 -- the counts of all groups, in the order of the walk, after those counted before
 unfoldable pub countsFrom : List ℕ → List DataGroup → List ℕ → Checked (List ℕ)
 countsFrom s [] done = ok done
-countsFrom s (d ∷ ds) done = andThen (countIn s d) (λ ns. countsFrom s ds (done ++ ns))
+countsFrom s (d ∷ ds) done =
+    andThen (countGroups s (d .at) (addresses (d .groups)) (d .fragments)) (λ ns. countsFrom s ds (done ++ ns))
 
 unfoldable pub counts : List ℕ → List DataGroup → Checked (List ℕ)
 counts s ds = countsFrom s ds []

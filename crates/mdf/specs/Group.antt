@@ -21,6 +21,11 @@ pub record DataGroup : Type 0 where
   pub fragments : List Fragment
   pub groups : List Group
 
+-- the addresses of groups
+unfoldable pub addresses : List Group → List ℕ
+addresses [] = []
+addresses (g ∷ gs) = g .at ∷ addresses gs
+
 -- the CN in front of the items
 unfoldable pub channelsOf : List Item → List ℕ
 channelsOf [] = []

@@ -6,3 +6,4 @@ pub mod Walk
 pub mod Group
 pub mod Records
 pub mod Count
+pub mod Words

@@ -10,7 +10,7 @@ use Rattle.base.specs.Field.{leAt}
 use Rattle.base.specs.Checked.{Checked, ok, refused, andThen, Verdict, fine}
 use Rattle.mdf.specs.Chain.{Kind, dt, dv, Fragment}
 use Rattle.mdf.specs.Walk.{idSize}
-use Rattle.mdf.specs.Group.{Group, DataGroup, recordId, samples, invalBytes, isStorage}
+use Rattle.mdf.specs.Group.{recordId, samples, invalBytes, isStorage}
 
 -- ---- fragments
 
@@ -112,83 +112,81 @@ sortedIn s d g fs =
     runsWhole s d g (runs fs)))
 
 -- ---- several groups: "With several groups a record is its id, then samples + invalidation bytes; in a VLSD storage group a 32-bit length
--- and that many bytes follow the id. Such a DG's data is always read to the end."
+-- and that many bytes follow the id. Such a DG's data is always read to the end." Groups are given by the addresses of their CG
 
--- a record: the number of its group in the DG, from 0, where its bytes past the id begin, and where they end
+-- a record: the number of its group in the DG, from 0, its bytes past the id, and the bytes that it takes with its id
 pub record Frame : Type 0 where
   pub group : ℕ
-  pub start : ℕ
-  pub end : ℕ
+  pub bytes : List ℕ
+  pub size : ℕ
 
 pub data Framed : Type 0 where
   framed : Frame → Framed
   broken : Framed
 
--- the group with an id, counted from k
+-- the group with an id: its number, counted from k, and its address
 pub data Known : Type 0 where
   known : ℕ → ℕ → Known
   unknown : Known
 
-unfoldable pub withId : List ℕ → ℕ → ℕ → List Group → Known
+unfoldable pub withId : List ℕ → ℕ → ℕ → List ℕ → Known
 withId s id k [] = unknown
-withId s id k (g ∷ gs) = let later = withId s id (k + 1) gs in ifEq (recordId s (g .at)) id (known k (g .at)) later
+withId s id k (g ∷ gs) = let later = withId s id (k + 1) gs in ifEq (recordId s g) id (known k g) later
 
 abbrev pub onKnown : Known → (ℕ → ℕ → Framed) → Framed
 onKnown unknown f = broken
 onKnown (known k g) f = f k g
 
--- a record of group k from start to end, if the joined data d reaches that far
-unfoldable pub upToEnd : List ℕ → ℕ → ℕ → ℕ → Framed
-upToEnd d k start end = ifLe end (length d) (framed (record { group = k; start = start; end = end })) broken
+-- a record of group k with m bytes past its id of n bytes, if what is left of the joined data, d, has them
+unfoldable pub ofBytes : List ℕ → ℕ → ℕ → ℕ → Framed
+ofBytes d n k m = ifLe (n + m) (length d) (framed (record { group = k; bytes = part n m d; size = n + m })) broken
 
--- past the id, at b: by the group's kind
+-- past the id: by the group's kind
 unfoldable pub frameOf : List ℕ → List ℕ → ℕ → ℕ → ℕ → Framed
-frameOf s d b k g =
+frameOf s d n k g =
     pick (isStorage s g)
-    (ifLe (b + 4) (length d) (upToEnd d k b (b + 4 + leAt 4 d b)) broken)
-    (upToEnd d k b (b + samples s g + invalBytes s g))
+    (ifLe (n + 4) (length d) (ofBytes d n k (4 + leAt 4 d n)) broken)
+    (ofBytes d n k (samples s g + invalBytes s g))
 
--- the record at p of the joined data d
-unfoldable pub frameAt : List ℕ → ℕ → List Group → List ℕ → ℕ → Framed
-frameAt s n gs d p =
-    ifLe (p + n) (length d) (onKnown (withId s (leAt n d p) 0 gs) (λ k g. frameOf s d (p + n) k g)) broken
+-- the record that d begins with; "15: a record ends early .. or has an unknown id"
+unfoldable pub frameAt : List ℕ → ℕ → List ℕ → List ℕ → Framed
+frameAt s n gs d = ifLe n (length d) (onKnown (withId s (leAt n d 0) 0 gs) (λ k g. frameOf s d n k g)) broken
 
 abbrev pub onFramed : Framed → Checked (List Frame) → (Frame → Checked (List Frame)) → Checked (List Frame)
 onFramed broken a f = a
 onFramed (framed r) a f = f r
 
--- the records from p to the end, after those framed before; 15 at the record that is not one
-unfoldable pub framesFrom : ℕ → List ℕ → ℕ → List Group → List Fragment → List ℕ → ℕ → List Frame → Checked (List Frame)
+-- the records of d, which is what is left past p bytes of the joined data, after those framed before
+unfoldable pub framesFrom : ℕ → List ℕ → ℕ → List ℕ → List Fragment → List ℕ → ℕ → List Frame → Checked (List Frame)
 framesFrom zero s n gs fs d p done = ok done
 framesFrom (suc turns) s n gs fs d p done =
-    let here = onFramed (frameAt s n gs d p) (refused 15 (placeOf fs p)) (λ r. framesFrom turns s n gs fs d (r .end) (done ++ (r ∷ []))) in
-    ifLt p (length d) here (ok done)
+    let here = onFramed (frameAt s n gs d) (refused 15 (placeOf fs p))
+          (λ r. framesFrom turns s n gs fs (drop (r .size) d) (p + r .size) (done ++ (r ∷ []))) in
+    ifEq (length d) 0 (ok done) here
 
--- each record takes at least its id's bytes, so there are fewer than bytes
-unfoldable pub frames : List ℕ → ℕ → List Group → List Fragment → Checked (List Frame)
+-- all records; each takes at least its id's bytes, so there are at most as many as bytes
+unfoldable pub frames : List ℕ → ℕ → List ℕ → List Fragment → Checked (List Frame)
 frames s n gs fs = framesFrom (length (joined s fs) + 1) s n gs fs (joined s fs) 0 []
 
 -- the id is that of one of the groups
-unfoldable pub isIdOf : List ℕ → ℕ → List Group → Bool
+unfoldable pub isIdOf : List ℕ → ℕ → List ℕ → Bool
 isIdOf s id [] = false
-isIdOf s id (g ∷ gs) = let more = isIdOf s id gs in pick (eqb (recordId s (g .at)) id) true more
+isIdOf s id (g ∷ gs) = let more = isIdOf s id gs in pick (eqb (recordId s g) id) true more
 
-unfoldable pub equalIds : List ℕ → List Group → Bool
+unfoldable pub equalIds : List ℕ → List ℕ → Bool
 equalIds s [] = false
-equalIds s (g ∷ gs) = let more = equalIds s gs in pick (isIdOf s (recordId s (g .at)) gs) true more
+equalIds s (g ∷ gs) = let more = equalIds s gs in pick (isIdOf s (recordId s g) gs) true more
 
--- "14 with equal ids first, then missing ids, then DV; fragment ranges; records"
-unfoldable pub unsortedFrames : List ℕ → DataGroup → Checked (List Frame)
-unsortedFrames s d =
-    andThen (pick (equalIds s (d .groups)) (refused 14 (d .at)) fine) (λ _.
-    andThen (ifEq (idSize s (d .at)) 0 (refused 14 (d .at)) fine) (λ _.
-    andThen (pick (anyDV (d .fragments)) (refused 14 (d .at)) fine) (λ _.
-    andThen (rangesIn s (d .fragments)) (λ _.
-    frames s (idSize s (d .at)) (d .groups) (d .fragments)))))
+-- "14 with equal ids first, then missing ids, then DV; fragment ranges; records", of the DG at d with groups gs and fragments fs
+unfoldable pub unsortedFrames : List ℕ → ℕ → List ℕ → List Fragment → Checked (List Frame)
+unsortedFrames s d gs fs =
+    andThen (pick (equalIds s gs) (refused 14 d) fine) (λ _.
+    andThen (ifEq (idSize s d) 0 (refused 14 d) fine) (λ _.
+    andThen (pick (anyDV fs) (refused 14 d) fine) (λ _.
+    andThen (rangesIn s fs) (λ _.
+    frames s (idSize s d) gs fs))))
 
 -- the records of group k among those framed
-unfoldable pub unsortedRecords : ℕ → List ℕ → List Frame → List (List ℕ)
-unsortedRecords k d [] = []
-unsortedRecords k d (r ∷ rs) =
-    let more = unsortedRecords k d rs in
-    ifEq (r .group) k (part (r .start) (r .end - r .start) d ∷ more) more
+unfoldable pub unsortedRecords : ℕ → List Frame → List (List ℕ)
+unsortedRecords k [] = []
+unsortedRecords k (r ∷ rs) = let more = unsortedRecords k rs in ifEq (r .group) k (r .bytes ∷ more) more

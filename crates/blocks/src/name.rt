@@ -1,6 +1,6 @@
 // A name: TX or MD, read for its whole length.
 use fields::Check;
-use block::{TX, MD, kind_at, size_at, header_in};
+use crate::block::{TX, MD, kind_at, size_at, header_in};
 ghost use mathlib.Core.Path.{_≡_};
 ghost use Rattle.fields.specs.Answer.{verdictOf};
 ghost use Rattle.mdf.specs.Name.{textIn, nameAt};
