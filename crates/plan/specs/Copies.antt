@@ -1,0 +1,172 @@
+-- Which metadata blocks are copied and where they are placed (document 01, copying and placement). "Copied blocks follow what they link to."
+use Prim.Native.Nat.{ℕ, zero, suc, _+_, _*_, _-_}
+use mathlib.Core.List.{List, [], _∷_, _++_}
+use mathlib.Core.Bool.{Bool, true, false}
+use mathlib.Core.Option.{Option, none, some}
+use lib.ListN.{length, drop}
+use lib.Dec.{eqb}
+use Rattle.base.specs.Choice.{pick, ifLt, ifEq}
+use Rattle.base.specs.Field.{leAt}
+use Rattle.base.specs.Checked.{Checked, ok, refused, andThen, Verdict, fine}
+use Rattle.mdf.specs.Block.{kindTX, kindMD, kindAt, sizeAt, linksAt, linkAt, firstLink, headerIn, wholeAt, mostBytes}
+use Rattle.mdf.specs.Chain.{isIn}
+use Rattle.plan.specs.Geometry.{align8}
+use Rattle.plan.specs.Columns.{SrcGroup, Column}
+
+abbrev pub kindCC : ℕ
+kindCC = 1128473379
+abbrev pub kindSI : ℕ
+kindSI = 1230185251
+abbrev pub kindFH : ℕ
+kindFH = 1212556067
+abbrev pub kindAT : ℕ
+kindAT = 1413554979
+
+-- a copied block: where it stood and where it is placed
+pub record Copy : Type 0 where
+  pub from : ℕ
+  pub to : ℕ
+
+-- the blocks copied so far, in the order of their places, and the end of what is placed
+pub record Copies : Type 0 where
+  pub memo : List Copy
+  pub next : ℕ
+
+abbrev pub copies : List Copy → ℕ → Copies
+copies m n = record { memo = m; next = n }
+
+-- the place of the copy of a, none where it isn't copied
+unfoldable pub copyOf : ℕ → List Copy → Option ℕ
+copyOf a [] = none
+copyOf a (c ∷ cs) = let later = copyOf a cs in ifEq (c .from) a (some (c .to)) later
+
+-- a block of so many bytes more
+unfoldable pub placed : ℕ → ℕ → Copies → Copies
+placed a size m = copies (m .memo ++ (record { from = a; to = align8 (m .next) } ∷ [])) (align8 (m .next) + size)
+
+-- "Kinds other than TX, MD, CC, SI, FH become link 0."
+unfoldable pub isCopied : ℕ → Bool
+isCopied k =
+    pick (eqb k kindTX) true (pick (eqb k kindMD) true (pick (eqb k kindCC) true (pick (eqb k kindSI) true (eqb k kindFH))))
+
+-- "An FH loses its first link": the number of links passed over in front
+unfoldable pub lostLinks : List ℕ → ℕ → ℕ
+lostLinks s a = ifEq (kindAt s a) kindFH 1 0
+
+-- the links that stand at p, so many of them, each followed by the step
+unfoldable pub copyLinks : (ℕ → Copies → Checked Copies) → List ℕ → ℕ → ℕ → Copies → Checked Copies
+copyLinks step s zero p m = ok m
+copyLinks step s (suc links) p m = andThen (step (leAt 8 s p) m) (λ m'. copyLinks step s links (p + 8) m')
+
+-- "2,048 copied blocks": of those begun, the ones on the way down counted
+abbrev pub mostCopies : ℕ
+mostCopies = 2048
+
+abbrev pub onCopy : Option ℕ → Copies → Checked Copies → Checked Copies
+onCopy none m new = new
+onCopy (some a) m new = ok m
+
+-- the block at a and all that it links to, with the blocks on the way down to it: "Depth starts at 0; depth 65 is refused before the block is read,
+-- if its address is nonzero and not already copied." The depth left falls from 65
+unfoldable pub copyAt : ℕ → List ℕ → List ℕ → ℕ → Copies → Checked Copies
+copyAt zero s way a m = ifEq a 0 (ok m) (onCopy (copyOf a (m .memo)) m (refused 16 a))
+copyAt (suc left) s way a m =
+    let links = copyLinks (copyAt left s (a ∷ way)) s (linksAt s a - lostLinks s a) (a + 24 + 8 * lostLinks s a) m in
+    let limited = ifLt (length (m .memo) + length way) mostCopies (andThen links (λ m'. ok (placed a (sizeAt s a) m'))) (refused 19 a) in
+    let read = andThen (wholeAt s a) (λ _. pick (isCopied (kindAt s a)) limited (ok m)) in
+    let new = pick (isIn a way) (refused 16 a) read in
+    ifEq a 0 (ok m) (onCopy (copyOf a (m .memo)) m new)
+
+abbrev pub depth : ℕ
+depth = 65
+
+-- a block that a link leads to, from outside of any copied block
+unfoldable pub copyRoot : List ℕ → ℕ → Copies → Checked Copies
+copyRoot s a m = copyAt depth s [] a m
+
+-- several links, in order
+unfoldable pub copyRoots : List ℕ → List ℕ → Copies → Checked Copies
+copyRoots s [] m = ok m
+copyRoots s (a ∷ as') m = andThen (copyRoot s a m) (λ m'. copyRoots s as' m')
+
+-- ---- history: "History and attachment chains that return to an earlier block end quietly, also a history chain at a kind not copied"
+
+-- the blocks of the history chain, and the copies
+pub record History : Type 0 where
+  pub chain : List ℕ
+  pub made : Copies
+
+abbrev pub history : List ℕ → Copies → History
+history l m = record { chain = l; made = m }
+
+-- "17: a history block of a copied kind without links"
+unfoldable pub historyFrom : ℕ → List ℕ → ℕ → History → Checked History
+historyFrom zero s a h = ok h
+historyFrom (suc turns) s a h =
+    let more = andThen (copyRoot s a (h .made)) (λ m. historyFrom turns s (firstLink s a) (history (h .chain ++ (a ∷ [])) m)) in
+    let linked = ifEq (linksAt s a) 0 (refused 17 a) more in
+    let unseen = andThen (wholeAt s a) (λ _. pick (isCopied (kindAt s a)) linked (ok h)) in
+    ifEq a 0 (ok h) (pick (isIn a (h .chain)) (ok h) unseen)
+
+-- each block of the chain is copied once, so there are at most as many as copies
+unfoldable pub historyOf : List ℕ → ℕ → Copies → Checked History
+historyOf s a m = historyFrom (mostCopies + 1) s a (history [] m)
+
+-- ---- what a column refers to: "per column the copies of CG links 3, 4, 6, CN links 3, 4, 5, 7, 8, the DG comment"
+abbrev pub columnLinks : List ℕ → Column → List ℕ
+columnLinks s c =
+    linkAt s (c .group .at) 2 ∷ linkAt s (c .group .at) 3 ∷ linkAt s (c .group .at) 5
+    ∷ linkAt s (c .channel) 2 ∷ linkAt s (c .channel) 3 ∷ linkAt s (c .channel) 4 ∷ linkAt s (c .channel) 6 ∷ linkAt s (c .channel) 7
+    ∷ linkAt s (c .group .dataGroup .at) 3 ∷ []
+
+unfoldable pub columnCopies : List ℕ → List Column → Copies → Checked Copies
+columnCopies s [] m = ok m
+columnCopies s (c ∷ cs) m = andThen (copyRoots s (columnLinks s c) m) (λ m'. columnCopies s cs m')
+
+-- ---- attachments: "attachments, each after the blocks newly copied for it"; at most 64
+
+-- a moved AT: where it stood, where it is placed, and the copies made for it
+pub record Attachment : Type 0 where
+  pub from : ℕ
+  pub to : ℕ
+  pub own : List Copy
+
+pub record Attached : Type 0 where
+  pub attachments : List Attachment
+  pub made : Copies
+
+abbrev pub mostAttachments : ℕ
+mostAttachments = 64
+
+unfoldable pub isAttached : ℕ → List Attachment → Bool
+isAttached a [] = false
+isAttached a (t ∷ ts) = let more = isAttached a ts in pick (eqb (t .from) a) true more
+
+-- "18, AT: under 4 links, or 24 + 8 × links over its length or over 268,435,456", then its whole range (4)
+unfoldable pub attachmentIn : List ℕ → ℕ → Verdict
+attachmentIn s a =
+    ifLt (linksAt s a) 4 (refused 18 a)
+    (ifLt (sizeAt s a) (24 + 8 * linksAt s a) (refused 18 a)
+    (ifLt mostBytes (24 + 8 * linksAt s a) (refused 18 a)
+    (ifLt (length s) (a + sizeAt s a) (refused 4 a) fine)))
+
+-- the AT at a, after the blocks that its links from the second on lead to
+unfoldable pub attach : ℕ → ℕ → Copies → Copies → Attached → Attached
+attach a size before m t =
+    record {
+      attachments = t .attachments ++ (record { from = a; to = align8 (m .next); own = drop (length (before .memo)) (m .memo) } ∷ []);
+      made = copies (m .memo) (align8 (align8 (m .next) + size)) }
+
+unfoldable pub attachmentsFrom : ℕ → List ℕ → ℕ → Attached → Checked Attached
+attachmentsFrom zero s a t = ok t
+attachmentsFrom (suc turns) s a t =
+    let copied = copyLinks (copyRoot s) s (linksAt s a - 1) (a + 32) (t .made) in
+    let more = andThen copied (λ m. attachmentsFrom turns s (firstLink s a) (attach a (sizeAt s a) (t .made) m t)) in
+    let limited = ifLt (length (t .attachments)) mostAttachments more (refused 19 a) in
+    let checked = andThen (attachmentIn s a) (λ _. limited) in
+    let unseen = andThen (headerIn s a) (λ _. ifEq (kindAt s a) kindAT checked (ok t)) in
+    ifEq a 0 (ok t) (pick (isAttached a (t .attachments)) (ok t) unseen)
+
+-- the attachment chain from a on, with what is placed before it
+unfoldable pub attachmentsOf : List ℕ → ℕ → Copies → Checked Attached
+attachmentsOf s a m = attachmentsFrom (mostAttachments + 2) s a (record { attachments = []; made = m })

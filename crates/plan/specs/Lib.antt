@@ -1,0 +1,6 @@
+pub mod Channel
+pub mod Columns
+pub mod Geometry
+pub mod Data
+pub mod Copies
+pub mod Layout

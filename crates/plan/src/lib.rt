@@ -1,0 +1,1 @@
+// Definitions of what is planned: columns, omissions, copies, places; no code.

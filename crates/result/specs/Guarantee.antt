@@ -1,0 +1,190 @@
+-- The archive's guarantee (demand 3, in the words of document 01, e): what holds of the final bytes of every accepted result.
+use Prim.Native.Nat.{ℕ, zero, suc, _+_, _*_, _-_, _≤_, _<_}
+use mathlib.Core.List.{List, [], _∷_, _++_}
+use mathlib.Core.Bool.{Bool, true, false}
+use mathlib.Core.Option.{Option, none, some}
+use mathlib.Core.Path.{_≡_}
+use lib.ListN.{length}
+use lib.Dec.{eqb}
+use Rattle.base.specs.Choice.{pick, ifLt, ifEq}
+use Rattle.base.specs.Field.{leAt}
+use Rattle.base.specs.Blit.{part}
+use Rattle.mdf.specs.Block.{kindDG, kindCG, kindCN, kindDL, kindDT, kindDV, kindSD, kindAt, sizeAt, linksAt, linkAt, dataAt}
+use Rattle.mdf.specs.Group.{groupFlags, samples, invalBytes, isStorage}
+use Rattle.plan.specs.Channel.{bit, keepsInval, channelBytes}
+use Rattle.plan.specs.Columns.{SrcGroup, Column, Omission, TimeOf, time, untimed, differs, timeOf}
+use Rattle.plan.specs.Data.{isNonempty}
+use Rattle.plan.specs.Layout.{Placed, cgOf, cnOf, columnBlocks}
+use Rattle.result.specs.Payload.{recordsOf, cells, signalBytes}
+use Rattle.result.specs.Fill.{Block, dgBytes, cgBytes, cnBytes, dlBytes, cgAt, nextDG}
+use Rattle.result.specs.Result.{Args, Decided, blocksOf, memoOf}
+
+-- ---- reading a file by links alone
+
+-- the data of the block at a: what follows its 24-byte header
+unfoldable pub blockData : List ℕ → ℕ → List ℕ
+blockData f a = part (a + 24) (sizeAt f a - 24) f
+
+-- the data of the blocks to which so many links, from p on, lead, in link order
+unfoldable pub linkedData : List ℕ → ℕ → ℕ → List ℕ
+linkedData f zero p = []
+linkedData f (suc n) p = blockData f (leAt 8 f p) ++ linkedData f n (p + 8)
+
+-- "Joined: block data in link order, nothing at link 0": by a DL's links past its first
+unfoldable pub joinedPayload : List ℕ → ℕ → List ℕ
+joinedPayload f dl = ifEq dl 0 [] (linkedData f (linksAt f dl - 1) (dl + 32))
+
+unfoldable pub joinedSignal : List ℕ → ℕ → List ℕ
+joinedSignal f sd = ifEq sd 0 [] (blockData f sd)
+
+-- the CG that a CG names as its master, 0 for none: the seventh link under flag bit 3
+unfoldable pub namedMaster : List ℕ → ℕ → ℕ
+namedMaster f cg = ifEq (bit 3 (groupFlags f cg)) 1 (ifLt 6 (linksAt f cg) (linkAt f cg 6) 0) 0
+
+-- a column that links show: its DG, its CG and the CG after that, its CN and the CN after that, the kinds of the three, its data
+pub record Shown : Type 0 where
+  pub dg : ℕ
+  pub cg : ℕ
+  pub nextCG : ℕ
+  pub cn : ℕ
+  pub nextCN : ℕ
+  pub kinds : List ℕ
+  pub idSize : ℕ
+  pub records : ℕ
+  pub dataBytes : ℕ
+  pub invalidation : ℕ
+  pub payload : List ℕ
+  pub signalData : List ℕ
+  pub master : ℕ
+
+unfoldable pub shownAt : List ℕ → ℕ → Shown
+shownAt f dg =
+    let cg = linkAt f dg 1 in
+    let cn = linkAt f cg 1 in
+    record {
+      dg = dg; cg = cg; nextCG = linkAt f cg 0; cn = cn; nextCN = linkAt f cn 0;
+      kinds = kindAt f dg ∷ kindAt f cg ∷ kindAt f cn ∷ [];
+      idSize = leAt 1 f (dataAt f dg);
+      records = leAt 8 f (dataAt f cg + 8);
+      dataBytes = samples f cg;
+      invalidation = invalBytes f cg;
+      payload = joinedPayload f (linkAt f dg 2);
+      signalData = joinedSignal f (linkAt f cn 5);
+      master = namedMaster f cg }
+
+-- the DG chain from a on, at most so many
+unfoldable pub shownFrom : ℕ → List ℕ → ℕ → List Shown
+shownFrom zero f a = []
+shownFrom (suc k) f a = let more = shownAt f a ∷ shownFrom k f (linkAt f a 0) in ifEq a 0 [] more
+
+-- "Shown: from HD": every DG of the file
+unfoldable pub shown : List ℕ → ℕ → List Shown
+shown f k = shownFrom k f (linkAt f 64 0)
+
+-- ---- what is to be shown
+
+-- the payload due to a column: the cells of its group's records, in order, if it is nonempty
+unfoldable pub duePayload : List ℕ → Column → List ℕ
+duePayload s c = pick (isNonempty s c) (cells s (c .group .at) (c .channel) (recordsOf s (c .group))) []
+
+abbrev pub dueMaster : List Placed → Option ℕ → ℕ
+dueMaster ps none = 0
+dueMaster ps (some m) = cgAt m ps
+
+-- what links show of a planned column
+unfoldable pub due : List ℕ → List Placed → Placed → Shown
+due s ps p =
+    record {
+      dg = p .dg; cg = cgOf p; nextCG = 0; cn = cnOf p; nextCN = 0;
+      kinds = kindDG ∷ kindCG ∷ kindCN ∷ [];
+      idSize = 0;
+      records = p .column .group .records;
+      dataBytes = channelBytes s (p .column .channel);
+      invalidation = pick (keepsInval s (p .column .group .at) (p .column .channel)) 1 0;
+      payload = duePayload s (p .column);
+      signalData = signalBytes s (p .column .signalOf);
+      master = dueMaster ps (p .column .master) }
+
+unfoldable pub dueAll : List ℕ → List Placed → List Placed → List Shown
+dueAll s all [] = []
+dueAll s all (p ∷ ps) = due s all p ∷ dueAll s all ps
+
+-- ---- blocks
+
+-- bs stands at a in f
+pub record Stands (f : List ℕ) (a : ℕ) (bs : List ℕ) : Type 0 where
+  pub is : part a (length bs) f ≡ bs
+
+pub data In {A : Type 0} (b : A) : List A → Type 0 where
+  here : {bs : List A} → In b (b ∷ bs)
+  there : {c : A} {bs : List A} → In b bs → In b (c ∷ bs)
+
+-- no block of the list shares a byte with the block b
+unfoldable pub Apart : Block → List Block → Type 0
+Apart b bs = (c : Block) → In c bs → b .at + length (b .bytes) ≤ c .at
+
+-- "no two blocks share a byte": each ends before every later one begins
+unfoldable pub AllApart : List Block → Type 0
+AllApart [] = Unit {0}
+AllApart (b ∷ bs) = Apart b bs × AllApart bs
+
+-- ---- channels
+
+-- how many of the columns are made of channel c
+unfoldable pub columnsOf : ℕ → List Column → ℕ
+columnsOf c [] = 0
+columnsOf c (k ∷ ks) = ifEq (k .channel) c 1 0 + columnsOf c ks
+
+-- how many of the omissions are about address c
+unfoldable pub omissionsOf : ℕ → List Omission → ℕ
+omissionsOf c [] = 0
+omissionsOf c (o ∷ os) = ifEq (o .at) c 1 0 + omissionsOf c os
+
+-- column number k
+unfoldable pub columnAt : ℕ → List Column → Option Column
+columnAt k [] = none
+columnAt zero (c ∷ cs) = some c
+columnAt (suc k) (c ∷ cs) = columnAt k cs
+
+-- the time column d is column k, made of channel m of group t, with n records
+pub record IsTime (cs : List Column) (k : ℕ) (t : SrcGroup) (m n : ℕ) (d : Column) : Type 0 where
+  pub there : columnAt k cs ≡ some d
+  pub timed : d .isTime ≡ true
+  pub ofGroup : d .group .at ≡ t .at
+  pub ofChannel : d .channel ≡ m
+  pub asMany : d .group .records ≡ n
+
+-- "a signal column names a master exactly when planning gave a time column for the master its group has or uses, that one, with as many records"
+abbrev pub MasterDue : List Column → Column → TimeOf → Type 0
+MasterDue cs c (time t m) = (k : ℕ) × (d : Column) × (c .master ≡ some k) × IsTime cs k t m (c .group .records) d
+MasterDue cs c untimed = c .master ≡ none
+MasterDue cs c differs = c .master ≡ none
+
+-- "a time column names none"
+abbrev pub NamesMaster : List ℕ → List SrcGroup → List Column → Column → Bool → Type 0
+NamesMaster s all cs c true = c .master ≡ none
+NamesMaster s all cs c false = MasterDue cs c (timeOf s all (c .group))
+
+-- ---- the guarantee, of the final bytes f of a call with arguments x, for which d was decided
+
+unfoldable pub columnsPlaced : List Placed → List Column
+columnsPlaced [] = []
+columnsPlaced (p ∷ ps) = p .column ∷ columnsPlaced ps
+
+pub record Guaranteed (x : Args) (d : Decided) (f : List ℕ) : Type 0 where
+  -- the planned columns are those placed, in order
+  pub planned : columnsPlaced (d .laidOut .placed) ≡ d .planned .columns
+  -- followed from the header by links alone, the file shows exactly these, however far one looks; with their payloads, signal data and masters
+  pub shows : (k : ℕ) → length (d .laidOut .placed) ≤ k → shown f k ≡ dueAll (x .image) (d .laidOut .placed) (d .laidOut .placed)
+  -- every block is written as planned, and no two share a byte
+  pub filled : (b : Block) → In b (blocksOf x (d .laidOut)) → Stands f (b .at) (b .bytes)
+  pub apart : AllApart (blocksOf x (d .laidOut))
+  -- every channel of every group that is not VLSD storage is one column or one omission, and nothing else is a column
+  pub once : (g : SrcGroup) → In g (d .groups) → isStorage (x .image) (g .at) ≡ false → (c : ℕ) → In c (g .channels)
+    → columnsOf c (d .planned .columns) + omissionsOf c (d .planned .omissions) ≡ 1
+  pub source : (c : Column) → In c (d .planned .columns)
+    → In (c .group) (d .groups) × (isStorage (x .image) (c .group .at) ≡ false) × In (c .channel) (c .group .channels)
+  -- the records of a group with a nonempty column are as many as its count
+  pub counted : (c : Column) → In c (d .planned .columns) → isNonempty (x .image) c ≡ true
+    → length (recordsOf (x .image) (c .group)) ≡ c .group .records
+  pub masters : (c : Column) → In c (d .planned .columns) → NamesMaster (x .image) (d .groups) (d .planned .columns) c (c .isTime)

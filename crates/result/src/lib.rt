@@ -1,0 +1,1 @@
+// Definitions of the result, and the guarantee proved of it; no code.
