@@ -1,1 +1,4 @@
 pub mod Data
+pub mod AnswerLaws
+pub mod BlockLaws
+pub mod NameLaws

@@ -1,22 +1,22 @@
-use borrow.Author.Needs.{needs}
+-- Both refusals say that 24 bytes from a on run past the image.
+use mathlib.Core.Path.{refl}
+use Rattle.mdf.specs.Block.{headerIn}
+use Rattle.base.specs.ChoiceLaws.{le-yes, le-no}
 use native.Mathlib.Omega.{arith}
-use lib.ListN.{length, length-set}
 use Rattle.blocks.proofs.block.header_in.Statement.{statement}
 use Rattle.blocks.proofs.block.header_in.Tie as tie
-use Rattle.blocks.proofs.block.header_in.Reads as reads
-use Rattle.blocks.proofs.block.header_in.Lts as lts
 
--- src/block.rt:141:9
 returns : tie.Need-returns
-returns c = search needs
+unfolding headerIn
+returns c = le-no _ _ _ _ (omega arith) refl
 
--- src/block.rt:144:9
 returns-2 : tie.Need-returns-2
-returns-2 c = search needs
+unfolding headerIn
+returns-2 c = le-no _ _ _ _ (omega arith) refl
 
--- src/block.rt:136:1
 returns-3 : tie.Need-returns-3
-returns-3 c = search needs
+unfolding headerIn
+returns-3 c = le-yes _ _ _ _ (omega arith) refl
 
 pub header-in-spec : {M : Type 1} → statement M
 header-in-spec = tie.close (tie.spec returns returns-2 returns-3)

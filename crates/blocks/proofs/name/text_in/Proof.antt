@@ -1,31 +1,30 @@
+-- Each return is a way through the definition's tests; the tests of the code cannot overflow.
 use native.Mathlib.Omega.{arith}
-use lib.ListN.{length, length-set}
 use borrow.Author.Needs.{needs}
+use mathlib.Core.Path.{refl}
+use Rattle.mdf.specs.Name.{textIn}
+use Rattle.base.specs.ChoiceLaws.{lt-yes, lt-no}
 use Rattle.blocks.proofs.name.text_in.Statement.{statement}
 use Rattle.blocks.proofs.name.text_in.Tie as tie
-use Rattle.blocks.proofs.name.text_in.Reads as reads
-use Rattle.blocks.proofs.name.text_in.Lts as lts
-use Rattle.blocks.proofs.block.size_at.Reads as size-at-reads
 
--- src/name.rt:12:9
 size-at-requires : tie.Need-size-at-requires
 size-at-requires c κs = search needs
 
--- src/name.rt:14:9
 returns : tie.Need-returns
-returns c = search needs
+unfolding textIn
+returns c = lt-yes _ _ _ _ (omega arith) refl
 
--- src/name.rt:18:9
 returns-2 : tie.Need-returns-2
-returns-2 c = search needs
+unfolding textIn
+returns-2 c = lt-no _ _ _ _ (omega arith) (lt-yes _ _ _ _ (omega arith) refl)
 
--- src/name.rt:21:9
 returns-3 : tie.Need-returns-3
-returns-3 c = search needs
+unfolding textIn
+returns-3 c = lt-no _ _ _ _ (omega arith) (lt-yes _ _ _ _ (omega arith) refl)
 
--- src/name.rt:9:1
 returns-4 : tie.Need-returns-4
-returns-4 c = search needs
+unfolding textIn
+returns-4 c = lt-no _ _ _ _ (omega arith) (lt-no _ _ _ _ (omega arith) refl)
 
 pub text-in-spec : {M : Type 1} → statement M
 text-in-spec = tie.close (tie.spec size-at-requires returns returns-2 returns-3 returns-4)
