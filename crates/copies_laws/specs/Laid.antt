@@ -1,0 +1,108 @@
+-- Copied blocks laid in order: where they begin and end.
+use Prim.Native.Nat.{ℕ, suc, _+_, _*_, _≤_, _<_}
+use mathlib.Core.List.{List, [], _∷_, _++_, append-assoc, append-nil}
+use mathlib.Core.Path.{_≡_, sym, ap, subst, _∙_}
+use native.Mathlib.Nat.{le-refl}
+use native.Mathlib.Omega.{arith}
+use lib.ListN.{length, drop, length-append}
+use lib.Seq.{drop-append-seam}
+use Rattle.mdf.specs.Block.{sizeAt}
+use Rattle.plan.specs.Geometry.{align8}
+use Rattle.plan.specs.Copies.{Copy, Copies, placed}
+use Rattle.result.specs.Guarantee.{In, here, there}
+use Rattle.copies_laws.specs.AnswerLaws.{Whole}
+
+-- the copies stand in order from a on, each made of a whole block, and end by e
+unfoldable pub Laid : List ℕ → ℕ → List Copy → ℕ → Type 0
+Laid s a [] e = a ≤ e
+Laid s a (c ∷ cs) e = (a ≤ c .to) × Whole s (c .from) × Laid s (c .to + sizeAt s (c .from)) cs e
+
+-- "each block at the next multiple of 8"
+pub align-past : (x : ℕ) → x ≤ align8 x
+unfolding align8
+align-past x = omega arith
+
+pub align-near : (x : ℕ) → align8 x ≤ x + 7
+unfolding align8
+align-near x = omega arith
+
+pub laid-from : (s : List ℕ) (a b e : ℕ) (cs : List Copy) → a ≤ b → Laid s b cs e → Laid s a cs e
+unfolding Laid
+laid-from s a b e [] h l = omega arith
+laid-from s a b e (c ∷ cs) h l = let k : b ≤ c .to = l .0 in (omega arith, l .1, l .2)
+
+pub laid-to : (s : List ℕ) (a d e : ℕ) (cs : List Copy) → Laid s a cs d → d ≤ e → Laid s a cs e
+unfolding Laid
+laid-to s a d e [] l h = omega arith
+laid-to s a d e (c ∷ cs) l h = (l .0, l .1, laid-to s _ d e cs (l .2) h)
+
+pub laid-append : (s : List ℕ) (a b e : ℕ) (xs ys : List Copy) → Laid s a xs b → Laid s b ys e → Laid s a (xs ++ ys) e
+unfolding Laid
+laid-append s a b e [] ys l k = laid-from s a b e ys l k
+laid-append s a b e (x ∷ xs) ys l k = (l .0, l .1, laid-append s _ b e xs ys (l .2) k)
+
+pub laid-ends : (s : List ℕ) (a e : ℕ) (cs : List Copy) → Laid s a cs e → a ≤ e
+unfolding Laid
+laid-ends s a e [] l = l
+laid-ends s a e (c ∷ cs) l =
+    let h : a ≤ c .to = l .0 in
+    let k : c .to + sizeAt s (c .from) ≤ e = laid-ends s _ e cs (l .2) in
+    omega arith
+
+-- each of them is made of a whole block and stands between a and e
+pub record Within (s : List ℕ) (a e : ℕ) (c : Copy) : Type 0 where
+  pub whole : Whole s (c .from)
+  pub begins : a ≤ c .to
+  pub ends : c .to + sizeAt s (c .from) ≤ e
+
+pub laid-within : {c : Copy} (s : List ℕ) (a e : ℕ) (cs : List Copy) → Laid s a cs e → In c cs → Within s a e c
+unfolding Laid
+laid-within s a e (c ∷ cs) l here = record { whole = l .1; begins = l .0; ends = laid-ends s _ e cs (l .2) }
+laid-within s a e (c ∷ cs) l (there i) =
+    let h : a ≤ c .to = l .0 in
+    let w = laid-within s (c .to + sizeAt s (c .from)) e cs (l .2) i in
+    record { whole = w .whole; begins = omega arith; ends = w .ends }
+
+-- m' has more copies than m, laid past those of m. The copies and the k blocks on the way down stay at most 2,048; each copy takes at most its
+-- greatest length and 7 bytes before it
+pub record Grown (s : List ℕ) (k : ℕ) (m m' : Copies) : Type 0 where
+  pub new : List Copy
+  pub memo : m' .memo ≡ m .memo ++ new
+  pub laid : Laid s (m .next) new (m' .next)
+  pub few : length (m .memo) + k ≤ 2048 → length (m' .memo) + k ≤ 2048
+  pub near : m' .next ≤ m .next + 268435463 * length new
+
+-- the copies that are new are those past the old ones
+pub grown-new : {s : List ℕ} {k : ℕ} {m m' : Copies} → Grown s k m m' → Laid s (m .next) (drop (length (m .memo)) (m' .memo)) (m' .next)
+grown-new {s} {k} {m} {m'} g =
+    let e : drop (length (m .memo)) (m' .memo) ≡ g .new = ap (drop (length (m .memo))) (g .memo) ∙ drop-append-seam (m .memo) (g .new) in
+    subst (λ (cs : List Copy). Laid s (m .next) cs (m' .next)) (sym e) (g .laid)
+
+pub grown-same : (s : List ℕ) (k : ℕ) {m m' : Copies} → m ≡ m' → Grown s k m m'
+unfolding Laid
+grown-same s k {m} e = rw (← e) (record {
+    new = []; memo = sym (append-nil (m .memo)); laid = le-refl (m .next); few = λ h. h; near = omega arith })
+
+pub grown-then : {s : List ℕ} {k : ℕ} {m n o : Copies} → Grown s k m n → Grown s k n o → Grown s k m o
+grown-then {s} {k} {m} {n} {o} f g = record {
+    new = f .new ++ g .new;
+    memo = g .memo ∙ rw (f .memo) (append-assoc (m .memo) (f .new) (g .new));
+    laid = laid-append s (m .next) (n .next) (o .next) (f .new) (g .new) (f .laid) (g .laid);
+    few = λ h. g .few (f .few h);
+    near = rw length-append (omega arith) }
+
+-- the block itself, after what it links to, which was begun with one block more on the way
+pub grown-placed : {s : List ℕ} {k : ℕ} {m n : Copies} (a : ℕ) → Whole s a → length (m .memo) + k < 2048 → Grown s (suc k) m n
+  → Grown s k m (placed a (sizeAt s a) n)
+unfolding Laid placed
+grown-placed {s} {k} {m} {n} a w h g =
+    let h : length (m .memo) + suc k ≤ 2048 = omega arith in
+    let q : length (n .memo) + suc k ≤ 2048 = g .few h in
+    let one : Copy = record { from = a; to = align8 (n .next) } in
+    record {
+      new = g .new ++ (one ∷ []);
+      memo = rw (g .memo) (append-assoc (m .memo) (g .new) (one ∷ []));
+      laid = laid-append s (m .next) (n .next) (align8 (n .next) + sizeAt s a) (g .new) (one ∷ []) (g .laid)
+        (align-past (n .next), w, le-refl _);
+      few = λ _. rw length-append (omega arith);
+      near = rw length-append (omega (arith, align-near (n .next), w .short)) }

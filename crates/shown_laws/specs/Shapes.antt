@@ -1,0 +1,112 @@
+-- HD, DG, CG and CN of the result as header, links and data, and the fields of the new CG's data.
+use mathlib.Core.Path.{_≡_}
+use mathlib.Core.List.{List, [], _∷_, _++_, append-assoc, append-nil}
+use mathlib.Core.Option.{Option, none, some}
+use Prim.Native.Nat.{ℕ, _+_, _*_, _/_, _%_, _^_, _<_}
+use native.Mathlib.Omega.{arith}
+use lib.ListN.{length, length-append}
+use Rattle.base.specs.Choice.{ifEq}
+use Rattle.base.specs.Field.{leAt, le}
+use Rattle.base.specs.FieldLaws.{length-le}
+use Rattle.mdf.specs.Block.{kindHD, kindDG, kindCG, kindCN, linkAt}
+use Rattle.plan.specs.Channel.{bit}
+use Rattle.plan.specs.Copies.{Copy}
+use Rattle.plan.specs.Layout.{Placed, cgOf, cnOf, dlOf, cgLinks, cgSize, columnBlocks}
+use Rattle.result.specs.Fill.{header, words, newLink, dgBytes, cgBytes, cnBytes, hdBytes, hdData, cgAt, cgFlags, masterLink, cgData, cnData}
+use Rattle.result.specs.Fill.{sdLink}
+use Rattle.result.specs.Guarantee.{Stands}
+use Rattle.shown_laws.specs.Standing.{stands-front, stands-at, read}
+
+-- ---- links
+unfoldable pub hdLinks : ℕ → ℕ → ℕ → ℕ → List ℕ
+hdLinks firstDG firstFH firstAT comment = firstDG ∷ firstFH ∷ 0 ∷ firstAT ∷ 0 ∷ comment ∷ []
+
+pub hd-shape : (s : List ℕ) (firstDG firstFH firstAT comment : ℕ)
+  → hdBytes s firstDG firstFH firstAT comment
+    ≡ header kindHD 104 (length (hdLinks firstDG firstFH firstAT comment)) ++ words (hdLinks firstDG firstFH firstAT comment) ++ hdData s
+unfolding hdBytes hdLinks words
+hd-shape s firstDG firstFH firstAT comment = simp (append-assoc, append-nil)
+
+unfoldable pub dgLinks : List ℕ → ℕ → List Copy → Placed → ℕ → List ℕ
+dgLinks s size memo p next =
+    next ∷ cgOf p ∷ ifEq (columnBlocks s size (p .column)) 0 0 (dlOf p) ∷ newLink memo (linkAt s (p .column .group .dataGroup .at) 3) ∷ []
+
+pub dg-shape : (s : List ℕ) (size : ℕ) (memo : List Copy) (p : Placed) (next : ℕ)
+  → dgBytes s size memo p next
+    ≡ header kindDG 64 (length (dgLinks s size memo p next)) ++ words (dgLinks s size memo p next) ++ le 8 0
+unfolding dgBytes dgLinks words
+dg-shape s size memo p next = simp (append-assoc, append-nil)
+
+-- the seventh link, with a master
+abbrev pub masterWord : List Placed → Option ℕ → List ℕ
+masterWord all none = []
+masterWord all (some m) = cgAt m all ∷ []
+
+cg-list : (all : List Placed) (m : Option ℕ) (n a b c d e g : ℕ) (l : List ℕ)
+  → header kindCG n (cgLinks m) ++ le 8 a ++ le 8 b ++ le 8 c ++ le 8 d ++ le 8 e ++ le 8 g ++ masterLink all m ++ l
+    ≡ header kindCG n (length (a ∷ b ∷ c ∷ d ∷ e ∷ g ∷ masterWord all m))
+      ++ words (a ∷ b ∷ c ∷ d ∷ e ∷ g ∷ masterWord all m) ++ l
+unfolding words
+cg-list all none n a b c d e g l = simp (append-assoc, append-nil)
+cg-list all (some m) n a b c d e g l = simp (append-assoc, append-nil)
+
+unfoldable pub cgWords : List ℕ → List Copy → List Placed → Placed → List ℕ
+cgWords s memo all p =
+    0 ∷ cnOf p ∷ newLink memo (linkAt s (p .column .group .at) 2) ∷ newLink memo (linkAt s (p .column .group .at) 3) ∷ 0
+    ∷ newLink memo (linkAt s (p .column .group .at) 5) ∷ masterWord all (p .column .master)
+
+pub cg-shape : (s : List ℕ) (memo : List Copy) (all : List Placed) (p : Placed)
+  → cgBytes s memo all p
+    ≡ header kindCG (cgSize (p .column .master)) (length (cgWords s memo all p)) ++ words (cgWords s memo all p) ++ cgData s (p .column)
+unfolding cgBytes cgWords
+cg-shape s memo all p = cg-list all (p .column .master) (cgSize (p .column .master)) _ _ _ _ _ _ (cgData s (p .column))
+
+unfoldable pub cnLinks : List ℕ → List Copy → Placed → List ℕ
+cnLinks s memo p =
+    0 ∷ 0 ∷ newLink memo (linkAt s (p .column .channel) 2) ∷ newLink memo (linkAt s (p .column .channel) 3)
+    ∷ newLink memo (linkAt s (p .column .channel) 4) ∷ sdLink (p .column .signalOf) (p .sd)
+    ∷ newLink memo (linkAt s (p .column .channel) 6) ∷ newLink memo (linkAt s (p .column .channel) 7) ∷ []
+
+pub cn-shape : (s : List ℕ) (memo : List Copy) (p : Placed)
+  → cnBytes s memo p
+    ≡ header kindCN 160 (length (cnLinks s memo p)) ++ words (cnLinks s memo p) ++ cnData s (p .column .group .at) (p .column .channel)
+unfolding cnBytes cnLinks words
+cn-shape s memo p = simp (append-assoc, append-nil)
+
+-- ---- the data of a new CG: records r, flags g, data bytes n, invalidation bytes i
+module _ {f : List ℕ} {a : ℕ} (r g n i : ℕ) (two : List ℕ)
+  (s : Stands f a (le 8 0 ++ le 8 r ++ le 2 g ++ two ++ le 4 0 ++ le 4 n ++ le 4 i)) where
+  pub read-records : r < 256 ^ 8 → leAt 8 f (a + 8) ≡ r
+  read-records h =
+      read 8 r (stands-at (le 8 0) (le 8 r) (stands-front _ _ (stands-front _ _ (stands-front _ _ (stands-front _ _ (stands-front _ _ s)))))
+        (simp length-le)) h
+
+  pub read-flags : g < 256 ^ 2 → leAt 2 f (a + 16) ≡ g
+  read-flags h =
+      read 2 g (stands-at (le 8 0 ++ le 8 r) (le 2 g) (stands-front _ _ (stands-front _ _ (stands-front _ _ (stands-front _ _ s))))
+        (simp (length-append, length-le))) h
+
+  pub read-bytes : length two ≡ 2 → n < 256 ^ 4 → leAt 4 f (a + 24) ≡ n
+  read-bytes e h =
+      read 4 n (stands-at (le 8 0 ++ le 8 r ++ le 2 g ++ two ++ le 4 0) (le 4 n) (stands-front _ _ s) (simp (length-append, length-le, e))) h
+
+  pub read-inval : length two ≡ 2 → i < 256 ^ 4 → leAt 4 f (a + 28) ≡ i
+  read-inval e h =
+      read 4 i (stands-at (le 8 0 ++ le 8 r ++ le 2 g ++ two ++ le 4 0 ++ le 4 n) (le 4 i) s (simp (length-append, length-le, e))) h
+
+-- ---- the flags of a new CG: bit 3 is set exactly with a master
+pub flags-small : (g : ℕ) (m : Option ℕ) → g < 65536 → cgFlags g m < 65536
+flags-small g none h = omega arith
+flags-small g (some m) h = omega arith
+
+pub flags-none : (g : ℕ) → bit 3 (cgFlags g none) ≡ 0
+flags-none g = eight (g / 16)
+  where
+    eight : (x : ℕ) → x * 16 / 8 % 2 ≡ 0
+    eight x = omega arith
+
+pub flags-some : (g m : ℕ) → bit 3 (cgFlags g (some m)) ≡ 1
+flags-some g m = eight (g / 16)
+  where
+    eight : (x : ℕ) → (x * 16 + 8) / 8 % 2 ≡ 1
+    eight x = omega arith

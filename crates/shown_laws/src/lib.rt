@@ -1,0 +1,1 @@
+// Laws about the final bytes and about reading them back by links; no code.
