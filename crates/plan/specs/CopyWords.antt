@@ -1,0 +1,27 @@
+-- How placing keeps copies, attachments and the history chain in lent words.
+use Prim.Native.Nat.{ℕ, _+_}
+use mathlib.Core.List.{List, [], _∷_, _++_}
+use lib.ListN.{length}
+use Rattle.base.specs.Blit.{blit}
+use Rattle.plan.specs.Copies.{Copy, Copies, History, Attachment, Attached}
+use Rattle.plan.specs.Layout.{Layout}
+
+-- two words for a copy: where it stood, where it is placed
+unfoldable pub copyWords : List Copy → List ℕ
+copyWords [] = []
+copyWords (c ∷ cs) = c .from ∷ c .to ∷ copyWords cs
+
+-- three words for an attachment: where it stood, where it is placed, how many copies were made for it
+unfoldable pub attachmentWords : List Attachment → List ℕ
+attachmentWords [] = []
+attachmentWords (t ∷ ts) = t .from ∷ t .to ∷ length (t .own) ∷ attachmentWords ts
+
+-- copies from 0 on; attachments and the history chain from here on
+abbrev pub attachmentsAt : ℕ
+attachmentsAt = 4096
+abbrev pub historyAt : ℕ
+historyAt = 4352
+
+unfoldable pub laidCopies : Layout → List ℕ → List ℕ
+laidCopies l w =
+    blit historyAt (l .past .chain) (blit attachmentsAt (attachmentWords (l .attached .attachments)) (blit 0 (copyWords (l .attached .made .memo)) w))
