@@ -1,0 +1,137 @@
+-- Demand 3: whatever the definitions accept has the guarantee.
+use Prim.Native.Nat.{ℕ, zero, suc, _+_, _*_, _-_, _^_, _≤_, _<_}
+use mathlib.Core.List.{List, [], _∷_, flatten}
+use mathlib.Core.Bool.{Bool, true, false}
+use mathlib.Core.Path.{_≡_, refl, sym, _∙_, ap, subst}
+use native.Mathlib.Omega.{arith}
+use lib.ListN.{length, getD}
+use lib.Dec.{lit<}
+use Rattle.base.specs.Blit.{blit}
+use Rattle.base.specs.Checked.{Checked, ok, fine}
+use Rattle.mdf.specs.Block.{CG, CN}
+use Rattle.mdf.specs.Group.{DataGroup, dataGroups}
+use Rattle.plan.specs.Columns.{SrcGroup, srcGroups, Column, sizeOfSignal}
+use Rattle.plan.specs.Layout.{Layout, Placed, placedFrom, structurePlace, structureEnd, structureSize, dataEnd, columnBlocks, payloadSize, cgSize, dlOf}
+use Rattle.result.specs.Ordered.{Ordered}
+use Rattle.result.specs.Payload.{columnPayloads, signalBytes}
+use Rattle.result.specs.Fill.{dataBlocks, columnPayload}
+use Rattle.result.specs.Result.{Args, Decided, answer, fileOf, blocksOf}
+use Rattle.result.specs.Guarantee.{In, Guaranteed, duePayload}
+use Rattle.copies_laws.specs.LengthLaws.{InImage}
+use Rattle.copies_laws.specs.LayoutLaws.{LaidOut, laid-out, columns-placed, columns-within, metadataEnd-near, columns-ordered, blocks-ordered}
+use Rattle.copies_laws.specs.OrderLaws.{ordered-ends}
+use Rattle.payload_laws.specs.CountLaws.{member, counted}
+use Rattle.payload_laws.specs.ColumnLaws.{Ready, ready, column-joined, column-bytes, column-even}
+use Rattle.payload_laws.specs.BoundLaws.{data-small, records-small}
+use Rattle.payload_laws.specs.SignalLaws.{column-signal, data-ordered}
+use Rattle.plan_laws.specs.Decision.{Steps, Accepted, answer-accepted}
+use Rattle.plan_laws.specs.Known.{Known, answer-known}
+use Rattle.shown_laws.specs.ColumnShown.{ColumnSound}
+use Rattle.shown_laws.specs.ImageBytes.{column-sound}
+use Rattle.shown_laws.specs.Final.{file-apart, file-filled, file-shows}
+use Rattle.guarantee.specs.Places.{equal-even, flatten-together, data-inside, fragments-few, signal-small, Sized, DataWithin, data-within, in-column}
+
+-- the elements of an image are bytes
+abbrev pub AllBytes : List ℕ → Type 0
+AllBytes s = (i : ℕ) → getD s i 0 < 256
+
+module _ (x : Args) (d : Decided) (k : Known x d) where
+  o : LaidOut (x .image) (x .blockSize) (length (x .text)) (d .planned .columns) (d .laidOut)
+  o = laid-out (x .image) (x .blockSize) (length (x .text)) (d .planned .columns) (d .laidOut) (k .steps .laidOut)
+
+  -- a planned column's group is one of those counted
+  in-source : (c : Column) → In c (d .planned .columns) → In (c .group) (srcGroups (dataGroups (k .steps .source)) (k .steps .numbers))
+  in-source c i = subst (In (c .group)) (k .steps .groups) (k .source c i .0)
+
+  sized : (c : Column) → In c (d .planned .columns) → Sized (x .image) c
+  unfolding dataGroups
+  sized c i =
+      let m = member (x .image) (dataGroups (k .steps .source)) (k .steps .counted) (c .group) (in-source c i) in
+      let few = fragments-few (k .steps .source .fragments) (k .steps .source .items) (c .group .dataGroup) (m .listed) in
+      record {
+        ready = ready (x .image) (dataGroups (k .steps .source)) (d .planned .columns) (k .steps .counted) (k .steps .dataFine) c i (in-source c i)
+          (k .fitting c i) (k .source c i .1);
+        signals = column-signal (x .image) (dataGroups (k .steps .source)) (d .planned .columns) (k .steps .counted) (k .steps .dataFine) c i (in-source c i);
+        few = omega (arith, few, k .groups .fewFragments);
+        fewSignals = omega (arith, k .fewSignals c i) }
+
+  -- its CG and CN lie in the image
+  in-image : (c : Column) → In c (d .planned .columns) → InImage (x .image) c
+  in-image c i =
+      let f = k .groups .checked (c .group) (k .source c i .0) in
+      record {
+        group = data-inside CG (x .image) (c .group .at) (f .block);
+        channel = data-inside CN (x .image) (c .channel) (f .channels (c .channel) (k .source c i .2)) }
+
+  data-in-order : Ordered (d .laidOut .metadataEnd) (dataBlocks (x .image) (x .blockSize) (d .laidOut .placed))
+    (dataEnd (x .image) (x .blockSize) (d .laidOut .metadataEnd) (d .planned .columns))
+  data-in-order =
+      rw (o .placed) (data-ordered (x .image) (x .blockSize) (structurePlace (d .laidOut .metadata)) (d .laidOut .metadataEnd) (d .planned .columns)
+        (λ c i. sized c i .ready) (λ c i. sized c i .signals))
+
+  pub ordered : Ordered 0 (blocksOf x (d .laidOut)) (d .laidOut .fileSize)
+  ordered = blocks-ordered x (d .planned .columns) (d .laidOut) o (k .steps .lent .identLength) in-image data-in-order
+
+  -- ---- bounds
+
+  in-placed : (p : Placed) → In p (d .laidOut .placed)
+    → In p (placedFrom (x .image) (x .blockSize) (structurePlace (d .laidOut .metadata)) (d .laidOut .metadataEnd) (d .planned .columns))
+  in-placed p i = subst (In p) (o .placed) i
+
+  column-in : (p : Placed) → In p (d .laidOut .placed) → In (p .column) (d .planned .columns)
+  column-in p i = in-column (x .image) (x .blockSize) _ _ (d .planned .columns) p (in-placed p i)
+
+  -- metadata ends below 2^45
+  metadata-small : d .laidOut .metadataEnd ≤ 18200000000000
+  metadata-small = omega (arith, metadataEnd-near o (k .steps .blocksFine), k .fewColumns, k .steps .lent .textLength)
+
+  -- and begins past the header
+  metadata-above : 0 < structurePlace (d .laidOut .metadata)
+  metadata-above =
+      omega (arith, ordered-ends (d .laidOut .fh + 56) (structurePlace (d .laidOut .metadata)) _ (columns-ordered o (d .laidOut .past .chain) [] 0))
+
+  data-there : (p : Placed) → In p (d .laidOut .placed) → DataWithin (d .laidOut .metadataEnd) (length (d .planned .columns)) p
+  data-there p i = data-within (x .image) (x .blockSize) _ (d .laidOut .metadataEnd) (d .planned .columns) p (k .steps .imageLength) sized (in-placed p i)
+
+  structure-above : (p : Placed) → In p (d .laidOut .placed) → dlOf p ≤ p .dg + structureSize (x .image) (x .blockSize) (p .column)
+  unfolding structureSize
+  structure-above p i = omega arith
+
+  module _ (bytes : AllBytes (x .image)) where
+    sound : (p : Placed) → In p (d .laidOut .placed) → ColumnSound (x .image) (x .blockSize) p
+    sound p i =
+        let c = p .column in
+        let j = column-in p i in
+        let z = sized c j in
+        let w = columns-within o i in
+        let t = data-there p i in
+        let a = structure-above p i in
+        let n = column-bytes (x .image) (x .blockSize) c (z .ready) in
+        let q = column-joined (x .image) (x .blockSize) c (z .ready) in
+        let due : length (duePayload (x .image) c) ≡ payloadSize (x .image) c = ap length (sym q) ∙ n in
+        column-sound (x .image) bytes (x .blockSize) p
+        (in-image c j .group)
+        (records-small (c .group) (member (x .image) (dataGroups (k .steps .source)) (k .steps .counted) (c .group) (in-source c j)) (k .steps .imageLength) (z .few))
+        (equal-even _ _ (column-even (x .image) (x .blockSize) c (z .ready)))
+        (flatten-together (columnPayloads (x .image) (x .blockSize) c) ∙ q)
+        (omega (arith, w .begins, metadata-above))
+        (omega (arith, a, w .ends, metadata-small))
+        (omega (arith, due, t .below, metadata-small, k .fewColumns, data-small (x .image) (x .blockSize) c (z .ready) (k .steps .imageLength) (z .few)))
+        (omega (arith, t .sdAbove, w .begins, w .ends, metadata-above))
+        (omega (arith, t .sdBelow, metadata-small, k .fewColumns, signal-small (x .image) (c .signalOf) (z .signals) (k .steps .imageLength) (z .fewSignals)))
+
+-- every accepted call's final bytes have the guarantee
+pub guaranteed : (x : Args) (out list : List ℕ) (d : Decided) → AllBytes (x .image) → answer x (length out) (length list) ≡ ok d
+  → Guaranteed x d (blit 0 (fileOf x (d .laidOut)) out)
+guaranteed x out list d bytes e =
+    let k = answer-known x (length out) (length list) d e in
+    let room = answer-accepted x (length out) (length list) d e .outputFits in
+    record {
+      planned = columns-placed (o x d k);
+      shows = file-shows x (d .laidOut) out (ordered x d k) room (sound x d k bytes);
+      filled = file-filled x (d .laidOut) out (ordered x d k) room;
+      apart = file-apart x (d .laidOut) out (ordered x d k);
+      once = k .once;
+      source = k .source;
+      counted = λ c i q. counted (x .image) (dataGroups (k .steps .source)) (d .planned .columns) (k .steps .counted) (k .steps .dataFine) c i (in-source x d k c i) q;
+      masters = k .masters }

@@ -1,0 +1,1 @@
+// The guarantee, proved of every accepted result; no code.

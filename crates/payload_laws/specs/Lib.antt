@@ -1,0 +1,11 @@
+pub mod Answers
+pub mod Lists
+pub mod SortedLaws
+pub mod FramedLaws
+pub mod CountLaws
+pub mod CellLaws
+pub mod GeometryLaws
+pub mod PayloadLaws
+pub mod ColumnLaws
+pub mod BoundLaws
+pub mod SignalLaws

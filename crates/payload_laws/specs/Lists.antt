@@ -1,0 +1,54 @@
+-- Lists of lists of one length, their joining, and membership.
+use Prim.Native.Nat.{ℕ, zero, suc, _+_, _≤_}
+use mathlib.Core.List.{List, [], _∷_, _++_}
+use mathlib.Core.Path.{_≡_}
+use native.Mathlib.Omega.{arith}
+use lib.ListN.{length, take, drop, length-append, length-drop}
+use lib.Seq.{length-take-le}
+use Rattle.base.specs.Blit.{part}
+use Rattle.result.specs.Guarantee.{In, here, there}
+
+-- every list has n elements
+pub data Long (n : ℕ) : List (List ℕ) → Type 0 where
+  none : Long n []
+  next : {r : List ℕ} {rs : List (List ℕ)} → length r ≡ n → Long n rs → Long n (r ∷ rs)
+
+-- the lists one after the other
+unfoldable pub together : List (List ℕ) → List ℕ
+together [] = []
+together (p ∷ ps) = p ++ together ps
+
+-- each is no longer than all
+pub each-within : {p : List ℕ} {ps : List (List ℕ)} → In p ps → length p ≤ length (together ps)
+unfolding together
+each-within {p} (here {bs}) = rw length-append (omega arith)
+each-within {p} (there {c} {bs} i) = rw length-append (omega (arith, each-within i))
+
+pub long-append : {n : ℕ} {rs : List (List ℕ)} (ts : List (List ℕ)) → Long n rs → Long n ts → Long n (rs ++ ts)
+long-append ts none t = t
+long-append ts (next e l) t = next e (long-append ts l t)
+
+pub long-drop : {n : ℕ} {rs : List (List ℕ)} (i : ℕ) → Long n rs → Long n (drop i rs)
+long-drop zero l = l
+long-drop (suc i) none = none
+long-drop (suc i) (next e l) = long-drop i l
+
+pub long-take : {n : ℕ} {rs : List (List ℕ)} (i : ℕ) → Long n rs → Long n (take i rs)
+long-take zero l = none
+long-take (suc i) none = none
+long-take (suc i) (next e l) = next e (long-take i l)
+
+-- so each of them has
+pub long-each : {n : ℕ} {rs : List (List ℕ)} {r : List ℕ} → Long n rs → In r rs → length r ≡ n
+long-each (next e l) here = e
+long-each (next e l) (there i) = long-each l i
+
+pub length-part : (i n : ℕ) (l : List ℕ) → i + n ≤ length l → length (part i n l) ≡ n
+unfolding part
+length-part i n l h = length-take-le n (drop i l) (simp length-drop (omega arith))
+
+-- an element of two lists joined is in one of them
+pub in-append : {A B : Type 0} {x : A} (as' bs : List A) → (In x as' → B) → (In x bs → B) → In x (as' ++ bs) → B
+in-append [] bs f g i = g i
+in-append (a ∷ as') bs f g here = f here
+in-append (a ∷ as') bs f g (there i) = in-append as' bs (λ j. f (there j)) g i

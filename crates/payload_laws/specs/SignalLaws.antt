@@ -1,0 +1,89 @@
+-- Signal data of planned columns lies in the image; so data blocks and SD follow each other up to the data's end.
+use Prim.Native.Nat.{ℕ, _+_}
+use mathlib.Core.List.{List, [], _∷_, _++_}
+use mathlib.Core.Path.{_≡_, refl, _∙_}
+use native.Mathlib.Nat.{le-refl}
+use native.Mathlib.Omega.{arith}
+use lib.ListN.{length}
+use Rattle.base.specs.Choice.{pick, ifEq}
+use Rattle.base.specs.ChoiceLaws.{eq-yes}
+use Rattle.base.specs.Checked.{ok, Verdict, fine}
+use Rattle.mdf.specs.Block.{kindSD}
+use Rattle.mdf.specs.Chain.{Fragment}
+use Rattle.mdf.specs.Group.{DataGroup, addresses}
+use Rattle.mdf.specs.Records.{joined, sizeOf}
+use Rattle.mdf.specs.Count.{counts}
+use Rattle.plan.specs.Channel.{keepsInval}
+use Rattle.plan.specs.Columns.{srcGroups, Column, Signal, unsigned, signalData}
+use Rattle.plan.specs.Data.{anyNonempty, recordsIn, signalIn, signalsIn, dataIn, allDataIn}
+use Rattle.plan.specs.Layout.{blocksEnd, signalEnd, structureSize, placedFrom, dataEnd}
+use Rattle.result.specs.Payload.{columnPayloads, signalBytes}
+use Rattle.result.specs.Fill.{Block, dataKind, payloadBlocks, sdBlocks, dataBlocks}
+use Rattle.result.specs.Ordered.{Ordered}
+use Rattle.result.specs.Guarantee.{In, here, there}
+use Rattle.payload_laws.specs.Answers.{then-fine}
+use Rattle.payload_laws.specs.SortedLaws.{joined-length}
+use Rattle.payload_laws.specs.CountLaws.{member, all-checked}
+use Rattle.payload_laws.specs.GeometryLaws.{align-up}
+use Rattle.payload_laws.specs.PayloadLaws.{length-framed}
+use Rattle.payload_laws.specs.ColumnLaws.{Ready, column-ordered}
+
+-- of the columns from the DG at d
+signals-each : (s : List ℕ) (d : ℕ) (cs : List Column) (c : Column) → signalsIn s d cs ≡ fine → In c cs → c .group .dataGroup .at ≡ d
+  → signalIn s (c .signalOf) ≡ fine
+unfolding signalsIn
+signals-each s d (b ∷ cs) c e here q =
+    let a = then-fine (ifEq (c .group .dataGroup .at) d (signalIn s (c .signalOf)) fine) (λ _. signalsIn s d cs) e in
+    eq-yes _ _ _ fine q refl ∙ a .0
+signals-each s d (b ∷ cs) c e (there i) q =
+    signals-each s d cs c (then-fine (ifEq (b .group .dataGroup .at) d (signalIn s (b .signalOf)) fine) (λ _. signalsIn s d cs) e .1) i q
+
+data-signals : (s : List ℕ) (cs : List Column) (d : DataGroup) → dataIn s cs d ≡ fine → signalsIn s (d .at) cs ≡ fine
+unfolding dataIn
+data-signals s cs d e =
+    let read : Verdict = recordsIn s (d .at) (addresses (d .groups)) (d .fragments) in
+    then-fine (pick (anyNonempty s (d .at) cs) read fine) (λ _. signalsIn s (d .at) cs) e .1
+
+-- the signal data of every planned column lies in the image
+pub column-signal : (s : List ℕ) (ds : List DataGroup) (cs : List Column) {ns : List ℕ} → counts s ds ≡ ok ns → allDataIn s cs ds ≡ fine
+  → (c : Column) → In c cs → In (c .group) (srcGroups ds ns) → signalIn s (c .signalOf) ≡ fine
+column-signal s ds cs e w c i j =
+    let d : DataGroup = c .group .dataGroup in
+    signals-each s (d .at) cs c (data-signals s cs d (all-checked s cs ds d w (member s ds e (c .group) j .listed))) i refl
+
+-- it has all bytes of its fragments
+pub length-signal : (s : List ℕ) (fs : List Fragment) → signalIn s (signalData fs) ≡ fine
+  → length (signalBytes s (signalData fs)) ≡ sizeOf fs
+length-signal s fs e = joined-length s fs e
+
+pub signal-ordered : (s : List ℕ) (g : Signal) (a : ℕ) → signalIn s g ≡ fine → Ordered a (sdBlocks s g a) (signalEnd g a)
+unfolding Ordered
+signal-ordered s unsigned a e = le-refl a
+signal-ordered s (signalData fs) a e =
+    let up = align-up (a + (24 + sizeOf fs)) in
+    let l = length-framed kindSD (joined s fs) in
+    (le-refl a, omega (arith, joined-length s fs e))
+
+-- ---- all columns
+
+pub ordered-append : (a b e : ℕ) (xs ys : List Block) → Ordered a xs b → Ordered b ys e → Ordered a (xs ++ ys) e
+unfolding Ordered
+ordered-append a b e [] [] o p = omega arith
+ordered-append a b e [] (y ∷ ys) o p = (omega (arith, p .0), p .1)
+ordered-append a b e (x ∷ xs) ys o p = (o .0, ordered-append _ b e xs ys (o .1) p)
+
+-- the data of all columns, in order, from d on to its end
+pub data-ordered : (s : List ℕ) (size a d : ℕ) (cs : List Column) → ((c : Column) → In c cs → Ready s c)
+  → ((c : Column) → In c cs → signalIn s (c .signalOf) ≡ fine)
+  → Ordered d (dataBlocks s size (placedFrom s size a d cs)) (dataEnd s size d cs)
+unfolding Ordered dataBlocks placedFrom dataEnd
+data-ordered s size a d [] r g = le-refl d
+data-ordered s size a d (c ∷ cs) r g =
+    let e : ℕ = blocksEnd s size c d in
+    let f : ℕ = signalEnd (c .signalOf) e in
+    let rest : List Block = dataBlocks s size (placedFrom s size (a + structureSize s size c) f cs) in
+    let own : List Block = payloadBlocks (dataKind (keepsInval s (c .group .at) (c .channel))) d (columnPayloads s size c) in
+    ordered-append d e (dataEnd s size f cs) own (sdBlocks s (c .signalOf) e ++ rest)
+    (column-ordered s size c (r c here) (dataKind (keepsInval s (c .group .at) (c .channel))) d)
+    (ordered-append e f (dataEnd s size f cs) (sdBlocks s (c .signalOf) e) rest (signal-ordered s (c .signalOf) e (g c here))
+    (data-ordered s size (a + structureSize s size c) f cs (λ b i. r b (there i)) (λ b i. g b (there i))))

@@ -1,0 +1,1 @@
+// Laws of records, counts, cells and payloads; no code.

@@ -1,0 +1,11 @@
+pub mod Answers
+pub mod Decision
+pub mod Lists
+pub mod ChainLaws
+pub mod WalkLaws
+pub mod GroupLaws
+pub mod SourceLaws
+pub mod DecideLaws
+pub mod ColumnLaws
+pub mod PlanLaws
+pub mod Known
