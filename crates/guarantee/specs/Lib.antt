@@ -1,2 +1,3 @@
 pub mod Places
 pub mod Theorem
+pub mod Untouched

@@ -1,19 +1,18 @@
 -- Lists of columns and omissions that grow at the end: counts, numbers, time columns.
-use Prim.Native.Nat.{ℕ, zero, suc, _+_, _-_, _≤_, _<_}
+use Prim.Native.Nat.{ℕ, zero, suc, _+_, _≤_}
 use mathlib.Core.List.{List, [], _∷_, _++_}
-use mathlib.Core.Path.{_≡_, refl, sym, ap, _∙_, subst}
+use mathlib.Core.Path.{_≡_, refl, sym, _∙_}
 use mathlib.Core.Bool.{Bool, true, false}
 use mathlib.Core.Option.{Option, none, some}
 use native.Mathlib.Omega.{arith}
-use lib.ListN.{length}
 use lib.Dec.{eqb}
 use borrow.Author.Tests.{eqb-true, eq-eqb, ne-eqb}
-use Rattle.base.specs.Choice.{pick, ifEq}
+use Rattle.base.specs.Choice.{pick}
 use Rattle.plan.specs.Channel.{both}
-use Rattle.plan.specs.Columns.{SrcGroup, TimeOf, time, untimed, differs, timeOf, Signal, Column, Omission, timeColumn, sizeOfSignal}
+use Rattle.plan.specs.Columns.{SrcGroup, TimeOf, time, untimed, differs, timeOf, Column, Omission, timeColumn, sizeOfSignal}
 use Rattle.result.specs.Guarantee.{In, here, there, columnsOf, omissionsOf, columnAt, IsTime, MasterDue, NamesMaster}
 use Rattle.plan_laws.specs.Answers.{pick-cases, or-not}
-use Rattle.plan_laws.specs.Lists.{same, same-yes, same-no, occurs, in-none}
+use Rattle.plan_laws.specs.Lists.{same, same-yes, same-no}
 use Rattle.plan_laws.specs.DecideLaws.{none≢some, some-same, both-true}
 
 -- ---- counts
@@ -114,13 +113,13 @@ times-none x (c ∷ cs) h = go (times-none x cs (λ d i. h d (there i))) (c .isT
 
 -- time columns made of x are those of the group at a
 pub times-within : (x a : ℕ) (cs : List Column) → ((c : Column) → In c cs → c .isTime ≡ true → c .channel ≡ x → c .group .at ≡ a)
-  → timesOf x cs ≤ timesAt a cs
+    → timesOf x cs ≤ timesAt a cs
 unfolding timesOf timesAt
 times-within x a [] h = omega arith
 times-within x a (c ∷ cs) h = go (times-within x a cs (λ d i. h d (there i))) (c .isTime) refl
   where
     go : timesOf x cs ≤ timesAt a cs → (t : Bool) → c .isTime ≡ t
-      → pick (c .isTime) (same (c .channel) x) 0 + timesOf x cs ≤ timeAt a c + timesAt a cs
+        → pick (c .isTime) (same (c .channel) x) 0 + timesOf x cs ≤ timeAt a c + timesAt a cs
     go ih true e =
         or-not (c .channel) x
         (λ q. rw (e, eq-eqb (c .group .at) a (h c here e q)) (omega (arith, ih, same-yes (c .channel) x q)))
@@ -150,10 +149,17 @@ time-found g k [] n e = absurd (none≢some e)
 time-found g k (c ∷ cs) n e =
     pick-cases (both (c .isTime) (eqb (c .group .at) g)) _ _ e
     (λ t q. let b = both-true (c .isTime) (eqb (c .group .at) g) t in
-      record { index = 0; number = omega (arith, some-same q); column = c; place = refl; isIn = here; timed = b .0; ofGroup = eqb-true (c .group .at) g (b .1) })
+    record { index = 0; number = omega (arith, some-same q); column = c; place = refl; isIn = here; timed = b .0; ofGroup = eqb-true (c .group .at) g (b .1) })
     (λ _ q. let r = time-found g (k + 1) cs n q in
-      record {
-        index = suc (r .index); number = omega (arith, r .number); column = r .column; place = r .place; isIn = there (r .isIn); timed = r .timed; ofGroup = r .ofGroup })
+    record {
+      index = suc (r .index);
+      number = omega (arith, r .number);
+      column = r .column;
+      place = r .place;
+      isIn = there (r .isIn);
+      timed = r .timed;
+      ofGroup = r .ofGroup;
+    })
 
 pub time-missing : (g k : ℕ) (cs : List Column) → timeColumn g k cs ≡ none → timesAt g cs ≡ 0
 unfolding timeColumn timesAt
@@ -165,9 +171,18 @@ time-missing g k (c ∷ cs) e =
 
 -- ---- masters named, in a list that grows
 due-later : (cs ds : List Column) (c : Column) (o : TimeOf) → MasterDue cs c o → MasterDue (cs ++ ds) c o
-due-later cs ds c (time t m) h =
-    (h .0, h .1, h .2, record {
-      there = column-later (h .0) cs ds (h .3 .there); timed = h .3 .timed; ofGroup = h .3 .ofGroup; ofChannel = h .3 .ofChannel; asMany = h .3 .asMany })
+due-later cs ds c (time t m) h = (
+  h .0,
+  h .1,
+  h .2,
+  record {
+    there = column-later (h .0) cs ds (h .3 .there);
+    timed = h .3 .timed;
+    ofGroup = h .3 .ofGroup;
+    ofChannel = h .3 .ofChannel;
+    asMany = h .3 .asMany;
+  },
+)
 due-later cs ds c untimed h = h
 due-later cs ds c differs h = h
 
@@ -187,8 +202,17 @@ given-due cs c untimed h = h
 given-due cs c differs h = h
 
 pub given-later : (cs ds : List Column) (m : Option ℕ) (n : ℕ) (o : TimeOf) → GivenDue cs m n o → GivenDue (cs ++ ds) m n o
-given-later cs ds m n (time t x) h =
-    (h .0, h .1, h .2, record {
-      there = column-later (h .0) cs ds (h .3 .there); timed = h .3 .timed; ofGroup = h .3 .ofGroup; ofChannel = h .3 .ofChannel; asMany = h .3 .asMany })
+given-later cs ds m n (time t x) h = (
+  h .0,
+  h .1,
+  h .2,
+  record {
+    there = column-later (h .0) cs ds (h .3 .there);
+    timed = h .3 .timed;
+    ofGroup = h .3 .ofGroup;
+    ofChannel = h .3 .ofChannel;
+    asMany = h .3 .asMany;
+  },
+)
 given-later cs ds m n untimed h = h
 given-later cs ds m n differs h = h

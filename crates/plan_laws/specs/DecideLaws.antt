@@ -1,24 +1,21 @@
 -- What is known of masters and of a channel that becomes a column.
 use Prim.{Unit, tt}
-use Prim.Native.Nat.{ℕ, zero, suc, _+_, _-_, _≤_, _<_}
-use mathlib.Core.List.{List, [], _∷_, _++_}
+use Prim.Native.Nat.{ℕ, _+_, _≤_}
+use mathlib.Core.List.{List, [], _∷_}
 use mathlib.Core.Path.{_≡_, refl, sym, ap, _∙_, subst}
 use mathlib.Core.Bool.{Bool, true, false}
 use mathlib.Core.Option.{Option, none, some}
 use native.Mathlib.Omega.{arith}
-use lib.ListN.{length}
-use lib.Dec.{eqb}
-use Rattle.base.specs.Choice.{pick, ifLt, ifEq}
+use Rattle.base.specs.Choice.{ifEq}
 use Rattle.base.specs.ChoiceLaws.{eq-first}
-use Rattle.base.specs.Checked.{Checked, ok, refused, andThen, Verdict, fine}
+use Rattle.base.specs.Checked.{Checked, ok}
 use Rattle.mdf.specs.Block.{kindCG, kindCN, kindAt, linkAt, headerIn}
-use Rattle.mdf.specs.Chain.{Fragment, Chain.signal, Found, found, stopped, limits, chain}
+use Rattle.mdf.specs.Chain.{Chain.signal, Found, found, stopped, limits, chain}
 use Rattle.mdf.specs.Group.{isStorage}
 use Rattle.plan.specs.Channel.{channelType, fits, isMasterType, both, Treatment, treatment}
 use Rattle.plan.specs.Columns.{kindCA, SrcGroup, firstMaster, masterOf, remoteLink, groupAt, TimeOf, time, untimed, differs, onMaster, onGroup, remoteTime, timeOf, Signal, unsigned, signalData, Decision, omitted, kept, keptSignal, decideSignal, decideComposition, onTreatment, decide, sizeOfSignal}
 use Rattle.result.specs.Guarantee.{In, here, there}
-use Rattle.plan_laws.specs.Answers.{refused≢ok, ok-same, with-ok, eq-cases, pick-cases}
-use Rattle.plan_laws.specs.Lists.{in-none}
+use Rattle.plan_laws.specs.Answers.{refused≢ok, with-ok, eq-cases, pick-cases}
 use Rattle.plan_laws.specs.ChainLaws.{chain-fits}
 
 pub none≢some : {A : Type 0} {x : A} → _≡_ {A = Option A} none (some x) → ⊥
@@ -44,7 +41,7 @@ first-master s g [] m e = absurd (none≢some e)
 first-master s g (c ∷ cs) m e =
     pick-cases (both (isMasterType s c) (fits s g c)) (some c) (firstMaster s g cs) e
     (λ t q. let b = both-true (isMasterType s c) (fits s g c) t in
-      subst (IsMaster s g (c ∷ cs)) (some-same q) (record { isIn = here; typed = b .0; fitting = b .1 }))
+    subst (IsMaster s g (c ∷ cs)) (some-same q) (record { isIn = here; typed = b .0; fitting = b .1 }))
     (λ _ q. let r = first-master s g cs m q in record { isIn = there (r .isIn); typed = r .typed; fitting = r .fitting })
 
 -- a group with a master is no VLSD storage group, and its master is one of its channels
@@ -88,12 +85,14 @@ remote-known s all g t m e = group (groupAt (remoteLink s (g .at)) all) refl e
   where
     Rest : SrcGroup → Option ℕ → TimeOf
     Rest h o = onMaster o untimed (λ x. ifEq (h .records) (g .records) (time h x) differs)
+
     master : (h : SrcGroup) → In h all → (o : Option ℕ) → masterOf s h ≡ o → Rest h o ≡ time t m → Timed s all g t m
     master h i none q r = absurd (time≢untimed r)
     master h i (some x) q r =
         let b = eq-first _ _ _ _ r time≢differs in
         let c = time-same (b .1) in
         subst (λ (u : SrcGroup). Timed s all g u m) (c .0) (record { isIn = i; master = q ∙ ap some (c .1); asMany = b .0 })
+
     group : (o : Option SrcGroup) → groupAt (remoteLink s (g .at)) all ≡ o → onGroup o untimed (λ h. Rest h (masterOf s h)) ≡ time t m → Timed s all g t m
     group none q r = absurd (time≢untimed r)
     group (some h) q r = master h (group-at _ all h q .0) (masterOf s h) refl r
@@ -139,9 +138,9 @@ unfolding decideSignal
 signal-decided s n c d e =
     eq-cases (channelType s c) 1 _ _ e
     (λ t q. eq-cases (linkAt s c 5) 0 _ _ q
-      (λ _ q. subst (SignalKnown s n c) (kept-same q) tt)
-      (λ _ q. with-ok (headerIn s (linkAt s c 5)) _ q (λ _ _ q.
-        eq-cases (kindAt s (linkAt s c 5)) kindCG _ _ q (λ _ q. absurd (omitted≢kept q)) (λ _ q. signal-kept s n c d _ t refl q))))
+    (λ _ q. subst (SignalKnown s n c) (kept-same q) tt)
+    (λ _ q. with-ok (headerIn s (linkAt s c 5)) _ q (λ _ _ q.
+    eq-cases (kindAt s (linkAt s c 5)) kindCG _ _ q (λ _ q. absurd (omitted≢kept q)) (λ _ q. signal-kept s n c d _ t refl q))))
     (λ _ q. subst (SignalKnown s n c) (kept-same q) tt)
 
 composition-decided : (s : List ℕ) (n c : ℕ) (d : Signal) → decideComposition s n c ≡ ok (kept d) → SignalKnown s n c d
@@ -150,8 +149,8 @@ composition-decided s n c d e =
     eq-cases (linkAt s c 1) 0 _ _ e
     (λ _ q. signal-decided s n c d q)
     (λ _ q. with-ok (headerIn s (linkAt s c 1)) _ q (λ _ _ q.
-      eq-cases (kindAt s (linkAt s c 1)) kindCA _ _ q (λ _ q. absurd (omitted≢kept q)) (λ _ q.
-      eq-cases (kindAt s (linkAt s c 1)) kindCN _ _ q (λ _ q. absurd (omitted≢kept q)) (λ _ q. signal-decided s n c d q))))
+    eq-cases (kindAt s (linkAt s c 1)) kindCA _ _ q (λ _ q. absurd (omitted≢kept q)) (λ _ q.
+    eq-cases (kindAt s (linkAt s c 1)) kindCN _ _ q (λ _ q. absurd (omitted≢kept q)) (λ _ q. signal-decided s n c d q))))
 
 pub record KeptAs (s : List ℕ) (n g c : ℕ) (d : Signal) : Type 0 where
   pub fitting : fits s g c ≡ true
@@ -163,7 +162,7 @@ unfolding decide
 decide-kept s n g c d e =
     pick-cases (fits s g c) _ _ e
     (λ f q. pick-cases (isMasterType s c) _ _ q (λ _ q. absurd (omitted≢kept q)) (λ m q.
-      record { fitting = f; notMaster = m; signal = composition-decided s n c d (treated (treatment (channelType s c)) _ q) }))
+    record { fitting = f; notMaster = m; signal = composition-decided s n c d (treated (treatment (channelType s c)) _ q) }))
     (λ _ q. absurd (omitted≢kept q))
 
 -- within the limit of fragments

@@ -1,21 +1,20 @@
 -- What is known of what was decided: every check passed.
 use Prim.Native.Nat.{ℕ, zero, suc, _≤_, _<_}
-use mathlib.Core.List.{List, [], _∷_}
-use mathlib.Core.Path.{_≡_, refl, sym, _∙_, subst}
+use mathlib.Core.List.{List, _∷_}
+use mathlib.Core.Path.{_≡_, refl, _∙_, subst}
 use native.Mathlib.Omega.{arith}
 use lib.ListN.{length}
 use Rattle.base.specs.Choice.{ifLt, ifEq}
 use Rattle.base.specs.ChoiceLaws.{lt-back, eq-first, eq-yes}
 use Rattle.base.specs.Field.{leAt}
-use Rattle.base.specs.Checked.{Checked, ok, refused, andThen, Verdict, fine}
+use Rattle.base.specs.Checked.{ok, refused, Verdict, fine}
 use Rattle.mdf.specs.Identification.{fileMark, identified}
 use Rattle.mdf.specs.Walk.{Source, walk}
-use Rattle.mdf.specs.Group.{DataGroup, dataGroups}
+use Rattle.mdf.specs.Group.{dataGroups}
 use Rattle.mdf.specs.Count.{counts}
-use Rattle.plan.specs.Columns.{SrcGroup, srcGroups, Column, Plan, plan, omissionWords}
-use Rattle.plan.specs.Geometry.{blockCount}
+use Rattle.plan.specs.Columns.{srcGroups, Column, plan, omissionWords}
 use Rattle.plan.specs.Data.{allDataIn, blocksIn}
-use Rattle.plan.specs.Layout.{Layout, layout, columnWidth, columnBlocks}
+use Rattle.plan.specs.Layout.{layout, columnWidth, columnBlocks}
 use Rattle.result.specs.Result.{Args, Decided, version420, lentIn, decided, answer}
 use Rattle.result.specs.Guarantee.{In, here, there}
 use Rattle.plan_laws.specs.Answers.{refused≢ok, ok-same, with-ok}
@@ -83,7 +82,8 @@ decided-steps x d e =
       planned = q;
       dataFine = f;
       blocksFine = k;
-      laidOut = m })))))))))))
+      laidOut = m;
+    })))))))))))
 
 -- an accepted answer is what was decided, and fits the output and the list
 pub record Accepted (x : Args) (out list : ℕ) (d : Decided) : Type 0 where

@@ -1,28 +1,23 @@
 -- The groups of a recording: which items of the walk they come from, their counts, and that every address stands in one place only.
-use Prim.{Unit, tt}
-use Prim.Native.Nat.{ℕ, zero, suc, _+_, _-_, _≤_, _<_}
+use Prim.Native.Nat.{ℕ, zero, suc, _+_, _≤_}
 use mathlib.Core.List.{List, [], _∷_, _++_, append-nil, append-assoc}
 use mathlib.Core.Path.{_≡_, refl, sym, ap, _∙_, subst}
-use mathlib.Core.Bool.{Bool, true, false}
 use mathlib.Core.Logic.{_⊎_, inl, inr}
 use native.Mathlib.Omega.{arith}
-use native.Mathlib.Nat.{add-zero}
-use lib.ListN.{length, length-append, drop, getD}
-use lib.Seq.{drop-at}
-use Rattle.base.specs.Choice.{ifLt, ifEq}
+use lib.ListN.{length, length-append, drop}
 use Rattle.base.specs.ChoiceLaws.{lt-back}
-use Rattle.base.specs.Checked.{Checked, ok, refused, andThen, Verdict, fine}
+use Rattle.base.specs.Checked.{ok, fine}
 use Rattle.mdf.specs.Block.{DG, CG, CN, blockAt}
 use Rattle.mdf.specs.Chain.{Fragment}
-use Rattle.mdf.specs.Walk.{Item, dg, cg, cn, address, Source, levelDG, levelCG, levelCN, tally, walk}
-use Rattle.mdf.specs.Group.{Group, DataGroup, addresses, channelsOf, groupsOf, dataGroupsOf, dataGroups}
+use Rattle.mdf.specs.Walk.{Item, dg, cg, cn, levelDG, levelCG, levelCN, tally}
+use Rattle.mdf.specs.Group.{Group, DataGroup, addresses, channelsOf, groupsOf, dataGroupsOf}
 use Rattle.mdf.specs.Records.{Frame, unsortedFrames}
-use Rattle.mdf.specs.Count.{countOne, ofGroup, tallies, countGroups, countsFrom, counts}
+use Rattle.mdf.specs.Count.{countOne, tallies, countGroups, countsFrom, counts}
 use Rattle.plan.specs.Columns.{SrcGroup, withCounts, srcGroups}
 use Rattle.result.specs.Guarantee.{In, here, there}
 use Rattle.plan_laws.specs.Answers.{refused≢ok, ok-same, with-ok}
-use Rattle.plan_laws.specs.Lists.{in-left, in-right, in-cases, in-none, same, same-yes, same-no, occurs, occurs-append, occurs-in}
-use Rattle.plan_laws.specs.WalkLaws.{itemAddresses, ItemFine, Sound, Open, walk-sound, walk-open}
+use Rattle.plan_laws.specs.Lists.{in-none, same, occurs, occurs-append}
+use Rattle.plan_laws.specs.WalkLaws.{itemAddresses, ItemFine, Open}
 
 -- ---- sums over the addresses of items and groups
 
@@ -67,7 +62,7 @@ module _ (g c : ℕ → ℕ) where
   front-sum (cn a ∷ is) = omega (arith, front-sum is)
 
   nested-sum : (d : ℕ → ℕ) (fs : List Fragment) (is : List Item)
-    → dataGroupsSum d g c (dataGroupsOf fs is) + frontSum g c is ≤ itemsSum d g c is
+      → dataGroupsSum d g c (dataGroupsOf fs is) + frontSum g c is ≤ itemsSum d g c is
   unfolding dataGroupsSum dataGroupsOf frontSum itemsSum
   nested-sum d fs [] = omega arith
   nested-sum d fs (dg a n ∷ is) = omega (arith, nested-sum d fs is, front-sum is)
@@ -89,8 +84,12 @@ module _ (g c : ℕ → ℕ) where
   unfolding srcSum srcGroups dataGroupsSum
   src-sum d [] ns = omega arith
   src-sum d (e ∷ ds) ns =
-      omega (arith, src-append (withCounts e 0 (e .groups) ns) (srcGroups ds (drop (length (e .groups)) ns)),
-        counts-sum e 0 (e .groups) ns, src-sum d ds (drop (length (e .groups)) ns))
+      omega (
+        arith,
+        src-append (withCounts e 0 (e .groups) ns) (srcGroups ds (drop (length (e .groups)) ns)),
+        counts-sum e 0 (e .groups) ns,
+        src-sum d ds (drop (length (e .groups)) ns),
+      )
 
 -- ---- addresses
 
@@ -189,7 +188,7 @@ cn-tally (cn a ∷ is) = omega (arith, cn-tally is)
 
 -- a sum over DG that counts its groups and channels as well is the sum of both
 dg-and-groups : (d g c : ℕ → ℕ) (ds : List DataGroup)
-  → dataGroupsSum d g c ds ≡ dataGroupsSum d (λ a. 0) (λ a. 0) ds + dataGroupsSum (λ a. 0) g c ds
+    → dataGroupsSum d g c ds ≡ dataGroupsSum d (λ a. 0) (λ a. 0) ds + dataGroupsSum (λ a. 0) g c ds
 unfolding dataGroupsSum
 dg-and-groups d g c [] = refl
 dg-and-groups d g c (e ∷ ds) = omega (arith, groups-zero (e .groups), dg-and-groups d g c ds)
@@ -249,7 +248,7 @@ groups-fine s (cg a ∷ is) h g (there i) = groups-fine s is (λ j m. h j (there
 groups-fine s (cn a ∷ is) h g i = groups-fine s is (λ j m. h j (there m)) g i
 
 pub data-groups-fine : (s : List ℕ) (fs : List Fragment) (is : List Item) → ((i : Item) → In i is → ItemFine s i)
-  → (d : DataGroup) → In d (dataGroupsOf fs is) → DataGroupFine s d
+    → (d : DataGroup) → In d (dataGroupsOf fs is) → DataGroupFine s d
 unfolding dataGroupsOf
 data-groups-fine s fs [] h d i = absurd (in-none i)
 data-groups-fine s fs (dg a n ∷ is) h d here = record { block = h (dg a n) here; groups = groups-fine s is (λ j m. h j (there m)) }
@@ -329,7 +328,7 @@ addresses-length (g ∷ gs) = ap suc (addresses-length gs)
 pub data Counted (s : List ℕ) : List DataGroup → List ℕ → Type 0 where
   no-more : Counted s [] []
   and-more : {d : DataGroup} {ds : List DataGroup} {ns : List ℕ} (ms rest : List ℕ) → ns ≡ ms ++ rest
-    → countGroups s (d .at) (addresses (d .groups)) (d .fragments) ≡ ok ms → Counted s ds rest → Counted s (d ∷ ds) ns
+      → countGroups s (d .at) (addresses (d .groups)) (d .fragments) ≡ ok ms → Counted s ds rest → Counted s (d ∷ ds) ns
 
 pub record CountedAfter (s : List ℕ) (ds : List DataGroup) (done ns : List ℕ) : Type 0 where
   pub more : List ℕ

@@ -1,14 +1,14 @@
 -- All that is known of what was decided for a call: its steps, its groups, its plan.
-use Prim.Native.Nat.{ℕ, _+_, _≤_, _<_}
-use mathlib.Core.List.{List, [], _∷_}
+use Prim.Native.Nat.{ℕ, _+_, _≤_}
 use mathlib.Core.Path.{_≡_, refl, sym, subst}
-use mathlib.Core.Bool.{Bool, true, false}
+use mathlib.Core.Bool.{true, false}
 use native.Mathlib.Omega.{arith}
 use lib.ListN.{length}
-use Rattle.base.specs.Checked.{Checked, ok}
-use Rattle.mdf.specs.Group.{isStorage}
+use Rattle.base.specs.Checked.{ok, fine}
+use Rattle.mdf.specs.Group.{addresses, dataGroups, isStorage}
 use Rattle.plan.specs.Channel.{fits}
-use Rattle.plan.specs.Columns.{SrcGroup, srcGroups, Column, sizeOfSignal}
+use Rattle.plan.specs.Columns.{SrcGroup, Column, sizeOfSignal}
+use Rattle.plan.specs.Data.{isNonempty, recordsIn, signalIn, dataIn}
 use Rattle.plan.specs.Layout.{columnBlocks}
 use Rattle.result.specs.Result.{Args, Decided, decided, answer}
 use Rattle.result.specs.Guarantee.{In, columnsOf, omissionsOf, NamesMaster}
@@ -16,6 +16,7 @@ use Rattle.plan_laws.specs.Lists.{occurs}
 use Rattle.plan_laws.specs.GroupLaws.{allAddresses, all-length}
 use Rattle.plan_laws.specs.SourceLaws.{Groups, groups-known}
 use Rattle.plan_laws.specs.PlanLaws.{Planned, plan-known, plan-once, plan-source, plan-masters, plan-fits, plan-few, plan-few-omissions, plan-signals}
+use Rattle.plan_laws.specs.DataLaws.{data-fine, records-fine, signal-fine}
 use Rattle.plan_laws.specs.Decision.{Steps, decided-steps, blocks-few, answer-accepted}
 
 pub record Known (x : Args) (d : Decided) : Type 0 where
@@ -24,9 +25,9 @@ pub record Known (x : Args) (d : Decided) : Type 0 where
   pub planned : Planned (x .image) (d .groups) (length (steps .source .fragments)) (d .planned)
   -- three fields of the guarantee
   pub once : (g : SrcGroup) → In g (d .groups) → isStorage (x .image) (g .at) ≡ false → (c : ℕ) → In c (g .channels)
-    → columnsOf c (d .planned .columns) + omissionsOf c (d .planned .omissions) ≡ 1
+      → columnsOf c (d .planned .columns) + omissionsOf c (d .planned .omissions) ≡ 1
   pub source : (c : Column) → In c (d .planned .columns)
-    → In (c .group) (d .groups) × (isStorage (x .image) (c .group .at) ≡ false) × In (c .channel) (c .group .channels)
+      → In (c .group) (d .groups) × (isStorage (x .image) (c .group .at) ≡ false) × In (c .channel) (c .group .channels)
   pub masters : (c : Column) → In c (d .planned .columns) → NamesMaster (x .image) (d .groups) (d .planned .columns) c (c .isTime)
   -- every column fits; limits
   pub fitting : (c : Column) → In c (d .planned .columns) → fits (x .image) (c .group .at) (c .channel) ≡ true
@@ -34,15 +35,22 @@ pub record Known (x : Args) (d : Decided) : Type 0 where
   pub fewOmissions : length (d .planned .omissions) ≤ 1024
   pub fewFragments : d .planned .fragments ≤ 1024
   pub fewSignals : (c : Column) → In c (d .planned .columns) → length (steps .source .fragments) + sizeOfSignal (c .signalOf) ≤ 1024
+  -- the data stage passed for every column
+  pub recordsFine : (c : Column) → In c (d .planned .columns) → isNonempty (x .image) c ≡ true
+      → recordsIn (x .image) (c .group .dataGroup .at) (addresses (c .group .dataGroup .groups)) (c .group .dataGroup .fragments) ≡ fine
+  pub signalFine : (c : Column) → In c (d .planned .columns) → signalIn (x .image) (c .signalOf) ≡ fine
   pub fewBlocks : (c : Column) → In c (d .planned .columns) → columnBlocks (x .image) (x .blockSize) c ≤ 4294967295
 
 steps-known : (x : Args) (d : Decided) → Steps x d → Known x d
 steps-known x d t =
     let n = length (t .source .fragments) in
     let g : Groups (x .image) (t .source) (t .numbers) (d .groups) =
-          subst (Groups (x .image) (t .source) (t .numbers)) (sym (t .groups)) (groups-known (x .image) (t .source) (t .numbers) (t .walked) (t .counted)) in
+    subst (Groups (x .image) (t .source) (t .numbers)) (sym (t .groups)) (groups-known (x .image) (t .source) (t .numbers) (t .walked) (t .counted)) in
     let one : (y : ℕ) → occurs y (allAddresses (d .groups)) ≤ 1 = λ y. omega (arith, g .once y) in
     let p = plan-known (x .image) (d .groups) n (d .planned) one (g .nonzero) (g .fewFragments) (t .planned) in
+    let dataOf : (c : Column) → In c (d .planned .columns) → dataIn (x .image) (d .planned .columns) (c .group .dataGroup) ≡ fine =
+    λ c i. data-fine (x .image) (d .planned .columns) (dataGroups (t .source)) (t .dataFine) (c .group .dataGroup)
+    (g .origins (c .group) (p .sourced c i .groupIn) .dataGroupIn) in
     record {
       steps = t;
       groups = g;
@@ -52,11 +60,19 @@ steps-known x d t =
       masters = plan-masters (x .image) (d .groups) n (d .planned) one (g .nonzero) (g .fewFragments) (t .planned);
       fitting = plan-fits (x .image) (d .groups) n (d .planned) one (g .nonzero) (g .fewFragments) (t .planned);
       fewColumns = omega (arith, plan-few (x .image) (d .groups) n (d .planned) one (g .nonzero) (g .fewFragments) (t .planned), g .fewChannels);
-      fewOmissions = omega (arith, plan-few-omissions (x .image) (d .groups) n (d .planned) one (g .nonzero) (g .fewFragments) (t .planned),
-        all-length (d .groups), g .fewChannels, g .fewGroups);
+      fewOmissions = omega (
+        arith,
+        plan-few-omissions (x .image) (d .groups) n (d .planned) one (g .nonzero) (g .fewFragments) (t .planned),
+        all-length (d .groups),
+        g .fewChannels,
+        g .fewGroups,
+      );
       fewFragments = p .few;
       fewSignals = plan-signals (x .image) (d .groups) n (d .planned) one (g .nonzero) (g .fewFragments) (t .planned);
-      fewBlocks = blocks-few (x .image) (x .blockSize) (d .planned .columns) (t .blocksFine) }
+      recordsFine = λ c i k. records-fine (x .image) (d .planned .columns) (c .group .dataGroup) (dataOf c i) c i refl k;
+      signalFine = λ c i. signal-fine (x .image) (d .planned .columns) (c .group .dataGroup) (dataOf c i) c i refl;
+      fewBlocks = blocks-few (x .image) (x .blockSize) (d .planned .columns) (t .blocksFine);
+    }
 
 pub decided-known : (x : Args) (d : Decided) → decided x ≡ ok d → Known x d
 decided-known x d e = steps-known x d (decided-steps x d e)

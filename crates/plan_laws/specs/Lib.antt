@@ -3,9 +3,11 @@ pub mod Decision
 pub mod Lists
 pub mod ChainLaws
 pub mod WalkLaws
+pub mod OrderLaws
 pub mod GroupLaws
 pub mod SourceLaws
 pub mod DecideLaws
 pub mod ColumnLaws
 pub mod PlanLaws
+pub mod DataLaws
 pub mod Known

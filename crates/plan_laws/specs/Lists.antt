@@ -1,14 +1,14 @@
 -- Membership and the number of occurrences in lists.
 use Prim.{Unit, tt}
-use Prim.Native.Nat.{ℕ, zero, suc, _+_, _-_, _≤_, _<_}
+use Prim.Native.Nat.{ℕ, suc, _+_, _≤_}
 use mathlib.Core.List.{List, [], _∷_, _++_}
 use mathlib.Core.Path.{_≡_, refl, sym, ap, _∙_, subst}
 use mathlib.Core.Bool.{Bool, true, false}
 use mathlib.Core.Logic.{_⊎_, inl, inr}
 use native.Mathlib.Omega.{arith}
-use lib.ListN.{length, length-append}
+use lib.ListN.{length}
 use lib.Dec.{eqb}
-use borrow.Author.Tests.{eqb-true, eqb-false, eq-eqb, ne-eqb}
+use borrow.Author.Tests.{eqb-true, eqb-false}
 use Rattle.base.specs.Choice.{ifEq}
 use Rattle.base.specs.ChoiceLaws.{eq-yes, eq-no}
 use Rattle.result.specs.Guarantee.{In, here, there}
@@ -114,7 +114,7 @@ without-occurs a c [] h = absurd (omega arith)
 without-occurs a c (b ∷ l) h = go (without-occurs a c l) (eqb b a) refl
   where
     go : (1 ≤ occurs a l → occurs c l ≡ same a c + occurs c (without a l)) → (t : Bool) → eqb b a ≡ t
-      → occurs c (b ∷ l) ≡ same a c + occurs c (without a (b ∷ l))
+        → occurs c (b ∷ l) ≡ same a c + occurs c (without a (b ∷ l))
     go ih true q =
         let e = eqb-true b a q in
         rw (← eq-yes b a l (b ∷ without a l) e refl, e)

@@ -1,6 +1,5 @@
 -- Planning: where every column comes from, which master it names, and that every channel is one column or one omission.
-use Prim.{Unit, tt}
-use Prim.Native.Nat.{ℕ, zero, suc, _+_, _-_, _≤_, _<_}
+use Prim.Native.Nat.{ℕ, zero, suc, _+_, _≤_}
 use mathlib.Core.List.{List, [], _∷_, _++_}
 use mathlib.Core.Path.{_≡_, refl, sym, ap, _∙_, subst}
 use mathlib.Core.Bool.{Bool, true, false}
@@ -10,17 +9,17 @@ use native.Mathlib.Omega.{arith}
 use lib.ListN.{length}
 use Rattle.base.specs.Choice.{pick, ifEq}
 use Rattle.base.specs.ChoiceLaws.{eq-yes, eq-no}
-use Rattle.base.specs.Checked.{Checked, ok, refused, andThen}
+use Rattle.base.specs.Checked.{ok}
 use Rattle.mdf.specs.Group.{isStorage}
 use Rattle.plan.specs.Channel.{fits}
-use Rattle.plan.specs.Columns.{SrcGroup, masterOf, TimeOf, time, untimed, differs, timeOf, Signal, unsigned, signalData, Column, Omission, Plan, withColumn, withOmission, timeColumn, onPlanned, withTime, Decision, omitted, kept, decide, sizeOfSignal, decided, planChannels, ownMaster, planTimed, planGroup, planGroups, plan, omissionAddresses}
-use Rattle.result.specs.Guarantee.{In, here, there, columnsOf, omissionsOf, columnAt, IsTime, MasterDue, NamesMaster}
+use Rattle.plan.specs.Columns.{SrcGroup, masterOf, TimeOf, time, untimed, differs, timeOf, unsigned, Column, Omission, Plan, withColumn, withOmission, timeColumn, onPlanned, withTime, Decision, omitted, kept, decide, sizeOfSignal, decided, planChannels, ownMaster, planTimed, planGroup, planGroups, plan, omissionAddresses}
+use Rattle.result.specs.Guarantee.{In, here, there, columnsOf, omissionsOf, columnAt, IsTime, NamesMaster}
 use Rattle.plan_laws.specs.Answers.{ok-same, true≢false, with-ok, eq-cases, pick-cases, or-not}
 use Rattle.plan_laws.specs.Lists.{in-none, in-cases, in-one, same, same-yes, same-no, occurs, occurs-append, occurs-in, in-occurs, no-longer}
 use Rattle.plan_laws.specs.GroupLaws.{allAddresses, allChannels}
 use Rattle.plan_laws.specs.SourceLaws.{ownAddresses, own-within, group-unique, channel-group, channel-once, channel-no-group}
-use Rattle.plan_laws.specs.DecideLaws.{none≢some, some-same, IsMaster, HasMaster, master-known, Timed, time-known, time-own, time-same, time≢untimed, time≢differs, SignalKnown, KeptAs, decide-kept, signal-few}
-use Rattle.plan_laws.specs.ColumnLaws.{timesAt, timesOf, signalsOf, column-more, omission-more, signals-more, times-at-signal, times-signal, times-at-here, times-at-other, times-timed, times-in, times-none, times-within, TimeFound, time-found, time-missing, named-later, GivenDue, given-due, given-later}
+use Rattle.plan_laws.specs.DecideLaws.{none≢some, some-same, master-known, Timed, time-known, time-own, time-same, time≢untimed, time≢differs, decide-kept, signal-few}
+use Rattle.plan_laws.specs.ColumnLaws.{timesAt, timesOf, signalsOf, column-more, omission-more, signals-more, times-at-signal, times-signal, times-at-here, times-at-other, times-timed, times-in, times-none, times-within, time-found, time-missing, named-later, GivenDue, given-due, given-later}
 
 -- ---- what is known of one column
 
@@ -58,19 +57,21 @@ module _ (s : List ℕ) (all : List SrcGroup) (n : ℕ) where
 
   -- one column more
   column-planned : (p : Plan) (c : Column) → Planned s all n p → Sourced s all c → NamesMaster s all (p .columns ++ (c ∷ [])) c (c .isTime)
-    → ((a : ℕ) → timesAt a (p .columns ++ (c ∷ [])) ≤ 1) → p .fragments + sizeOfSignal (c .signalOf) ≤ 1024
-    → Planned s all n (withColumn c (sizeOfSignal (c .signalOf)) p)
+      → ((a : ℕ) → timesAt a (p .columns ++ (c ∷ [])) ≤ 1) → p .fragments + sizeOfSignal (c .signalOf) ≤ 1024
+      → Planned s all n (withColumn c (sizeOfSignal (c .signalOf)) p)
   column-planned p c h k m t f =
       record {
         sourced = λ d i. source d (in-cases (p .columns) i);
         named = λ d i. name d (in-cases (p .columns) i);
         timesOnce = t;
         signals = rw (signals-more (p .columns) c) (omega (arith, h .signals));
-        few = f }
+        few = f;
+      }
     where
       source : (d : Column) → In d (p .columns) ⊎ In d (c ∷ []) → Sourced s all d
       source d (inl i) = h .sourced d i
       source d (inr i) = subst (Sourced s all) (sym (in-one i)) k
+
       name : (d : Column) → In d (p .columns) ⊎ In d (c ∷ []) → NamesMaster s all (p .columns ++ (c ∷ [])) d (d .isTime)
       name d (inl i) = named-later s all (p .columns) (c ∷ []) d (d .isTime) (h .named d i)
       name d (inr i) = subst (λ (e : Column). NamesMaster s all (p .columns ++ (c ∷ [])) e (e .isTime)) (sym (in-one i)) m
@@ -121,31 +122,33 @@ module _ (s : List ℕ) (all : List SrcGroup) (n : ℕ) (g : SrcGroup) (m : Opti
     pub times : (x : ℕ) → timesOf x (q .columns) ≡ timesOf x (p .columns)
 
   channel-done : (c : ℕ) (p : Plan) (d : Decision) → Planned s all n p → GivenDue (p .columns) m (g .records) (timeOf s all g)
-    → In c (g .channels) → (c ≡ ownMaster (masterOf s g) → ⊥) → decide s (p .fragments) (g .at) c ≡ ok d → ChannelDone c p (decided g m c p d)
+      → In c (g .channels) → (c ≡ ownMaster (masterOf s g) → ⊥) → decide s (p .fragments) (g .at) c ≡ ok d → ChannelDone c p (decided g m c p d)
   unfolding total
   channel-done c p (omitted r) h k i o e =
       record {
         planned = omitted-planned s all n p c r h;
         due = k;
         totals = λ x. rw (omission-more x (p .omissions) (record { at = c; reason = r })) (omega arith);
-        times = λ x. refl }
+        times = λ x. refl;
+      }
   channel-done c p (kept d) h k i o e =
       let col : Column = record { group = g; channel = c; isTime = false; master = m; signalOf = d } in
       let f = decide-kept s (p .fragments) (g .at) c d e in
       let later = given-later (p .columns) (col ∷ []) m (g .records) (timeOf s all g) k in
       record {
         planned = column-planned s all n p col h
-          (record { groupIn = gin; stored = stored; channelIn = i; fitting = f .fitting; kinded = (p .fragments, e, o) })
-          (given-due (p .columns ++ (col ∷ [])) col (timeOf s all g) later)
-          (λ a. rw (times-at-signal (p .columns) col refl a) (h .timesOnce a))
-          (signal-few s (p .fragments) c d (h .few) (f .signal));
+            (record { groupIn = gin; stored = stored; channelIn = i; fitting = f .fitting; kinded = (p .fragments, e, o) })
+            (given-due (p .columns ++ (col ∷ [])) col (timeOf s all g) later)
+            (λ a. rw (times-at-signal (p .columns) col refl a) (h .timesOnce a))
+            (signal-few s (p .fragments) c d (h .few) (f .signal));
         due = later;
         totals = λ x. rw (column-more x (p .columns) col) (omega arith);
-        times = λ x. times-signal (p .columns) col refl x }
+        times = λ x. times-signal (p .columns) col refl x;
+      }
 
   channels-done : (cs : List ℕ) (p q : Plan) → Planned s all n p → GivenDue (p .columns) m (g .records) (timeOf s all g)
-    → ((c : ℕ) → In c cs → In c (g .channels)) → planChannels s g (ownMaster (masterOf s g)) m cs p ≡ ok q
-    → ChannelsDone s all n (ownMaster (masterOf s g)) cs p q
+      → ((c : ℕ) → In c cs → In c (g .channels)) → planChannels s g (ownMaster (masterOf s g)) m cs p ≡ ok q
+      → ChannelsDone s all n (ownMaster (masterOf s g)) cs p q
   unfolding planChannels others
   channels-done [] p q h k i e =
       subst (ChannelsDone s all n (ownMaster (masterOf s g)) [] p) (ok-same e)
@@ -154,17 +157,19 @@ module _ (s : List ℕ) (all : List SrcGroup) (n : ℕ) (g : SrcGroup) (m : Opti
       let own : ℕ = ownMaster (masterOf s g) in
       eq-cases c own _ _ e
       (λ o t. let r = channels-done cs p q h k (λ x j. i x (there j)) t in
-        record {
-          planned = r .planned;
-          totals = λ x. rw (← eq-yes c own 0 (same c x) o refl) (omega (arith, r .totals x));
-          times = r .times })
+      record {
+        planned = r .planned;
+        totals = λ x. rw (← eq-yes c own 0 (same c x) o refl) (omega (arith, r .totals x));
+        times = r .times;
+      })
       (λ o t. with-ok (decide s (p .fragments) (g .at) c) _ t (λ d b t.
-        let a = channel-done c p d h k (i c here) o b in
-        let r = channels-done cs (decided g m c p d) q (a .planned) (a .due) (λ x j. i x (there j)) t in
-        record {
-          planned = r .planned;
-          totals = λ x. rw (← eq-no c own 0 (same c x) o refl) (omega (arith, r .totals x, a .totals x));
-          times = λ x. r .times x ∙ a .times x }))
+      let a = channel-done c p d h k (i c here) o b in
+      let r = channels-done cs (decided g m c p d) q (a .planned) (a .due) (λ x j. i x (there j)) t in
+      record {
+        planned = r .planned;
+        totals = λ x. rw (← eq-no c own 0 (same c x) o refl) (omega (arith, r .totals x, a .totals x));
+        times = λ x. r .times x ∙ a .times x;
+      }))
 
 -- ---- time columns
 
@@ -199,17 +204,21 @@ module _ (s : List ℕ) (all : List SrcGroup) (n : ℕ) (once : (x : ℕ) → oc
         let made : d .channel ≡ m = some-same (sym (timed-master s all d w (f .timed)) ∙ ap (masterOf s) same ∙ timed .master) in
         let number : f .index ≡ k = omega (arith, f .number) in
         record {
-          column = d; isIn = f .isIn; ofChannel = made;
+          column = d;
+          isIn = f .isIn;
+          ofChannel = made;
           isTime = record {
             there = ap (λ (i : ℕ). columnAt i (q .columns)) (sym number) ∙ f .place;
             timed = f .timed;
             ofGroup = f .ofGroup;
             ofChannel = made;
-            asMany = ap (λ (h : SrcGroup). h .records) same ∙ timed .asMany } }
+            asMany = ap (λ (h : SrcGroup). h .records) same ∙ timed .asMany;
+          };
+        }
 
     -- where there is one, it is due
     time-due : (q : Plan) → Planned s all n q → (o : Option ℕ) → timeColumn (t .at) 0 (q .columns) ≡ o → 1 ≤ timesAt (t .at) (q .columns)
-      → GivenDue (q .columns) o (g .records) (time t m)
+        → GivenDue (q .columns) o (g .records) (time t m)
     time-due q h none e l = absurd (omega (arith, time-missing (t .at) 0 (q .columns) e))
     time-due q h (some k) e l = let f = time-is q k h e in (k, f .column, refl, f .isTime)
 
@@ -220,8 +229,8 @@ module _ (s : List ℕ) (all : List SrcGroup) (n : ℕ) (once : (x : ℕ) → oc
         (record { groupIn = timed .isIn; stored = b .stored; channelIn = b .master .isIn; fitting = b .master .fitting; kinded = (timed .master, refl) })
         refl
         (λ a. or-not (t .at) a
-          (λ q. omega (arith, times-at-here (p .columns) (timeOfGroup t m) refl a q, ap (λ (y : ℕ). timesAt y (p .columns)) q, time-missing (t .at) 0 (p .columns) e))
-          (λ q. omega (arith, times-at-other (p .columns) (timeOfGroup t m) refl a q, h .timesOnce a)))
+        (λ q. omega (arith, times-at-here (p .columns) (timeOfGroup t m) refl a q, ap (λ (y : ℕ). timesAt y (p .columns)) q, time-missing (t .at) 0 (p .columns) e))
+        (λ q. omega (arith, times-at-other (p .columns) (timeOfGroup t m) refl a q, h .timesOnce a)))
         (omega (arith, h .few))
 
     new-done : (p : Plan) → Planned s all n p → timeColumn (t .at) 0 (p .columns) ≡ none → TimeDone s all n g t m p (withColumn (timeOfGroup t m) 0 p)
@@ -234,7 +243,8 @@ module _ (s : List ℕ) (all : List SrcGroup) (n : ℕ) (once : (x : ℕ) → oc
           due = time-due q w (timeColumn (t .at) 0 (q .columns)) refl (omega (arith, times-at-here (p .columns) (timeOfGroup t m) refl (t .at) refl));
           totals = λ x. omega (arith, column-more x (p .columns) (timeOfGroup t m), times-timed (p .columns) (timeOfGroup t m) refl x);
           grown = λ x. omega (arith, times-timed (p .columns) (timeOfGroup t m) refl x);
-          isThere = omega (arith, times-timed (p .columns) (timeOfGroup t m) refl m, same-yes m m refl) }
+          isThere = omega (arith, times-timed (p .columns) (timeOfGroup t m) refl m, same-yes m m refl);
+        }
 
     old-done : (p : Plan) (k : ℕ) → Planned s all n p → timeColumn (t .at) 0 (p .columns) ≡ some k → TimeDone s all n g t m p p
     old-done p k h e =
@@ -244,7 +254,8 @@ module _ (s : List ℕ) (all : List SrcGroup) (n : ℕ) (once : (x : ℕ) → oc
           due = (k, f .column, e, f .isTime);
           totals = λ x. refl;
           grown = λ x. omega arith;
-          isThere = times-in m (p .columns) (f .column) (f .isIn) (f .isTime .timed) (f .ofChannel) }
+          isThere = times-in m (p .columns) (f .column) (f .isIn) (f .isTime .timed) (f .ofChannel);
+        }
 
     time-done : (p : Plan) → Planned s all n p → TimeDone s all n g t m p (withTime t m p)
     unfolding withTime
@@ -286,13 +297,14 @@ module _ (s : List ℕ) (all : List SrcGroup) (n : ℕ) (once : (x : ℕ) → oc
     timed-done p q (time t m) o h e =
         let a = time-done s all n once g t m (time-known s all g t m gin o) p h in
         let r = channels-done s all n g (timeColumn (t .at) 0 (withTime t m p .columns)) gin stored (g .channels) (withTime t m p) q
-              (a .planned) (rw o (a .due)) (λ c i. i) e in
+        (a .planned) (rw o (a .due)) (λ c i. i) e in
         record {
           planned = r .planned;
           totals = λ x y. omega (arith, r .totals x, r .times x, a .totals x, due-stored s g x stored);
           most = λ x. omega (arith, r .totals x, r .times x, a .totals x, due-stored s g x stored);
           grown = λ x. omega (arith, r .times x, a .grown x);
-          own = λ k b. let z : m ≡ k = time-same (sym o ∙ time-own s all g k b) .1 in rw (← z) (omega (arith, r .times m, a .isThere)) }
+          own = λ k b. let z : m ≡ k = time-same (sym o ∙ time-own s all g k b) .1 in rw (← z) (omega (arith, r .times m, a .isThere));
+        }
     timed-done p q untimed o h e =
         let r = channels-done s all n g none gin stored (g .channels) p q h (rw o refl) (λ c i. i) e in
         record {
@@ -300,7 +312,8 @@ module _ (s : List ℕ) (all : List SrcGroup) (n : ℕ) (once : (x : ℕ) → oc
           totals = λ x y. omega (arith, r .totals x, r .times x, due-stored s g x stored);
           most = λ x. omega (arith, r .totals x, r .times x, due-stored s g x stored);
           grown = λ x. omega (arith, r .times x);
-          own = λ k b. absurd (time≢untimed (sym o ∙ time-own s all g k b)) }
+          own = λ k b. absurd (time≢untimed (sym o ∙ time-own s all g k b));
+        }
     timed-done p q differs o h e =
         let r = channels-done s all n g none gin stored (g .channels) (withOmission (g .at) 1 p) q (omitted-planned s all n p (g .at) 1 h) (rw o refl) (λ c i. i) e in
         record {
@@ -308,19 +321,21 @@ module _ (s : List ℕ) (all : List SrcGroup) (n : ℕ) (once : (x : ℕ) → oc
           totals = λ x y. omega (arith, r .totals x, r .times x, due-stored s g x stored, omitted-total x (g .at) 1 p y);
           most = λ x. omega (arith, r .totals x, r .times x, due-stored s g x stored, omitted-most x (g .at) 1 p);
           grown = λ x. omega (arith, r .times x);
-          own = λ k b. absurd (time≢differs (sym o ∙ time-own s all g k b)) }
+          own = λ k b. absurd (time≢differs (sym o ∙ time-own s all g k b));
+        }
 
   group-done : (g : SrcGroup) → In g all → (p q : Plan) → Planned s all n p → planGroup s all g p ≡ ok q → GroupDone s all n g p q
   unfolding planGroup due
   group-done g i p q h e =
       pick-cases (isStorage s (g .at)) _ _ e
       (λ b r. subst (GroupDone s all n g p) (ok-same r)
-        (record {
-          planned = h;
-          totals = λ x y. rw b (omega arith);
-          most = λ x. rw b (omega arith);
-          grown = λ x. omega arith;
-          own = λ m k. let z = master-known s g m k .stored in absurd (true≢false (sym b ∙ z)) }))
+      (record {
+        planned = h;
+        totals = λ x y. rw b (omega arith);
+        most = λ x. rw b (omega arith);
+        grown = λ x. omega arith;
+        own = λ m k. let z = master-known s g m k .stored in absurd (true≢false (sym b ∙ z));
+      }))
       (λ b r. timed-done g i b p q (timeOf s all g) refl h r)
 
 -- the sum of what is due to groups
@@ -342,8 +357,8 @@ pub record GroupsDone (s : List ℕ) (all : List SrcGroup) (n : ℕ) (gs : List 
   pub own : (g : SrcGroup) (m : ℕ) → In g gs → masterOf s g ≡ some m → 1 ≤ timesOf m (q .columns)
 
 groups-done : (s : List ℕ) (all : List SrcGroup) (n : ℕ) → ((x : ℕ) → occurs x (allAddresses all) ≤ 1)
-  → (gs : List SrcGroup) → ((g : SrcGroup) → In g gs → In g all) → (p q : Plan) → Planned s all n p → planGroups s all gs p ≡ ok q
-  → GroupsDone s all n gs p q
+    → (gs : List SrcGroup) → ((g : SrcGroup) → In g gs → In g all) → (p q : Plan) → Planned s all n p → planGroups s all gs p ≡ ok q
+    → GroupsDone s all n gs p q
 unfolding planGroups dueSum mostSum
 groups-done s all n once [] i p q h e =
     subst (GroupsDone s all n [] p) (ok-same e)
@@ -357,7 +372,8 @@ groups-done s all n once (g ∷ gs) i p q h e =
       totals = λ x y. omega (arith, a .totals x (y g here), r .totals x (λ k j. y k (there j)));
       most = λ x. omega (arith, a .most x, r .most x);
       grown = λ x. omega (arith, a .grown x, r .grown x);
-      own = λ k m j c. own-of a r k m j c })
+      own = λ k m j c. own-of a r k m j c;
+    })
   where
     own-of : {u : Plan} → GroupDone s all n g p u → GroupsDone s all n gs u q → (k : SrcGroup) (m : ℕ) → In k (g ∷ gs) → masterOf s k ≡ some m → 1 ≤ timesOf m (q .columns)
     own-of a r k m here c = omega (arith, a .own m c, r .grown m)
@@ -383,7 +399,7 @@ most-sum-few s x [] = omega arith
 most-sum-few s x (g ∷ gs) = omega (arith, due-few s g x, most-sum-few s x gs, occurs-append x (g .channels) (allAddresses gs))
 
 due-sum-one : (s : List ℕ) (x : ℕ) (gs : List SrcGroup) → occurs x (allAddresses gs) ≤ 1 → {g : SrcGroup} → In g gs → In x (g .channels)
-  → dueSum s x gs ≡ due s g x
+    → dueSum s x gs ≡ due s g x
 unfolding dueSum allAddresses occurs
 due-sum-one s x (h ∷ gs) once here i =
     omega (arith, due-sum-few s x gs, occurs-append x (h .channels) (allAddresses gs), occurs-in x (h .channels) i)
@@ -451,7 +467,7 @@ abbrev emptyPlan : ℕ → Plan
 emptyPlan n = record { columns = []; omissions = []; fragments = n }
 
 module _ (s : List ℕ) (all : List SrcGroup) (n : ℕ) (p : Plan) (once : (x : ℕ) → occurs x (allAddresses all) ≤ 1)
-  (nonzero : occurs 0 (allAddresses all) ≡ 0) (few : n ≤ 1024) (e : plan s n all ≡ ok p) where
+    (nonzero : occurs 0 (allAddresses all) ≡ 0) (few : n ≤ 1024) (e : plan s n all ≡ ok p) where
   plan-done : GroupsDone s all n all (emptyPlan n) p
   unfolding plan timesAt signalsOf
   plan-done =
@@ -463,46 +479,47 @@ module _ (s : List ℕ) (all : List SrcGroup) (n : ℕ) (p : Plan) (once : (x : 
 
   -- a time column made of a channel of g is g's, so the channel is g's master
   times-master : (g : SrcGroup) → In g all → (x : ℕ) → In x (g .channels) → (c : Column) → In c (p .columns) → c .isTime ≡ true → c .channel ≡ x
-    → (c .group ≡ g) × (masterOf s g ≡ some x)
+      → (c .group ≡ g) × (masterOf s g ≡ some x)
   times-master g i x j c k t q =
       let w = plan-known .sourced c k in
       let z : c .group ≡ g = channel-group all once x (w .groupIn) i (rw q at (w .channelIn)) j in
       (z, ap (masterOf s) (sym z) ∙ timed-master s all c w t ∙ ap some q)
 
   plan-total : (g : SrcGroup) → In g all → isStorage s (g .at) ≡ false → (x : ℕ) → In x (g .channels)
-    → total x p ≡ others (ownMaster (masterOf s g)) x (g .channels) + timesOf x (p .columns)
+      → total x p ≡ others (ownMaster (masterOf s g)) x (g .channels) + timesOf x (p .columns)
   unfolding total timesOf columnsOf omissionsOf
   plan-total g i f x j =
       omega (arith, plan-done .totals x (λ h k q. channel-no-group all once x i j k q), due-sum-one s x all (once x) i j, due-stored s g x f)
 
   -- "every channel .. is one column or one omission"
   pub plan-once : (g : SrcGroup) → In g all → isStorage s (g .at) ≡ false → (x : ℕ) → In x (g .channels)
-    → columnsOf x (p .columns) + omissionsOf x (p .omissions) ≡ 1
+      → columnsOf x (p .columns) + omissionsOf x (p .omissions) ≡ 1
   unfolding total
   plan-once g i f x j = go (masterOf s g) refl
     where
       one : occurs x (g .channels) ≡ 1
       one = channel-once all once x i j
+
       go : (o : Option ℕ) → masterOf s g ≡ o → columnsOf x (p .columns) + omissionsOf x (p .omissions) ≡ 1
       go none q =
           let positive : x ≡ 0 → ⊥ = λ z. omega (arith, nonzero, occurs-in 0 (ownAddresses g) (there (rw z at j)), own-within 0 all i) in
           let none-timed : timesOf x (p .columns) ≡ 0 =
-                times-none x (p .columns) (λ c k t r. none≢some (sym q ∙ times-master g i x j c k t r .1)) in
+          times-none x (p .columns) (λ c k t r. none≢some (sym q ∙ times-master g i x j c k t r .1)) in
           let rest : others (ownMaster (masterOf s g)) x (g .channels) ≡ occurs x (g .channels) = rw q (others-else 0 x (g .channels) positive) in
           omega (arith, plan-total g i f x j, one)
       go (some m) q =
           or-not x m
           (λ z.
-            let mine : 1 ≤ timesOf x (p .columns) = rw z (plan-done .own g m i q) in
-            let single : timesOf x (p .columns) ≤ timesAt (g .at) (p .columns) =
-                  times-within x (g .at) (p .columns) (λ c k t r. ap (λ (h : SrcGroup). h .at) (times-master g i x j c k t r .0)) in
-            let rest : others (ownMaster (masterOf s g)) x (g .channels) ≡ 0 = rw (q, z) (others-own m (g .channels)) in
-            omega (arith, plan-total g i f x j, plan-known .timesOnce (g .at)))
+          let mine : 1 ≤ timesOf x (p .columns) = rw z (plan-done .own g m i q) in
+          let single : timesOf x (p .columns) ≤ timesAt (g .at) (p .columns) =
+          times-within x (g .at) (p .columns) (λ c k t r. ap (λ (h : SrcGroup). h .at) (times-master g i x j c k t r .0)) in
+          let rest : others (ownMaster (masterOf s g)) x (g .channels) ≡ 0 = rw (q, z) (others-own m (g .channels)) in
+          omega (arith, plan-total g i f x j, plan-known .timesOnce (g .at)))
           (λ z.
-            let none-timed : timesOf x (p .columns) ≡ 0 =
-                  times-none x (p .columns) (λ c k t r. z (some-same (sym (times-master g i x j c k t r .1) ∙ q))) in
-            let rest : others (ownMaster (masterOf s g)) x (g .channels) ≡ occurs x (g .channels) = rw q (others-else m x (g .channels) z) in
-            omega (arith, plan-total g i f x j, one))
+          let none-timed : timesOf x (p .columns) ≡ 0 =
+          times-none x (p .columns) (λ c k t r. z (some-same (sym (times-master g i x j c k t r .1) ∙ q))) in
+          let rest : others (ownMaster (masterOf s g)) x (g .channels) ≡ occurs x (g .channels) = rw q (others-else m x (g .channels) z) in
+          omega (arith, plan-total g i f x j, one))
 
   -- "nothing else is a column"
   pub plan-source : (c : Column) → In c (p .columns) → In (c .group) all × (isStorage s (c .group .at) ≡ false) × In (c .channel) (c .group .channels)
@@ -531,8 +548,12 @@ module _ (s : List ℕ) (all : List SrcGroup) (n : ℕ) (p : Plan) (once : (x : 
               let r = made-of x (p .columns) (in-occurs x (columnChannels (p .columns)) (omega arith)) in
               let w = plan-known .sourced (r .column) (r .isIn) in
               let i : In x (r .column .group .channels) = rw (r .made) at (w .channelIn) in
-              omega (arith, channels-count x (p .columns), plan-once (r .column .group) (w .groupIn) (w .stored) x i,
-                all-channels-in x all (w .groupIn) i)
+              omega (
+                arith,
+                channels-count x (p .columns),
+                plan-once (r .column .group) (w .groupIn) (w .stored) x i,
+                all-channels-in x all (w .groupIn) i,
+              )
 
   -- the fragments of signal data and of the walk together keep within the limit
   pub plan-fragments : p .fragments ≤ 1024

@@ -1,25 +1,22 @@
 -- The groups with their counts, as planning takes them: where each comes from, and that addresses tell them apart.
-use Prim.{Unit, tt}
-use Prim.Native.Nat.{ℕ, zero, suc, _+_, _-_, _≤_, _<_}
-use mathlib.Core.List.{List, [], _∷_, _++_, append-nil, append-assoc}
-use mathlib.Core.Path.{_≡_, refl, sym, ap, _∙_, subst}
-use mathlib.Core.Bool.{Bool, true, false}
+use Prim.Native.Nat.{ℕ, suc, _+_, _≤_, _<_}
+use mathlib.Core.List.{List, [], _∷_, _++_}
+use mathlib.Core.Path.{_≡_, refl, sym, ap, _∙_}
 use mathlib.Core.Logic.{_⊎_, inl, inr}
 use native.Mathlib.Omega.{arith}
-use native.Mathlib.Nat.{add-zero}
-use lib.ListN.{length, length-append, drop, getD, List·getD-append}
+use lib.ListN.{length, length-append, getD, List·getD-append}
 use lib.Seq.{drop-at}
-use Rattle.base.specs.Checked.{Checked, ok, refused, Verdict, fine}
-use Rattle.mdf.specs.Block.{DG, CG, CN, blockAt}
-use Rattle.mdf.specs.Chain.{Fragment}
-use Rattle.mdf.specs.Walk.{Item, dg, cg, cn, Source, walk}
+use Rattle.base.specs.Checked.{ok, fine}
+use Rattle.mdf.specs.Block.{CG, CN, blockAt}
+use Rattle.mdf.specs.Walk.{cg, cn, Source, walk}
 use Rattle.mdf.specs.Group.{Group, DataGroup, addresses, dataGroupsOf, dataGroups}
 use Rattle.mdf.specs.Count.{countGroups, counts}
 use Rattle.plan.specs.Columns.{SrcGroup, withCounts, srcGroups}
 use Rattle.result.specs.Guarantee.{In, here, there}
-use Rattle.plan_laws.specs.Lists.{in-left, in-right, in-cases, in-none, same, same-yes, same-no, occurs, occurs-append, occurs-in, Distinct, distinct-of}
-use Rattle.plan_laws.specs.WalkLaws.{itemAddresses, ItemFine, Sound, Open, walk-sound, walk-open}
-use Rattle.plan_laws.specs.GroupLaws.{allAddresses, allChannels, dgAddresses, groupCount, GroupFine, DataGroupFine, GroupOf, GroupIn, Counted, no-more, and-more, counts-counted, counted-length, count-length, addresses-length, groups-occurs, data-groups-fine, cg-is-in, few-channels, few-groups, few-data-groups}
+use Rattle.plan_laws.specs.Lists.{in-left, in-right, in-cases, in-none, same-yes, occurs, occurs-append, occurs-in, Distinct, distinct-of}
+use Rattle.plan_laws.specs.WalkLaws.{Sound, walk-sound, walk-open}
+use Rattle.plan_laws.specs.OrderLaws.{walk-follows, cn-is-in}
+use Rattle.plan_laws.specs.GroupLaws.{allAddresses, allChannels, dgAddresses, groupCount, DataGroupFine, Counted, no-more, and-more, counts-counted, counted-length, count-length, addresses-length, groups-occurs, data-groups-fine, cg-is-in, few-channels, few-groups, few-data-groups}
 
 -- ---- one group and its count
 pub record Numbered (d : DataGroup) (k : ℕ) (gs : List Group) (ns : List ℕ) (g : SrcGroup) : Type 0 where
@@ -43,8 +40,17 @@ numbered d k (h ∷ gs) (n ∷ ns) g here =
 numbered d k (h ∷ gs) (n ∷ ns) g (there i) =
     let r = numbered d (k + 1) gs ns g i in
     record {
-      index = suc (r .index); within = omega arith; ofDG = r .ofDG; number = omega (arith, r .number); place = r .place; records = r .records;
-      group = r .group; groupIn = there (r .groupIn); sameAt = r .sameAt; sameChannels = r .sameChannels }
+      index = suc (r .index);
+      within = omega arith;
+      ofDG = r .ofDG;
+      number = omega (arith, r .number);
+      place = r .place;
+      records = r .records;
+      group = r .group;
+      groupIn = there (r .groupIn);
+      sameAt = r .sameAt;
+      sameChannels = r .sameChannels;
+    }
 
 -- where a group with its count comes from
 pub record Origin (s : List ℕ) (ds : List DataGroup) (g : SrcGroup) : Type 0 where
@@ -60,7 +66,7 @@ pub record Origin (s : List ℕ) (ds : List DataGroup) (g : SrcGroup) : Type 0 w
   pub records : getD numbers (g .number) 0 ≡ g .records
 
 origin-here : (s : List ℕ) (d : DataGroup) (ds : List DataGroup) (ms rest : List ℕ) (g : SrcGroup) → Numbered d 0 (d .groups) (ms ++ rest) g
-  → countGroups s (d .at) (addresses (d .groups)) (d .fragments) ≡ ok ms → Origin s (d ∷ ds) g
+    → countGroups s (d .at) (addresses (d .groups)) (d .fragments) ≡ ok ms → Origin s (d ∷ ds) g
 origin-here s d ds ms rest g r c =
     let n : g .number ≡ r .index = omega (arith, r .number) in
     let e : length (addresses (d .groups)) ≡ length (d .groups) = addresses-length (d .groups) in
@@ -75,18 +81,28 @@ origin-here s d ds ms rest g r c =
       place = rw (r .ofDG, n) (r .place);
       numbers = ms;
       counted = rw (r .ofDG) c;
-      records = rw n (sym (List·getD-append ms rest 0 (r .index) l) ∙ r .records) }
+      records = rw n (sym (List·getD-append ms rest 0 (r .index) l) ∙ r .records);
+    }
 
 origin-later : {s : List ℕ} {d : DataGroup} {ds : List DataGroup} {g : SrcGroup} → Origin s ds g → Origin s (d ∷ ds) g
 origin-later r =
     record {
-      dataGroupIn = there (r .dataGroupIn); group = r .group; groupIn = r .groupIn; sameAt = r .sameAt; sameChannels = r .sameChannels;
-      numbered = r .numbered; place = r .place; numbers = r .numbers; counted = r .counted; records = r .records }
+      dataGroupIn = there (r .dataGroupIn);
+      group = r .group;
+      groupIn = r .groupIn;
+      sameAt = r .sameAt;
+      sameChannels = r .sameChannels;
+      numbered = r .numbered;
+      place = r .place;
+      numbers = r .numbers;
+      counted = r .counted;
+      records = r .records;
+    }
 
 -- the groups of the first DG, then those of the others
 src-cons : (s : List ℕ) (d : DataGroup) (ds : List DataGroup) (ms rest : List ℕ)
-  → countGroups s (d .at) (addresses (d .groups)) (d .fragments) ≡ ok ms
-  → srcGroups (d ∷ ds) (ms ++ rest) ≡ withCounts d 0 (d .groups) (ms ++ rest) ++ srcGroups ds rest
+    → countGroups s (d .at) (addresses (d .groups)) (d .fragments) ≡ ok ms
+    → srcGroups (d ∷ ds) (ms ++ rest) ≡ withCounts d 0 (d .groups) (ms ++ rest) ++ srcGroups ds rest
 unfolding srcGroups
 src-cons s d ds ms rest c =
     let e : length ms ≡ length (d .groups) = count-length s (d .at) (addresses (d .groups)) (d .fragments) ms c ∙ addresses-length (d .groups) in
@@ -120,11 +136,11 @@ with-counts-has d k (g ∷ gs) (n ∷ ns) l h (there i) =
     record { source = r .source; isIn = there (r .isIn); ofDG = r .ofDG; at = r .at; channels = r .channels }
 
 pub src-has : (s : List ℕ) (ds : List DataGroup) (ns : List ℕ) → Counted s ds ns → (d : DataGroup) → In d ds → (h : Group) → In h (d .groups)
-  → SrcAt d h (srcGroups ds ns)
+    → SrcAt d h (srcGroups ds ns)
 src-has s [] ns no-more d i h j = absurd (in-none i)
 src-has s (d ∷ ds) ns (and-more ms rest e c r) d' here h j =
     let l : length (d .groups) ≤ length (ms ++ rest) =
-          rw length-append (omega (arith, count-length s (d .at) (addresses (d .groups)) (d .fragments) ms c, addresses-length (d .groups))) in
+    rw length-append (omega (arith, count-length s (d .at) (addresses (d .groups)) (d .fragments) ms c, addresses-length (d .groups))) in
     let t = with-counts-has d 0 (d .groups) (ms ++ rest) l h j in
     rw (e, src-cons s d ds ms rest c) (record { source = t .source; isIn = in-left (srcGroups ds rest) (t .isIn); ofDG = t .ofDG; at = t .at; channels = t .channels })
 src-has s (d ∷ ds) ns (and-more ms rest e c r) d' (there i) h j =
@@ -144,6 +160,12 @@ pub record SrcGroupAt (a : ℕ) (gs : List SrcGroup) : Type 0 where
   pub isIn : In group gs
   pub at : group .at ≡ a
 
+-- a CN of the walk, as a channel
+pub record ChannelAt (a : ℕ) (gs : List SrcGroup) : Type 0 where
+  pub group : SrcGroup
+  pub isIn : In group gs
+  pub channelIn : In a (group .channels)
+
 pub record Groups (s : List ℕ) (st : Source) (ns : List ℕ) (gs : List SrcGroup) : Type 0 where
   -- as many counts as groups
   pub counted : Counted s (dataGroups st) ns
@@ -151,9 +173,10 @@ pub record Groups (s : List ℕ) (st : Source) (ns : List ℕ) (gs : List SrcGro
   -- every address of a DG, a group or a channel stands in one place only, and none is 0
   pub once : (x : ℕ) → occurs x (dgAddresses (dataGroups st)) + occurs x (allAddresses gs) ≤ 1
   pub nonzero : occurs 0 (allAddresses gs) ≡ 0
-  -- every group comes from a DG of the walk, with its count; every CG of the walk is a group; their blocks passed their checks
+  -- every group comes from a DG of the walk, with its count; every CG of the walk is a group, every CN a channel; their blocks passed their checks
   pub origins : (g : SrcGroup) → In g gs → Origin s (dataGroups st) g
   pub complete : (a : ℕ) → In (cg a) (st .items) → SrcGroupAt a gs
+  pub completeCN : (a : ℕ) → In (cn a) (st .items) → ChannelAt a gs
   pub checkedDG : (d : DataGroup) → In d (dataGroups st) → DataGroupFine s d
   pub checked : (g : SrcGroup) → In g gs → SourceFine s g
   -- limits
@@ -169,7 +192,7 @@ source-fine s ds h g o =
     record { dataGroup = d; block = rw (o .sameAt) at (f .block); channels = λ c i. f .channels c (rw (o .sameChannels) i) }
 
 pub groups-known : (s : List ℕ) (st : Source) (ns : List ℕ) → walk s ≡ ok st → counts s (dataGroups st) ≡ ok ns
-  → Groups s st ns (srcGroups (dataGroups st) ns)
+    → Groups s st ns (srcGroups (dataGroups st) ns)
 unfolding dataGroups
 groups-known s st ns w k =
     record {
@@ -179,28 +202,41 @@ groups-known s st ns w k =
       nonzero = omega (arith, groups-occurs (st .fragments) (st .items) ns 0, h .nonzero);
       origins = from;
       complete = all;
+      completeCN = allCN;
       checkedDG = fineDG;
       checked = λ g i. source-fine s ds fineDG g (from g i);
       fewDG = omega (arith, few-data-groups (st .fragments) (st .items), h .fewDG);
       fewGroups = omega (arith, few-groups (st .fragments) (st .items) ns, h .fewCG);
       fewChannels = omega (arith, few-channels (st .fragments) (st .items) ns, h .fewCN);
-      fewFragments = h .fewFragments }
+      fewFragments = h .fewFragments;
+    }
   where
     ds : List DataGroup
     ds = dataGroupsOf (st .fragments) (st .items)
+
     h : Sound s st
     h = walk-sound s st w
+
     c : Counted s ds ns
     c = counts-counted s ds ns k
+
     fineDG : (d : DataGroup) → In d ds → DataGroupFine s d
     fineDG = data-groups-fine s (st .fragments) (st .items) (h .checked)
+
     from : (g : SrcGroup) → In g (srcGroups ds ns) → Origin s ds g
     from = origin s ds ns c
+
     all : (a : ℕ) → In (cg a) (st .items) → SrcGroupAt a (srcGroups ds ns)
     all a i =
         let r = cg-is-in (st .fragments) a (st .items) (walk-open s st w) i in
         let t = src-has s ds ns c (r .dataGroup) (r .isIn) (r .group .group) (r .group .isIn) in
         record { group = t .source; isIn = t .isIn; at = t .at ∙ r .group .at }
+
+    allCN : (a : ℕ) → In (cn a) (st .items) → ChannelAt a (srcGroups ds ns)
+    allCN a i =
+        let r = cn-is-in (st .fragments) a (st .items) (walk-open s st w) (walk-follows s st w) i in
+        let t = src-has s ds ns c (r .dataGroup) (r .isIn) (r .group) (r .groupIn) in
+        record { group = t .source; isIn = t .isIn; channelIn = rw (t .channels) (r .channelIn) }
 
 -- ---- addresses tell groups and channels apart
 
@@ -215,15 +251,27 @@ own-within x (h ∷ gs) (there i) = omega (arith, occurs-append x (ownAddresses 
 
 -- groups that share an address are one
 pub one-group : (gs : List SrcGroup) → ((x : ℕ) → occurs x (allAddresses gs) ≤ 1) → {g h : SrcGroup} → In g gs → In h gs
-  → (x : ℕ) → In x (ownAddresses g) → In x (ownAddresses h) → g ≡ h
+    → (x : ℕ) → In x (ownAddresses g) → In x (ownAddresses h) → g ≡ h
 unfolding allAddresses
 one-group (k ∷ gs) once here here x i j = refl
 one-group (k ∷ gs) once {h = h} here (there b) x i j =
-    absurd (omega (arith, once x, occurs-append x (ownAddresses k) (allAddresses gs), occurs-in x (ownAddresses k) i,
-      occurs-in x (ownAddresses h) j, own-within x gs b))
+    absurd (omega (
+      arith,
+      once x,
+      occurs-append x (ownAddresses k) (allAddresses gs),
+      occurs-in x (ownAddresses k) i,
+      occurs-in x (ownAddresses h) j,
+      own-within x gs b,
+    ))
 one-group (k ∷ gs) once {g = g} (there a) here x i j =
-    absurd (omega (arith, once x, occurs-append x (ownAddresses k) (allAddresses gs), occurs-in x (ownAddresses k) j,
-      occurs-in x (ownAddresses g) i, own-within x gs a))
+    absurd (omega (
+      arith,
+      once x,
+      occurs-append x (ownAddresses k) (allAddresses gs),
+      occurs-in x (ownAddresses k) j,
+      occurs-in x (ownAddresses g) i,
+      own-within x gs a,
+    ))
 one-group (k ∷ gs) once (there a) (there b) x i j =
     one-group gs (λ y. omega (arith, once y, occurs-append y (ownAddresses k) (allAddresses gs))) a b x i j
 

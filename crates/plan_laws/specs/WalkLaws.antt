@@ -1,24 +1,23 @@
 -- What the walk has met: every address once and none 0, every block checked, within the limits.
 use Prim.{Unit, tt}
-use Prim.Native.Nat.{ℕ, zero, suc, _+_, _-_, _≤_, _<_}
+use Prim.Native.Nat.{ℕ, zero, suc, _+_, _≤_, _<_}
 use mathlib.Core.List.{List, [], _∷_, _++_}
 use mathlib.Core.Path.{_≡_, refl, sym, ap, _∙_, subst}
-use mathlib.Core.Bool.{Bool, true, false}
+use mathlib.Core.Bool.{true, false}
 use mathlib.Core.Logic.{_⊎_, inl, inr}
 use native.Mathlib.Omega.{arith}
 use lib.ListN.{length, length-append}
 use lib.Dec.{eqb}
 use borrow.Author.Tests.{eqb-false}
-use Rattle.base.specs.Choice.{pick, ifLt, ifEq}
 use Rattle.base.specs.ChoiceLaws.{lt-first}
-use Rattle.base.specs.Checked.{Checked, ok, refused, andThen, Verdict, fine}
+use Rattle.base.specs.Checked.{Checked, ok, fine}
 use Rattle.mdf.specs.Block.{HD, DG, CG, CN, linkAt, blockAt}
 use Rattle.mdf.specs.Name.{nameAt}
-use Rattle.mdf.specs.Chain.{Fragment, Chain.records, Found, found, stopped, limits, chain}
+use Rattle.mdf.specs.Chain.{Chain.records, Found, found, stopped, limits, chain}
 use Rattle.mdf.specs.Walk.{Item, dg, cg, cn, address, Source, source, isMet, Level, levelDG, levelCG, levelCN, tally, visit, entered, level, turns, belowCN, belowCG, idSizeIn, withFound, belowDG, walk}
-use Rattle.result.specs.Guarantee.{In, here, there}
+use Rattle.result.specs.Guarantee.{In}
 use Rattle.plan_laws.specs.Answers.{refused≢ok, ok-same, with-ok, pick-no, eq-cases, pick-cases, or-not}
-use Rattle.plan_laws.specs.Lists.{in-left, in-cases, in-one, in-none, same, same-yes, same-no, occurs, occurs-append}
+use Rattle.plan_laws.specs.Lists.{in-cases, in-one, in-none, same, same-yes, same-no, occurs, occurs-append}
 use Rattle.plan_laws.specs.ChainLaws.{chain-fits}
 
 unfoldable pub itemAddresses : List Item → List ℕ
@@ -81,8 +80,8 @@ tally-more own is i = tally-append own is (i ∷ []) ∙ omega arith
 
 module _ (s : List ℕ) (st : Source) (i : Item) (h : Sound s st) (nonzero : address i ≡ 0 → ⊥) (unmet : isMet (address i) (st .items) ≡ false) where
   item-more : ItemFine s i
-    → tally (levelDG .own) (st .items) + levelDG .own i ≤ 512 → tally (levelCG .own) (st .items) + levelCG .own i ≤ 512
-    → tally (levelCN .own) (st .items) + levelCN .own i ≤ 512 → Sound s (source (st .items ++ (i ∷ [])) (st .fragments))
+      → tally (levelDG .own) (st .items) + levelDG .own i ≤ 512 → tally (levelCG .own) (st .items) + levelCG .own i ≤ 512
+      → tally (levelCN .own) (st .items) + levelCN .own i ≤ 512 → Sound s (source (st .items ++ (i ∷ [])) (st .fragments))
   item-more fine d g n =
       record {
         once = λ b. rw (occurs-more b (st .items) i) (one b);
@@ -91,14 +90,16 @@ module _ (s : List ℕ) (st : Source) (i : Item) (h : Sound s st) (nonzero : add
         fewDG = rw (tally-more (levelDG .own) (st .items) i) d;
         fewCG = rw (tally-more (levelCG .own) (st .items) i) g;
         fewCN = rw (tally-more (levelCN .own) (st .items) i) n;
-        fewFragments = h .fewFragments }
+        fewFragments = h .fewFragments;
+      }
     where
       one : (b : ℕ) → occurs b (itemAddresses (st .items)) + same (address i) b ≤ 1
       one b =
           or-not (address i) b
           (λ e. let z : occurs b (itemAddresses (st .items)) ≡ 0 = rw e at (not-met (address i) (st .items) unmet) in
-            omega (arith, same-yes (address i) b e))
+          omega (arith, same-yes (address i) b e))
           (λ e. omega (arith, h .once b, same-no (address i) b e))
+
       each : (j : Item) → In j (st .items) ⊎ In j (i ∷ []) → ItemFine s j
       each j (inl m) = h .checked j m
       each j (inr m) = subst (ItemFine s) (sym (in-one m)) fine
@@ -155,9 +156,9 @@ open-opened (cn a ∷ is) h = absurd h
 
 -- ---- one level: P holds between blocks, Q after a block is entered
 pub level-keeps : (P Q : Source → Type 0) (k : Level) (below : ℕ → Source → Checked Source) (s : List ℕ)
-  → ((a : ℕ) (st : Source) → (a ≡ 0 → ⊥) → P st → visit k s st a ≡ fine → Q (entered k a st))
-  → ((a : ℕ) (st st' : Source) → Q st → below a st ≡ ok st' → P st')
-  → (turns a : ℕ) (st st' : Source) → P st → level k below turns s a st ≡ ok st' → P st'
+    → ((a : ℕ) (st : Source) → (a ≡ 0 → ⊥) → P st → visit k s st a ≡ fine → Q (entered k a st))
+    → ((a : ℕ) (st st' : Source) → Q st → below a st ≡ ok st' → P st')
+    → (turns a : ℕ) (st st' : Source) → P st → level k below turns s a st ≡ ok st' → P st'
 unfolding level
 level-keeps P Q k below s enter under zero a st st' h e = absurd (refused≢ok e)
 level-keeps P Q k below s enter under (suc turns) a st st' h e =
@@ -184,18 +185,24 @@ module _ (s : List ℕ) where
   below-cg a st st' h e =
       with-ok (nameAt s (linkAt s a 2)) _ e (λ _ _ q.
       level-keeps (SoundIn s) (SoundIn s) levelCN (belowCN s) s
-        (λ a st n h v. record { sound = enter-cn s st a n (h .sound) v; opened = opened-more (st .items) _ (h .opened) })
-        below-cn turns (linkAt s a 1) st st' h q)
+      (λ a st n h v. record { sound = enter-cn s st a n (h .sound) v; opened = opened-more (st .items) _ (h .opened) })
+      below-cn turns (linkAt s a 1) st st' h q)
 
   fragments-more : (v : Found) (st st' : Source) (a : ℕ) → SoundIn s st → chain records limits s (length (st .fragments)) a ≡ v
-    → withFound v st ≡ ok st' → SoundIn s st'
+      → withFound v st ≡ ok st' → SoundIn s st'
   fragments-more (found fs) st st' a h c e =
       subst (SoundIn s) (ok-same e) (record {
         sound = record {
-          once = h .sound .once; nonzero = h .sound .nonzero; checked = h .sound .checked;
-          fewDG = h .sound .fewDG; fewCG = h .sound .fewCG; fewCN = h .sound .fewCN;
-          fewFragments = rw length-append (chain-fits records limits s (length (st .fragments)) a fs (h .sound .fewFragments) c) };
-        opened = h .opened })
+          once = h .sound .once;
+          nonzero = h .sound .nonzero;
+          checked = h .sound .checked;
+          fewDG = h .sound .fewDG;
+          fewCG = h .sound .fewCG;
+          fewCN = h .sound .fewCN;
+          fewFragments = rw length-append (chain-fits records limits s (length (st .fragments)) a fs (h .sound .fewFragments) c);
+        };
+        opened = h .opened;
+      })
   fragments-more (stopped n p fs) st st' a h c e = absurd (refused≢ok e)
 
   below-dg : (a : ℕ) (st st' : Source) → SoundIn s st → belowDG s a st ≡ ok st' → SoundAt s st'
@@ -204,8 +211,8 @@ module _ (s : List ℕ) where
       with-ok (withFound (chain records limits s (length (st .fragments)) (linkAt s a 2)) st) _ e (λ st2 f q.
       with-ok (idSizeIn s a) _ q (λ _ _ q.
       let r = level-keeps (SoundIn s) (SoundIn s) levelCG (belowCG s) s
-            (λ a st n h v. record { sound = enter-cg s st a n (h .sound) v; opened = opened-more (st .items) _ (h .opened) })
-            below-cg turns (linkAt s a 1) st2 st' (fragments-more _ st st2 (linkAt s a 2) h refl f) q in
+      (λ a st n h v. record { sound = enter-cg s st a n (h .sound) v; opened = opened-more (st .items) _ (h .opened) })
+      below-cg turns (linkAt s a 1) st2 st' (fragments-more _ st st2 (linkAt s a 2) h refl f) q in
       record { sound = r .sound; opening = open-opened (st' .items) (r .opened) }))
 
   nothing : SoundAt s (source [] [])
@@ -213,17 +220,24 @@ module _ (s : List ℕ) where
   nothing =
       record {
         sound = record {
-          once = λ a. omega arith; nonzero = refl; checked = λ i m. absurd (in-none m);
-          fewDG = omega arith; fewCG = omega arith; fewCN = omega arith; fewFragments = omega arith };
-        opening = tt }
+          once = λ a. omega arith;
+          nonzero = refl;
+          checked = λ i m. absurd (in-none m);
+          fewDG = omega arith;
+          fewCG = omega arith;
+          fewCN = omega arith;
+          fewFragments = omega arith;
+        };
+        opening = tt;
+      }
 
   pub walk-sound-at : (st : Source) → walk s ≡ ok st → SoundAt s st
   unfolding walk entered
   walk-sound-at st e =
       with-ok (blockAt HD s 64) _ e (λ _ _ q.
       level-keeps (SoundAt s) (SoundIn s) levelDG (belowDG s) s
-        (λ a st n h v. record { sound = enter-dg s st a n (h .sound) v; opened = open-dg (st .items) a _ (h .opening) })
-        below-dg turns (linkAt s 64 0) (source [] []) st nothing q)
+      (λ a st n h v. record { sound = enter-dg s st a n (h .sound) v; opened = open-dg (st .items) a _ (h .opening) })
+      below-dg turns (linkAt s 64 0) (source [] []) st nothing q)
 
   -- the whole walk
   pub walk-sound : (st : Source) → walk s ≡ ok st → Sound s st
