@@ -1,0 +1,5 @@
+pub mod Answer
+pub mod Range
+pub mod RangeLaws
+pub mod IdentificationLaws
+pub mod Cases
