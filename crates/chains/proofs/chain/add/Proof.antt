@@ -1,0 +1,24 @@
+-- The limit decides.
+use Rattle.chains.specs.TurnLaws.{add-kept, add-full}
+use native.Mathlib.Omega.{arith}
+use borrow.Author.Needs.{needs}
+use Rattle.chains.proofs.chain.add.Statement.{statement}
+use Rattle.chains.proofs.chain.add.Tie as tie
+
+keep-requires : tie.Need-keep-requires
+keep-requires c κs = search needs
+
+add-t9 : tie.Need-add-t9
+add-t9 c = search needs
+
+same-length : tie.Need-same-length
+same-length c = search needs
+
+returns : tie.Need-returns
+returns c = add-kept _ _ _ _ (omega arith) (c .before .before .keep .ensures)
+
+returns-2 : tie.Need-returns-2
+returns-2 c = add-full _ _ _ _ (omega arith)
+
+pub add-spec : {M : Type 1} → statement M
+add-spec = tie.close (tie.spec keep-requires add-t9 same-length returns returns-2)
