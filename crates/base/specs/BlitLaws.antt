@@ -95,3 +95,8 @@ pub blit-comm : (xs : List ℕ) (i j : ℕ) (ys l : List ℕ) → i + length xs 
 unfolding blit
 blit-comm [] i j ys l h = refl
 blit-comm (x ∷ xs) i j ys l h = ap (blit (suc i) xs) (set-blit ys i j x l (omega arith)) ∙ blit-comm xs (suc i) j ys (set l i x) (omega arith)
+
+-- a part that lies in a list is as long as it says
+pub length-part : {A : Type 0} (i n : ℕ) (l : List A) → i + n ≤ length l → length (part i n l) ≡ n
+unfolding part
+length-part i n l h = length-take-le n (drop i l) (simp length-drop (omega arith))

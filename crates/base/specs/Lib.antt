@@ -5,3 +5,4 @@ pub mod FieldLaws
 pub mod Blit
 pub mod BlitLaws
 pub mod Checked
+pub mod CheckedLaws

@@ -7,15 +7,10 @@ use Rattle.base.specs.Checked.{Checked, ok, refused, andThen, Verdict, fine}
 use Rattle.fields.specs.declared.Check.{Check}
 use Rattle.fields.specs.declared.Check.the-variants.{Fine, Refused}
 use Rattle.fields.specs.Answer.{verdictOf}
-
-pub refused≢ok : {A : Type 0} {n p : ℕ} {x : A} → _≡_ {A = Checked A} (refused n p) (ok x) → ⊥
-refused≢ok e = let z : _≡_ {A = ℕ} 0 1 = cc in omega arith
+pub use Rattle.base.specs.CheckedLaws.{refused≢ok, ok-same, then-fine}
 
 pub ok≢refused : {A : Type 0} {n p : ℕ} {x : A} → _≡_ {A = Checked A} (ok x) (refused n p) → ⊥
 ok≢refused e = refused≢ok (sym e)
-
-pub ok-same : {A : Type 0} {x y : A} → _≡_ {A = Checked A} (ok x) (ok y) → x ≡ y
-ok-same e = cc
 
 -- ---- from the verdict to the answer
 pub is-fine : (c : Check) → verdictOf c ≡ fine → c ≡ Fine
@@ -42,6 +37,3 @@ module _ {A B : Type 0} (v : Checked A) (f : A → Checked B) where
   then-ok e = rw e
 
 -- what passed as a whole passed in both parts
-pub then-fine : {B : Type 0} (v : Verdict) (f : Unit {0} → Checked B) {y : B} → andThen v f ≡ ok y → (v ≡ fine) × (f tt ≡ ok y)
-then-fine (ok x) f e = (refl, e)
-then-fine (refused n p) f e = absurd (refused≢ok e)

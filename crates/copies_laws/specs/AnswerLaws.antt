@@ -12,17 +12,7 @@ use Rattle.base.specs.Choice.{pick, ifEq}
 use Rattle.base.specs.ChoiceLaws.{eq-yes, eq-no, lt-back}
 use Rattle.base.specs.Checked.{Checked, ok, refused, andThen}
 use Rattle.mdf.specs.Block.{sizeAt, linksAt, headerIn, lengthIn, mostBytes, wholeAt}
-
-pub refused≢ok : {A : Type 0} {n p : ℕ} {x : A} → _≡_ {A = Checked A} (refused n p) (ok x) → ⊥
-refused≢ok e = let z : _≡_ {A = ℕ} 0 1 = cc in omega arith
-
-pub ok-same : {A : Type 0} {x y : A} → _≡_ {A = Checked A} (ok x) (ok y) → x ≡ y
-ok-same e = cc
-
--- both parts of what was accepted were accepted
-pub then-ok : {A B : Type 0} (v : Checked A) (f : A → Checked B) {y : B} → andThen v f ≡ ok y → (x : A) × (v ≡ ok x) × (f x ≡ ok y)
-then-ok (ok x) f e = (x, refl, e)
-then-ok (refused n p) f e = absurd (refused≢ok e)
+pub use Rattle.base.specs.CheckedLaws.{refused≢ok, ok-same, then-ok}
 
 -- a choice whose answers both have a property
 pub by-eq : {A P : Type 0} {r : A} (m n : ℕ) (a b : A) → ifEq m n a b ≡ r → (a ≡ r → P) → (b ≡ r → P) → P

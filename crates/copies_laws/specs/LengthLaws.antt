@@ -18,14 +18,8 @@ use Rattle.result.specs.Fill.{header, newLinks, copiedLinks, dataOf, copiedByte
   cnData, cnBytes, blockLinks, dlBytes, atBytes, hdData, hdBytes}
 use Rattle.copies_laws.specs.AnswerLaws.{Whole}
 use Rattle.copies_laws.specs.AttachLaws.{Moved}
-
-pub length-part : (i n : ℕ) (s : List ℕ) → i + n ≤ length s → length (part i n s) ≡ n
-unfolding part
-length-part i n s h = length-take-le n (drop i s) (rw length-drop (omega arith))
-
-pub length-header : (kind size links : ℕ) → length (header kind size links) ≡ 24
-unfolding header
-length-header kind size links = simp (length-append, length-le)
+pub use Rattle.base.specs.BlitLaws.{length-part}
+pub use Rattle.result.specs.FillLaws.{length-header}
 
 pub length-newLinks : (s : List ℕ) (memo : List Copy) (k p : ℕ) → length (newLinks s memo k p) ≡ 8 * k
 unfolding newLinks

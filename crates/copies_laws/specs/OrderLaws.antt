@@ -16,6 +16,7 @@ use Rattle.copies_laws.specs.AnswerLaws.{on-eq}
 use Rattle.copies_laws.specs.Laid.{Laid}
 use Rattle.copies_laws.specs.AttachLaws.{LaidAt}
 use Rattle.copies_laws.specs.LengthLaws.{length-copied, length-at, InImage, length-dg, length-cg, length-cn, length-dl}
+pub use Rattle.result.specs.OrderedLaws.{ordered-append}
 
 pub ordered-from : (a c e : ℕ) (bs : List Block) → a ≤ c → Ordered c bs e → Ordered a bs e
 unfolding Ordered
@@ -26,11 +27,6 @@ pub ordered-to : (a d e : ℕ) (bs : List Block) → Ordered a bs d → d ≤ e 
 unfolding Ordered
 ordered-to a d e [] o h = omega arith
 ordered-to a d e (b ∷ bs) o h = (o .0, ordered-to _ d e bs (o .1) h)
-
-pub ordered-append : (a b e : ℕ) (xs ys : List Block) → Ordered a xs b → Ordered b ys e → Ordered a (xs ++ ys) e
-unfolding Ordered
-ordered-append a b e [] ys o k = ordered-from a b e ys o k
-ordered-append a b e (x ∷ xs) ys o k = (o .0, ordered-append _ b e xs ys (o .1) k)
 
 pub ordered-ends : (a e : ℕ) (bs : List Block) → Ordered a bs e → a ≤ e
 unfolding Ordered

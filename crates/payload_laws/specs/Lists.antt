@@ -7,6 +7,7 @@ use lib.ListN.{length, take, drop, length-append, length-drop}
 use lib.Seq.{length-take-le}
 use Rattle.base.specs.Blit.{part}
 use Rattle.result.specs.Guarantee.{In, here, there}
+pub use Rattle.base.specs.BlitLaws.{length-part}
 
 -- every list has n elements
 pub data Long (n : ℕ) : List (List ℕ) → Type 0 where
@@ -42,10 +43,6 @@ long-take (suc i) (next e l) = next e (long-take i l)
 pub long-each : {n : ℕ} {rs : List (List ℕ)} {r : List ℕ} → Long n rs → In r rs → length r ≡ n
 long-each (next e l) here = e
 long-each (next e l) (there i) = long-each l i
-
-pub length-part : (i n : ℕ) (l : List ℕ) → i + n ≤ length l → length (part i n l) ≡ n
-unfolding part
-length-part i n l h = length-take-le n (drop i l) (simp length-drop (omega arith))
 
 -- an element of two lists joined is in one of them
 pub in-append : {A B : Type 0} {x : A} (as' bs : List A) → (In x as' → B) → (In x bs → B) → In x (as' ++ bs) → B

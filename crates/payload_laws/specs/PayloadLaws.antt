@@ -16,6 +16,7 @@ use Rattle.result.specs.Fill.{Block, header, words, framed, blockLinks, payload
 use Rattle.result.specs.Ordered.{Ordered}
 use Rattle.payload_laws.specs.Lists.{Long, long-take, long-drop, together}
 use Rattle.payload_laws.specs.CellLaws.{length-cells, cells-append}
+pub use Rattle.result.specs.FillLaws.{length-header}
 
 -- ---- payloads of records
 
@@ -50,10 +51,6 @@ payloads-even s g c m (suc j) rs f l h =
     next x (payloads-even s g c m j (drop m rs) f (long-drop m l) (rw length-drop (omega arith)))
 
 -- ---- blocks one after the other
-
-pub length-header : (kind size links : ℕ) → length (header kind size links) ≡ 24
-unfolding header
-length-header kind size links = simp (length-append, length-le)
 
 pub length-framed : (kind : ℕ) (p : List ℕ) → length (framed kind p) ≡ 24 + length p
 unfolding framed

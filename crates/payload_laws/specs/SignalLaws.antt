@@ -27,6 +27,7 @@ use Rattle.payload_laws.specs.CountLaws.{member, all-checked}
 use Rattle.payload_laws.specs.GeometryLaws.{align-up}
 use Rattle.payload_laws.specs.PayloadLaws.{length-framed}
 use Rattle.payload_laws.specs.ColumnLaws.{Ready, column-ordered}
+pub use Rattle.result.specs.OrderedLaws.{ordered-append}
 
 -- of the columns from the DG at d
 signals-each : (s : List ℕ) (d : ℕ) (cs : List Column) (c : Column) → signalsIn s d cs ≡ fine → In c cs → c .group .dataGroup .at ≡ d
@@ -65,12 +66,6 @@ signal-ordered s (signalData fs) a e =
     (le-refl a, omega (arith, joined-length s fs e))
 
 -- ---- all columns
-
-pub ordered-append : (a b e : ℕ) (xs ys : List Block) → Ordered a xs b → Ordered b ys e → Ordered a (xs ++ ys) e
-unfolding Ordered
-ordered-append a b e [] [] o p = omega arith
-ordered-append a b e [] (y ∷ ys) o p = (omega (arith, p .0), p .1)
-ordered-append a b e (x ∷ xs) ys o p = (o .0, ordered-append _ b e xs ys (o .1) p)
 
 -- the data of all columns, in order, from d on to its end
 pub data-ordered : (s : List ℕ) (size a d : ℕ) (cs : List Column) → ((c : Column) → In c cs → Ready s c)

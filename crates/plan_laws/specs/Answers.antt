@@ -9,12 +9,7 @@ use borrow.Author.Tests.{eqb-true, eqb-false}
 use Rattle.base.specs.Choice.{pick, ifEq}
 use Rattle.base.specs.ChoiceLaws.{eq-yes, eq-no}
 use Rattle.base.specs.Checked.{Checked, ok, refused, andThen, Verdict, fine}
-
-pub refused≢ok : {A : Type 0} {n p : ℕ} {x : A} → _≡_ {A = Checked A} (refused n p) (ok x) → ⊥
-refused≢ok e = let z : _≡_ {A = ℕ} 0 1 = cc in omega arith
-
-pub ok-same : {A : Type 0} {x y : A} → _≡_ {A = Checked A} (ok x) (ok y) → x ≡ y
-ok-same e = cc
+pub use Rattle.base.specs.CheckedLaws.{refused≢ok, ok-same, then-fine}
 
 pub true≢false : true ≡ false → ⊥
 true≢false e = let z : _≡_ {A = ℕ} 0 1 = cc in omega arith
@@ -23,11 +18,6 @@ true≢false e = let z : _≡_ {A = ℕ} 0 1 = cc in omega arith
 pub with-ok : {A B R : Type 0} (v : Checked A) (f : A → Checked B) {y : B} → andThen v f ≡ ok y → ((x : A) → v ≡ ok x → f x ≡ ok y → R) → R
 with-ok (ok x) f e k = k x refl e
 with-ok (refused n p) f e k = absurd (refused≢ok e)
-
--- what passed as a whole passed in both parts
-pub then-fine : {B : Type 0} (v : Verdict) (f : Unit {0} → Checked B) {y : B} → andThen v f ≡ ok y → (v ≡ fine) × (f tt ≡ ok y)
-then-fine (ok x) f e = (refl, e)
-then-fine (refused n p) f e = absurd (refused≢ok e)
 
 -- a refusal where a test holds, else what follows
 pub pick-no : {A : Type 0} (t : Bool) (n p : ℕ) (v : Checked A) {y : A} → pick t (refused n p) v ≡ ok y → (t ≡ false) × (v ≡ ok y)

@@ -10,10 +10,7 @@ use Rattle.mdf.specs.Block.{kindAt, sizeAt, linksAt, linkAt, dataAt}
 use Rattle.result.specs.Fill.{header, words}
 use Rattle.result.specs.Guarantee.{Stands}
 use Rattle.shown_laws.specs.Standing.{stands-to, stands-front, stands-at, read}
-
-pub length-header : (k n c : ℕ) → length (header k n c) ≡ 24
-unfolding header
-length-header k n c = simp (length-append, length-le)
+pub use Rattle.result.specs.FillLaws.{length-header}
 
 -- ---- where a header stands
 module _ {f : List ℕ} {a : ℕ} (k n c : ℕ) (s : Stands f a (header k n c)) where

@@ -18,6 +18,7 @@ use Rattle.result.specs.Fill.{columnPayload}
 use Rattle.result.specs.Guarantee.{duePayload}
 use Rattle.shown_laws.specs.Joined.{EqualBut}
 use Rattle.shown_laws.specs.ColumnShown.{ColumnSound, choice-small}
+pub use Rattle.base.specs.BlitLaws.{length-part}
 
 -- a field of n bytes is below 256 ^ n
 pub field-below : (s : List ℕ) → ((i : ℕ) → getD s i 0 < 256) → (n at : ℕ) → leAt n s at < 256 ^ n
@@ -27,11 +28,6 @@ field-below s bytes (suc n) at =
     let b = bytes at in
     let more = field-below s bytes n (at + 1) in
     rw pow-suc (omega arith)
-
--- a part that lies in a list is as long as it says
-pub length-part : {A : Type 0} (i n : ℕ) (l : List A) → i + n ≤ length l → length (part i n l) ≡ n
-unfolding part
-length-part i n l h = length-take-le n (drop i l) (simp length-drop (omega arith))
 
 module _ (s : List ℕ) (bytes : (i : ℕ) → getD s i 0 < 256) where
   pub flags-below : (g : ℕ) → groupFlags s g < 65536
