@@ -6,10 +6,7 @@ use Rattle.base.specs.Choice.{pick, ifLt, ifEq}
 use Rattle.base.specs.Checked.{Checked, ok, refused, andThen}
 use Rattle.mdf.specs.Chain.{Kind, dt, dv, Fragment}
 use Rattle.mdf.specs.Group.{DataGroup, addresses}
-use Rattle.mdf.specs.Records.{recordSize, Frame, unsortedFrames}
-
-abbrev pub most64 : ℕ
-most64 = 18446744073709551615
+use Rattle.mdf.specs.Records.{most64, recordSize, Frame, unsortedFrames}
 
 -- the bytes of the DT, and of the DV
 abbrev dtBytes : Kind → ℕ → ℕ

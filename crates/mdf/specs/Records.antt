@@ -12,6 +12,9 @@ use Rattle.mdf.specs.Chain.{Kind, dt, dv, Fragment}
 use Rattle.mdf.specs.Walk.{idSize}
 use Rattle.mdf.specs.Group.{recordId, samples, invalBytes, isStorage}
 
+abbrev pub most64 : ℕ
+most64 = 18446744073709551615
+
 -- ---- fragments
 
 -- "4, start of the range: .. a fragment's data (24 past its header) runs past the image"
@@ -76,9 +79,10 @@ unfoldable pub sizeOf : List Fragment → ℕ
 sizeOf [] = 0
 sizeOf (f ∷ fs) = f .size + sizeOf fs
 
--- "15, record start: a record ends early, straddles DT and DV": a run holds whole records of n bytes, else its last begins at the place
+-- "15, record start: a record ends early, straddles DT and DV": a run holds whole records of n bytes, else its last begins at the place;
+-- without bytes in a record there are no records ("a zero divisor giving 0")
 unfoldable pub runWhole : ℕ → List Fragment → Verdict
-runWhole n fs = ifEq (sizeOf fs % n) 0 fine (refused 15 (placeOf fs (sizeOf fs - sizeOf fs % n)))
+runWhole n fs = ifEq n 0 fine (ifEq (sizeOf fs % n) 0 fine (refused 15 (placeOf fs (sizeOf fs - sizeOf fs % n))))
 
 unfoldable pub runsWhole : List ℕ → ℕ → ℕ → List Run → Verdict
 runsWhole s d g [] = fine
@@ -177,14 +181,16 @@ unfoldable pub equalIds : List ℕ → List ℕ → Bool
 equalIds s [] = false
 equalIds s (g ∷ gs) = let more = equalIds s gs in pick (isIdOf s (recordId s g) gs) true more
 
--- "14 with equal ids first, then missing ids, then DV; fragment ranges; records", of the DG at d with groups gs and fragments fs
+-- "14 with equal ids first, then missing ids, then DV; fragment ranges; records", of the DG at d with groups gs and fragments fs;
+-- "19, DG: the DT bytes .. exceed 2^64 - 1" after the ranges, where an image within the limits can't have it
 unfoldable pub unsortedFrames : List ℕ → ℕ → List ℕ → List Fragment → Checked (List Frame)
 unsortedFrames s d gs fs =
     andThen (pick (equalIds s gs) (refused 14 d) fine) (λ _.
     andThen (ifEq (idSize s d) 0 (refused 14 d) fine) (λ _.
     andThen (pick (anyDV fs) (refused 14 d) fine) (λ _.
     andThen (rangesIn s fs) (λ _.
-    frames s (idSize s d) gs fs))))
+    andThen (ifLt most64 (sizeOf fs) (refused 19 d) fine) (λ _.
+    frames s (idSize s d) gs fs)))))
 
 -- the records of group k among those framed
 unfoldable pub unsortedRecords : ℕ → List Frame → List (List ℕ)

@@ -7,14 +7,14 @@ use mathlib.Core.Logic.{_⊎_, inl, inr}
 use native.Mathlib.Nat.{add-zero, zero-mul, one-mul, add-mul}
 use native.Mathlib.Omega.{arith}
 use lib.ListN.{length, drop, getD, length-drop}
-use Rattle.base.specs.Choice.{pick, ifLe, ifEq}
+use Rattle.base.specs.Choice.{pick, ifLt, ifLe, ifEq}
 use Rattle.base.specs.ChoiceLaws.{le-first, eq-yes, eq-no}
 use Rattle.base.specs.Checked.{Checked, ok, refused, andThen, Verdict, fine}
 use Rattle.base.specs.Field.{leAt}
 use Rattle.mdf.specs.Chain.{Fragment}
 use Rattle.mdf.specs.Walk.{idSize}
 use Rattle.mdf.specs.Group.{recordId, samples, invalBytes, isStorage}
-use Rattle.mdf.specs.Records.{rangesIn, joined, anyDV, placeOf, sizeOf, Frame, Framed, framed, broken, Known, known, unknown, withId, onKnown, ofBytes, frameOf, frameAt, onFramed, framesFrom, frames, equalIds, unsortedFrames, unsortedRecords}
+use Rattle.mdf.specs.Records.{most64, rangesIn, joined, anyDV, placeOf, sizeOf, Frame, Framed, framed, broken, Known, known, unknown, withId, onKnown, ofBytes, frameOf, frameAt, onFramed, framesFrom, frames, equalIds, unsortedFrames, unsortedRecords}
 use Rattle.mdf.specs.Count.{ofGroup, tallies}
 use Rattle.payload_laws.specs.Answers.{refused≢ok, false≢true, ok-same, then-fine, passed, eq-cases}
 use Rattle.payload_laws.specs.Lists.{Long, length-part}
@@ -245,14 +245,16 @@ pub unsorted-several : (s : List ℕ) (d : ℕ) (gs : List ℕ) (fs : List Fragm
 unfolding unsortedFrames
 unsorted-several s d gs fs {rs} e =
     let read : Checked (List Frame) = frames s (idSize s d) gs fs in
-    let ranged : Checked (List Frame) = andThen (rangesIn s fs) (λ _. read) in
+    let sized : Checked (List Frame) = andThen (ifLt most64 (sizeOf fs) (refused 19 d) fine) (λ _. read) in
+    let ranged : Checked (List Frame) = andThen (rangesIn s fs) (λ _. sized) in
     let dts : Checked (List Frame) = andThen (pick (anyDV fs) (refused 14 d) fine) (λ _. ranged) in
     let idd : Checked (List Frame) = andThen (ifEq (idSize s d) 0 (refused 14 d) fine) (λ _. dts) in
     let a1 = then-fine (pick (equalIds s gs) (refused 14 d) fine) (λ _. idd) e in
     let a2 = then-fine (ifEq (idSize s d) 0 (refused 14 d) fine) (λ _. dts) (a1 .1) in
     let a3 = then-fine (pick (anyDV fs) (refused 14 d) fine) (λ _. ranged) (a2 .1) in
-    let a4 = then-fine (rangesIn s fs) (λ _. read) (a3 .1) in
-    let k = frames-read s (idSize s d) gs fs (a4 .1) in
+    let a4 = then-fine (rangesIn s fs) (λ _. sized) (a3 .1) in
+    let a5 = then-fine (ifLt most64 (sizeOf fs) (refused 19 d) fine) (λ _. read) (a4 .1) in
+    let k = frames-read s (idSize s d) gs fs (a5 .1) in
     record {
       distinct = passed _ _ _ (a1 .0); ids = some-id (idSize s d) d (a2 .0); onlyDT = passed _ _ _ (a3 .0); ranges = a4 .0; known = k .0;
       bytes = rw (joined-length s fs (a4 .0)) at (k .1) }

@@ -123,20 +123,20 @@ unfolding quotient
 quotient-some n m h = sym (eq-no m 0 0 (n / m) (λ e. omega arith) refl)
 
 -- whole records in front add up
-quotient-add : (a b n : ℕ) → a % n ≡ 0 → quotient (a + b) n ≡ a / n + quotient b n
+quotient-add : (a b n : ℕ) → (0 < n → a % n ≡ 0) → quotient (a + b) n ≡ a / n + quotient b n
 quotient-add a b zero h = rw (quotient-zero, quotient-zero, div-zero)
 quotient-add a b (suc n) h =
-    let e : a / suc n * suc n ≡ a = omega (arith, div-add-mod' a (suc n)) in
+    let e : a / suc n * suc n ≡ a = omega (arith, div-add-mod' a (suc n), h (omega arith)) in
     rw (quotient-some (a + b) (suc n) (omega arith), quotient-some b (suc n) (omega arith))
     (ap (λ (x : ℕ). (x + b) / suc n) (sym e) ∙ mul-add-div-right (omega arith) (a / suc n) b)
 
 -- a run holds whole records
-run-whole : (n : ℕ) (fs : List Fragment) → runWhole n fs ≡ fine → sizeOf fs % n ≡ 0
+run-whole : (n : ℕ) (fs : List Fragment) → runWhole n fs ≡ fine → 0 < n → sizeOf fs % n ≡ 0
 unfolding runWhole
-run-whole n fs e = eq-first _ _ _ _ e refused≢ok .0
+run-whole n fs e h = eq-first _ _ _ _ (eq-no n 0 _ _ (λ z. omega arith) refl ∙ e) refused≢ok .0
 
 whole-cons : (s : List ℕ) (d g : ℕ) (r : Run) (rs : List Run) → runsWhole s d g (r ∷ rs) ≡ fine
-  → (sizeOf (r .fragments) % recordSize s d g (r .kind) ≡ 0) × (runsWhole s d g rs ≡ fine)
+  → (0 < recordSize s d g (r .kind) → sizeOf (r .fragments) % recordSize s d g (r .kind) ≡ 0) × (runsWhole s d g rs ≡ fine)
 unfolding runsWhole
 whole-cons s d g r rs e =
     let b = then-fine (runWhole (recordSize s d g (r .kind)) (r .fragments)) (λ _. runsWhole s d g rs) e in
@@ -155,7 +155,7 @@ runs-count s d g (r ∷ rs) e =
     let w = whole-cons s d g r rs e in
     rw (length-append, length-run) (go (r .kind) refl (w .0) (runs-count s d g rs (w .1)))
   where
-    go : (k : Kind) → r .kind ≡ k → sizeOf (r .fragments) % recordSize s d g (r .kind) ≡ 0
+    go : (k : Kind) → r .kind ≡ k → (0 < recordSize s d g (r .kind) → sizeOf (r .fragments) % recordSize s d g (r .kind) ≡ 0)
       → length (sortedRecords s d g rs) ≡ quotient (sumDT rs) (recordSize s d g dt) + quotient (sumDV rs) (recordSize s d g dv)
       → sizeOf (r .fragments) / recordSize s d g (r .kind) + length (sortedRecords s d g rs)
       ≡ quotient (sumDT (r ∷ rs)) (recordSize s d g dt) + quotient (sumDV (r ∷ rs)) (recordSize s d g dv)
