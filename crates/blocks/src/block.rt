@@ -73,7 +73,7 @@ pub fn first_link(image: &[u8], a: u64) -> u64
 }
 
 // Where the data of the block at a begins, or the image's end where it begins past it.
-fn data_at(image: &[u8], a: u64) -> u64
+pub fn data_at(image: &[u8], a: u64) -> u64
     ensures { λ r. ⌜ Begins (now (image .entry)) a r ⌝ }
 {
     let n = image.len() as u64;

@@ -1,0 +1,88 @@
+-- The stores, the lowest byte first, are the blit of the field.
+use mathlib.Core.Path.{refl}
+use Prim.Native.Nat.{_-_}
+use Rattle.base.specs.Blit.{blit}
+use Rattle.base.specs.Field.{le}
+use lib.ListN.{length-set}
+use native.Mathlib.Omega.{arith}
+use borrow.Author.Needs.{needs}
+use Rattle.puts.proofs.store8.Statement.{statement}
+use Rattle.puts.proofs.store8.Tie as tie
+
+cast-d : tie.Need-cast-d
+cast-d c = search needs
+
+slice-write-d : tie.Need-slice-write-d
+slice-write-d c = search needs
+
+cast-d-2 : tie.Need-cast-d-2
+cast-d-2 c = search needs
+
+slice-write-d-2 : tie.Need-slice-write-d-2
+slice-write-d-2 c = simp length-set (omega arith)
+
+cast-d-3 : tie.Need-cast-d-3
+cast-d-3 c = search needs
+
+slice-write-d-3 : tie.Need-slice-write-d-3
+slice-write-d-3 c = simp length-set (omega arith)
+
+cast-d-4 : tie.Need-cast-d-4
+cast-d-4 c = search needs
+
+slice-write-d-4 : tie.Need-slice-write-d-4
+slice-write-d-4 c = simp length-set (omega arith)
+
+cast-d-5 : tie.Need-cast-d-5
+cast-d-5 c = search needs
+
+slice-write-d-5 : tie.Need-slice-write-d-5
+slice-write-d-5 c = simp length-set (omega arith)
+
+cast-d-6 : tie.Need-cast-d-6
+cast-d-6 c = search needs
+
+slice-write-d-6 : tie.Need-slice-write-d-6
+slice-write-d-6 c = simp length-set (omega arith)
+
+cast-d-7 : tie.Need-cast-d-7
+cast-d-7 c = search needs
+
+slice-write-d-7 : tie.Need-slice-write-d-7
+slice-write-d-7 c = simp length-set (omega arith)
+
+cast-d-8 : tie.Need-cast-d-8
+cast-d-8 c = search needs
+
+slice-write-d-8 : tie.Need-slice-write-d-8
+slice-write-d-8 c = simp length-set (omega arith)
+
+same-length : tie.Need-same-length
+same-length c = search needs
+
+returns : tie.Need-returns
+unfolding blit le
+returns c = refl
+
+pub store8-spec : {M : Type 1} → statement M
+store8-spec =
+    tie.close
+    (tie.spec
+    cast-d
+    slice-write-d
+    cast-d-2
+    slice-write-d-2
+    cast-d-3
+    slice-write-d-3
+    cast-d-4
+    slice-write-d-4
+    cast-d-5
+    slice-write-d-5
+    cast-d-6
+    slice-write-d-6
+    cast-d-7
+    slice-write-d-7
+    cast-d-8
+    slice-write-d-8
+    same-length
+    returns)

@@ -1,0 +1,16 @@
+pub mod Bounded
+pub mod Straddle
+pub mod Counted
+pub mod Ahead
+pub mod Framing
+pub mod Several
+pub mod Answer
+pub mod AnswerLaws
+pub mod GroupLaws
+pub mod FragmentLaws
+pub mod RunLaws
+pub mod CountLaws
+pub mod AheadLaws
+pub mod FrameLaws
+pub mod SeveralLaws
+pub mod ReadingLaws
