@@ -1,13 +1,13 @@
 -- What is ahead in a data group's joined data: the bytes left from a position of the image on, then the fragments whose words begin at
 -- an index. What would lie past the image is left out, as `joined` leaves it out.
-use Prim.Native.Nat.{ℕ, zero, suc, _+_, _-_}
+use Prim.Native.Nat.{ℕ, _+_, _-_}
 use mathlib.Core.List.{List, [], _∷_}
 use lib.ListN.{length, getD, drop}
 use Rattle.base.specs.Choice.{ifLe}
 use Rattle.base.specs.Blit.{part}
-use Rattle.mdf.specs.Chain.{Kind, dt, Fragment}
+use Rattle.mdf.specs.Chain.{dt, Fragment}
 use Rattle.mdf.specs.Words.{kindOf, fragmentsOf}
-use Rattle.mdf.specs.Records.{Frame, Framed, framed, broken, joined, frameAt}
+use Rattle.mdf.specs.Records.{Framed, framed, broken, joined, frameAt}
 
 -- the fragment whose words begin at i
 abbrev pub fragmentAt : List ℕ → ℕ → Fragment

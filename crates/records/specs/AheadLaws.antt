@@ -1,22 +1,19 @@
 -- The joined bytes of what is ahead, and what is ahead past some of them.
-use Prim.Native.Nat.{ℕ, zero, suc, _+_, _*_, _-_, _≤_, _<_, min}
-use mathlib.Core.List.{List, [], _∷_, _++_, append-assoc}
+use Prim.Native.Nat.{ℕ, zero, suc, _+_, _-_, _≤_, _<_, min}
+use mathlib.Core.List.{List, [], _∷_, _++_}
 use mathlib.Core.Path.{_≡_, refl, sym, ap, _∙_}
 use mathlib.Core.Logic.{_⊎_, inl, inr, ⊎-elim}
-use native.Mathlib.Nat.{add-zero, zero-add, add-assoc, min-le-left, min-le-right, eq-zero-or-pos}
-use native.Mathlib.Numerals.{add-one}
+use native.Mathlib.Nat.{min-le-left, min-le-right, eq-zero-or-pos}
 use native.Mathlib.Omega.{arith}
 use lib.ListN.{length, getD, take, drop, length-append, length-take, length-drop, List·getD-append}
 use lib.Seq.{take-nil, take-all, drop-drop, drop-append-le, drop-append-add, length-take-le, getD-drop, getD-take, getD-append-add}
-use Rattle.base.specs.Choice.{ifLe, ifLt}
-use Rattle.base.specs.ChoiceLaws.{lt-yes, lt-no, le-yes, le-no, le-first}
+use Rattle.base.specs.ChoiceLaws.{lt-yes, lt-no, le-yes, le-no}
 use Rattle.base.specs.Blit.{part}
 use Rattle.base.specs.Checked.{fine}
-use Rattle.mdf.specs.Chain.{Kind, dt, Fragment}
-use Rattle.mdf.specs.Words.{fragmentsOf}
-use Rattle.mdf.specs.Records.{rangesIn, joined, placeOf, sizeOf}
-use Rattle.records.specs.Ahead.{fragmentAt, fragmentsFrom, within, clipped, ahead, Skipped, short, onto, skip}
-use Rattle.records.specs.FragmentLaws.{lt-or-le, from-start, from-more, from-none, ranges-head, ranges-tail}
+use Rattle.mdf.specs.Chain.{dt, Fragment}
+use Rattle.mdf.specs.Records.{rangesIn, joined, placeOf}
+use Rattle.records.specs.Ahead.{fragmentsFrom, clipped, ahead, Skipped, short, onto, skip}
+use Rattle.records.specs.FragmentLaws.{lt-or-le, from-more, from-none, ranges-head, ranges-tail}
 
 pub le-or-lt : (m n : ℕ) → (m ≤ n) ⊎ (n < m)
 le-or-lt m n = ⊎-elim (λ h. inr h) (λ h. inl h) (lt-or-le n m)
@@ -75,7 +72,8 @@ module _ (s : List ℕ) where
   onto≢short : {fs : List Fragment} → onto fs ≡ short → ⊥
   onto≢short e = let z : _≡_ {A = ℕ} 0 1 = cc in omega arith
 
-  pub skip-joined : (fs : List Fragment) (m : ℕ) {gs : List Fragment} → skip m (clipped s fs) ≡ onto gs → joined s gs ≡ drop m (joined s (clipped s fs))
+  pub skip-joined : (fs : List Fragment) (m : ℕ) {gs : List Fragment} → skip m (clipped s fs) ≡ onto gs
+      → joined s gs ≡ drop m (joined s (clipped s fs))
   unfolding skip clipped joined
   skip-joined [] m e = absurd (short≢onto e)
   skip-joined (f ∷ fs) m e =
@@ -115,7 +113,8 @@ module _ (s : List ℕ) where
     let t = length-append x (joined s (clipped s fs)) in
     ⊎-elim
     (λ h. absurd (onto≢short (le-yes m k _ _ h refl ∙ e)))
-    (λ h. let a : skip (m - k) (clipped s fs) ≡ short = le-no m k _ _ h refl ∙ e in let i = skip-few fs (m - k) (omega arith) a in omega arith)
+    (λ h. let a : skip (m - k) (clipped s fs) ≡ short = le-no m k _ _ h refl
+        ∙ e in let i = skip-few fs (m - k) (omega arith) a in omega arith)
     (le-or-lt m k)
 
 -- ---- what is ahead past some bytes, whatever the image
@@ -178,10 +177,12 @@ module _ (s ws : List ℕ) (at p l m : ℕ) {here : ℕ} (is : here ≡ length (
   unfolding ahead skip
   skip-stay h =
     let k = part-high p l s in
-    let e : length (part (p + m) (here - m) s) ≡ length (part p l s) - m = rw is (part-all (p + m) (length (part p l s) - m) s (omega arith)) in
+    let e : length (part (p + m) (here - m) s) ≡ length (part p l s) - m = rw is
+        (part-all (p + m) (length (part p l s) - m) s (omega arith)) in
     rw e (le-yes _ _ _ _ (rw is at h) refl)
 
-  pub skip-move : {v : Skipped} {o z : ℕ} → skip m (ahead s ws at p l) ≡ v → here < m → at + 3 ≤ length ws → o ≡ getD ws at 0 → z ≡ getD ws (at + 1) 0
+  pub skip-move : {v : Skipped} {o z : ℕ} → skip m (ahead s ws at p l) ≡ v → here < m → at + 3 ≤ length ws → o ≡ getD ws at 0
+      → z ≡ getD ws (at + 1) 0
       → skip (m - here) (ahead s ws (at + 3) o z) ≡ v
   unfolding ahead skip clipped
   skip-move r h i x y = rw (is, x, y) (le-no _ _ _ _ (rw is at h) refl ∙ (rw (from-more ws at i) at r))
@@ -191,12 +192,14 @@ module _ (s ws : List ℕ) (at p l m : ℕ) {here : ℕ} (is : here ≡ length (
   skip-over r h i = le-no _ _ _ _ (rw is at h) refl ∙ (rw (from-none ws at i) at r)
 
 -- a byte of what is ahead
-module _ (s ws : List ℕ) (at p l m : ℕ) {here : ℕ} (is : here ≡ length (part p l s)) {v : ℕ} (rest : getD (joined s (ahead s ws at p l)) m 0 ≡ v) where
+module _ (s ws : List ℕ) (at p l m : ℕ) {here : ℕ} (is : here ≡ length (part p l s)) {v : ℕ}
+    (rest : getD (joined s (ahead s ws at p l)) m 0 ≡ v) where
   pub byte-here : m < here → getD s (p + m) 0 ≡ v
   unfolding part
   byte-here h =
     let low = part-low p l s in
-    let e : getD (part p l s ++ joined s (fragmentsFrom ws at)) m 0 ≡ getD (part p l s) m 0 = List·getD-append (part p l s) (joined s (fragmentsFrom ws at)) 0 m (omega arith) in
+    let e : getD (part p l s ++ joined s (fragmentsFrom ws at)) m 0 ≡ getD (part p l s) m 0 = List·getD-append (part p l s)
+        (joined s (fragmentsFrom ws at)) 0 m (omega arith) in
     sym (getD-drop p s m 0) ∙ sym (getD-take l (drop p s) m 0 (omega arith)) ∙ sym e ∙ (rw (joined-ahead s ws at p l) at rest)
 
   pub byte-move : {o z : ℕ} → here ≤ m → at + 3 ≤ length ws → o ≡ getD ws at 0 → z ≡ getD ws (at + 1) 0
@@ -205,7 +208,8 @@ module _ (s ws : List ℕ) (at p l m : ℕ) {here : ℕ} (is : here ≡ length (
   byte-move h i x y =
     let j : m ≡ length (part p l s) + (m - here) = omega arith in
     let e = getD-append-add (part p l s) (joined s (fragmentsFrom ws at)) (m - here) 0 in
-    let r : getD (part p l s ++ joined s (fragmentsFrom ws at)) (length (part p l s) + (m - here)) 0 ≡ v = rw (← j) (rw (joined-ahead s ws at p l) at rest) in
+    let r : getD (part p l s ++ joined s (fragmentsFrom ws at)) (length (part p l s) + (m - here)) 0 ≡ v = rw (← j)
+        (rw (joined-ahead s ws at p l) at rest) in
     rw (x, y, joined-ahead s ws (at + 3) (getD ws at 0) (getD ws (at + 1) 0)) (rw (from-more ws at i) at (sym e ∙ r))
 
   pub byte-over : here ≤ m → length ws < at + 3 → 0 ≡ v
@@ -213,7 +217,8 @@ module _ (s ws : List ℕ) (at p l m : ℕ) {here : ℕ} (is : here ≡ length (
   byte-over h i =
     let j : m ≡ length (part p l s) + (m - here) = omega arith in
     let e = getD-append-add (part p l s) (joined s (fragmentsFrom ws at)) (m - here) 0 in
-    let r : getD (part p l s ++ joined s (fragmentsFrom ws at)) (length (part p l s) + (m - here)) 0 ≡ v = rw (← j) (rw (joined-ahead s ws at p l) at rest) in
+    let r : getD (part p l s ++ joined s (fragmentsFrom ws at)) (length (part p l s) + (m - here)) 0 ≡ v = rw (← j)
+        (rw (joined-ahead s ws at p l) at rest) in
     rw (from-none ws at i) at (sym e ∙ r)
 
 -- how much of the bytes left lies in the image

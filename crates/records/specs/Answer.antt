@@ -5,7 +5,6 @@ use Rattle.base.specs.Checked.{Checked, ok, refused}
 use Rattle.mdf.specs.Records.{Known, known, unknown}
 use Rattle.records.specs.Ahead.{ahead, Skipped, short, onto, Stepped, stuck, stepped}
 use Rattle.records.specs.Framing.{Numeral, none, value}
-use Rattle.records.specs.declared.framing.Framing.{Framing}
 use Rattle.records.specs.declared.framing.Step.{Step}
 use Rattle.records.specs.declared.framing.Step.the-variants.{Broken, Record}
 use Rattle.records.specs.declared.framing.Moved.{Moved}

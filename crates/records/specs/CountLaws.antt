@@ -1,24 +1,22 @@
 -- The bytes of the DT and of the DV, fragment by fragment, and the count of a group that is alone in its DG.
-use Prim.Native.Nat.{ℕ, zero, suc, _+_, _*_, _-_, _/_, _≤_, _<_}
-use mathlib.Core.List.{List, [], _∷_, _++_}
+use Prim.Native.Nat.{ℕ, _+_, _/_, _≤_, _<_}
+use mathlib.Core.List.{List, [], _∷_}
 use mathlib.Core.Bool.{Bool, true, false}
-use mathlib.Core.Path.{_≡_, refl, sym, ap, _∙_}
-use mathlib.Core.Logic.{_⊎_, inl, inr, ⊎-elim}
-use native.Mathlib.Nat.{add-zero, zero-add, add-assoc, eq-zero-or-pos}
+use mathlib.Core.Path.{_≡_, refl, sym, _∙_}
+use native.Mathlib.Nat.{add-zero, add-assoc}
 use native.Mathlib.Omega.{arith}
-use lib.ListN.{length, getD, drop}
-use Rattle.base.specs.Choice.{pick, ifLt, ifEq}
+use lib.ListN.{length, getD}
 use Rattle.base.specs.ChoiceLaws.{lt-yes, lt-no, lt-back, lt-first, eq-yes, eq-no}
-use Rattle.base.specs.Checked.{Checked, ok, refused, andThen, Verdict, fine}
+use Rattle.base.specs.Checked.{Checked, ok, refused}
 use Rattle.mdf.specs.Chain.{Kind, dt, dv, Fragment}
 use Rattle.mdf.specs.Words.{kindOf, fragmentsOf}
-use Rattle.mdf.specs.Records.{isDV, most64, recordSize, sizeOf}
+use Rattle.mdf.specs.Records.{isDV, most64, recordSize}
 use Rattle.mdf.specs.Count.{sizeDT, sizeDV, quotient, sortedCount, countOne}
 use Rattle.records.specs.declared.sorted.Counted.{Counted}
 use Rattle.records.specs.declared.sorted.Counted.the-variants.{Refused, Count}
 use Rattle.records.specs.Answer.{countedOf}
 use Rattle.records.specs.Counted.{bytesOf, ownBytes, within64}
-use Rattle.records.specs.Ahead.{fragmentAt, fragmentsFrom}
+use Rattle.records.specs.Ahead.{fragmentsFrom}
 use Rattle.records.specs.FragmentLaws.{from-start, from-more, from-none}
 
 pub bytes-start : (b : Bool) (ws : List ℕ) → bytesOf b (fragmentsFrom ws 0) ≡ bytesOf b (fragmentsOf ws)
@@ -42,7 +40,8 @@ module _ (b : Bool) (ws : List ℕ) (i n : ℕ) {m : ℕ} (rest : n + bytesOf b 
   pub bytes-next : i + 3 ≤ length ws
       → n + ownBytes b (kindOf (getD ws (i + 2) 0)) (getD ws (i + 1) 0) + bytesOf b (fragmentsFrom ws (i + 3)) ≡ m
   bytes-next h =
-    add-assoc n _ _ ∙ (rw (from-more ws i h, bytes-cons b (getD ws i 0) (getD ws (i + 1) 0) (kindOf (getD ws (i + 2) 0)) (fragmentsFrom ws (i + 3))) at rest)
+    add-assoc n _ _ ∙ (rw (from-more ws i h, bytes-cons b (getD ws i 0) (getD ws (i + 1) 0) (kindOf (getD ws (i + 2) 0))
+        (fragmentsFrom ws (i + 3))) at rest)
 
   pub bytes-end : length ws < i + 3 → n ≡ m
   bytes-end h = sym (add-zero n) ∙ (rw (from-none ws i h, bytes-nil b) at rest)
@@ -62,7 +61,8 @@ ok≢refused e = let z : _≡_ {A = ℕ} 0 1 = cc in omega arith
 refused≢ok : {A : Type 0} {a : A} {n p : ℕ} → refused n p ≡ ok a → ⊥
 refused≢ok e = let z : _≡_ {A = ℕ} 0 1 = cc in omega arith
 
-within-refused : (d n : ℕ) {number place : ℕ} → within64 d n ≡ refused number place → (most64 < n) × _≡_ {A = Checked (List ℕ)} (refused 19 d) (refused number place)
+within-refused : (d n : ℕ) {number place : ℕ} → within64 d n ≡ refused number place
+    → (most64 < n) × _≡_ {A = Checked (List ℕ)} (refused 19 d) (refused number place)
 unfolding within64
 within-refused d n e = lt-first _ _ _ _ e ok≢refused
 
@@ -84,7 +84,8 @@ module _ (s : List ℕ) (d g : ℕ) (fs : List Fragment) where
   unfolding countOne
   one-dv e q = let v = within-ok d _ e in let w = within-refused d _ q in sym (w .1) ∙ lt-no _ _ _ _ (v .0) (lt-yes _ _ _ _ (w .0) refl)
 
-  pub one-count : {a b x y : ℕ} {r : Checked (List ℕ)} → within64 d (bytesOf false fs) ≡ ok (a ∷ []) → within64 d (bytesOf true fs) ≡ ok (b ∷ [])
+  pub one-count : {a b x y : ℕ} {r : Checked (List ℕ)} → within64 d (bytesOf false fs) ≡ ok (a ∷ [])
+      → within64 d (bytesOf true fs) ≡ ok (b ∷ [])
       → x ≡ quotient a (recordSize s d g dt) → y ≡ quotient b (recordSize s d g dv) → r ≡ within64 d (x + y) → r ≡ countOne s d g fs
   unfolding countOne sortedCount within64
   one-count e q m n k =

@@ -1,19 +1,16 @@
 -- The fragments that words give, one at a time, and the checks over them.
-use Prim.Native.Nat.{ℕ, zero, suc, _+_, _*_, _-_, _≤_, _<_}
-use mathlib.Core.List.{List, [], _∷_, _++_}
+use Prim.Native.Nat.{ℕ, suc, _+_, _≤_, _<_}
+use mathlib.Core.List.{List, [], _∷_}
 use mathlib.Core.Bool.{Bool, true, false}
-use mathlib.Core.Path.{_≡_, refl, sym, ap, _∙_}
-use native.Mathlib.Nat.{add-zero, add-suc}
-use native.Mathlib.Numerals.{add-one}
+use mathlib.Core.Path.{_≡_, refl, sym, _∙_}
 use mathlib.Core.Logic.{_⊎_, inl, inr}
 use lib.Dec.{ltb, eqb}
 use borrow.Author.Tests.{ltb-true, ltb-false, eqb-true, eqb-false}
 use native.Mathlib.Omega.{arith}
-use lib.ListN.{length, getD, drop, length-drop, drop-of-length-le, List·getD-eq-default}
+use lib.ListN.{length, getD, drop, length-drop, List·getD-eq-default}
 use lib.Seq.{drop-cons}
-use Rattle.base.specs.Choice.{pick, ifLt, ifEq}
 use Rattle.base.specs.ChoiceLaws.{lt-yes, lt-no, lt-back, eq-yes, eq-no}
-use Rattle.base.specs.Checked.{Checked, ok, refused, andThen, Verdict, fine}
+use Rattle.base.specs.Checked.{refused, Verdict, fine}
 use Rattle.mdf.specs.Chain.{Kind, dt, dv, Fragment}
 use Rattle.mdf.specs.Words.{kindOf, fragmentsOf}
 use Rattle.records.specs.Ahead.{fragmentAt, fragmentsFrom}
@@ -72,7 +69,8 @@ module _ (s ws : List ℕ) (i : ℕ) {v : Verdict} (rest : rangesIn s (fragments
   unfolding rangesIn
   ranges-out h p q l = rw p (lt-yes _ _ _ _ (rw (p, q) at l) refl ∙ (rw (from-more ws i h) at rest))
 
-  pub ranges-next : {o z : ℕ} → i + 3 ≤ length ws → o ≡ getD ws i 0 → z ≡ getD ws (i + 1) 0 → o + z ≤ length s → rangesIn s (fragmentsFrom ws (i + 3)) ≡ v
+  pub ranges-next : {o z : ℕ} → i + 3 ≤ length ws → o ≡ getD ws i 0 → z ≡ getD ws (i + 1) 0 → o + z ≤ length s
+      → rangesIn s (fragmentsFrom ws (i + 3)) ≡ v
   unfolding rangesIn
   ranges-next h p q l = lt-no _ _ _ _ (rw (p, q) at l) refl ∙ (rw (from-more ws i h) at rest)
 

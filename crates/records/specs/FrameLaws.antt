@@ -1,25 +1,24 @@
 -- The parts of a step: numbers from bytes, the group with an id, a record past its id.
 use Prim.Native.Nat.{ℕ, zero, suc, _+_, _*_, _-_, _^_, _≤_, _<_}
-use mathlib.Core.List.{List, [], _∷_, _++_}
+use mathlib.Core.List.{List, [], _∷_}
 use mathlib.Core.Bool.{Bool, true, false}
 use mathlib.Core.Path.{_≡_, refl, sym, ap, _∙_}
-use mathlib.Core.Logic.{_⊎_, inl, inr, ⊎-elim}
-use native.Mathlib.Nat.{add-zero, zero-add, add-suc, suc-add, pow-suc, pow-zero}
-use native.Mathlib.Numerals.{add-one, sub-one}
+use mathlib.Core.Logic.{⊎-elim}
+use native.Mathlib.Nat.{add-zero, zero-add, suc-add, pow-suc}
+use native.Mathlib.Numerals.{add-one}
 use native.Mathlib.Omega.{arith}
 use lib.ListN.{length, getD, drop, length-drop}
-use lib.Seq.{drop-cons, drop-length, getD-drop, drop-nil}
+use lib.Seq.{drop-cons, getD-drop}
 use lib.ListN.{drop-of-length-le}
-use Rattle.base.specs.Choice.{pick, ifLt, ifLe, ifEq}
+use Rattle.base.specs.Choice.{pick, ifLe, ifEq}
 use Rattle.base.specs.ChoiceLaws.{lt-yes, lt-no, lt-first, lt-back, le-yes, le-no, eq-yes, eq-no}
 use Rattle.base.specs.Field.{leAt}
 use Rattle.mdf.specs.Block.{dataAt}
 use Rattle.mdf.specs.Chain.{Fragment}
 use Rattle.mdf.specs.Group.{recordId, samples, invalBytes, isStorage}
-use Rattle.mdf.specs.Records.{most64, joined, Known, known, unknown, onKnown, withId, Framed, framed, broken, ofBytes, frameOf, frameAt}
+use Rattle.mdf.specs.Records.{most64, joined, Known, known, unknown, onKnown, withId, framed, broken, ofBytes, frameOf, frameAt}
 use Rattle.records.specs.Ahead.{Skipped, short, onto, skip, Stepped, stepped, stuck, past, onFrame, stepAt}
-use Rattle.records.specs.Framing.{Numeral, none, value, numeral, bodyOf, onNumeral, bodyStep}
-use Rattle.records.specs.FragmentLaws.{lt-or-le}
+use Rattle.records.specs.Framing.{none, value, numeral, bodyOf, onNumeral, bodyStep}
 use Rattle.records.specs.AheadLaws.{Counts, le-or-lt, skip-skip}
 
 -- ---- the group with an id
@@ -124,15 +123,18 @@ numeral-value v e = same-value (lt-back _ _ _ _ e none≢value .1)
 
 -- ---- a record past its id
 module _ (s : List ℕ) (g : ℕ) where
-  pub body-plain : (d : List ℕ) {b : Bool} {x y : ℕ} → b ≡ isStorage s g → b ≡ false → x ≡ samples s g → y ≡ invalBytes s g → value (x + y) ≡ bodyOf s d g
+  pub body-plain : (d : List ℕ) {b : Bool} {x y : ℕ} → b ≡ isStorage s g → b ≡ false → x ≡ samples s g → y ≡ invalBytes s g
+      → value (x + y) ≡ bodyOf s d g
   unfolding bodyOf
   body-plain d e q m n = rw (← e, q, m, n)
 
-  pub body-short : (fs : List Fragment) {b : Bool} → Counts s fs → b ≡ isStorage s g → b ≡ true → skip 4 fs ≡ short → none ≡ bodyOf s (joined s fs) g
+  pub body-short : (fs : List Fragment) {b : Bool} → Counts s fs → b ≡ isStorage s g → b ≡ true → skip 4 fs ≡ short
+      → none ≡ bodyOf s (joined s fs) g
   unfolding bodyOf
   body-short fs t e q k = rw (← e, q) (le-no _ _ _ _ (t .few 4 k) refl)
 
-  pub body-length : (fs : List Fragment) {b : Bool} {x : ℕ} {hs : List Fragment} → Counts s fs → b ≡ isStorage s g → b ≡ true → skip 4 fs ≡ onto hs
+  pub body-length : (fs : List Fragment) {b : Bool} {x : ℕ} {hs : List Fragment} → Counts s fs → b ≡ isStorage s g → b ≡ true
+      → skip 4 fs ≡ onto hs
       → x ≡ leAt 4 (joined s fs) 0 → value (4 + x) ≡ bodyOf s (joined s fs) g
   unfolding bodyOf
   body-length fs t e q k m = rw (← e, q, m) (le-yes _ _ _ _ (t .long 4 k) refl)
@@ -146,7 +148,8 @@ module _ (s : List ℕ) (k g : ℕ) (fs : List Fragment) where
   unfolding bodyStep
   record-short e q = rw (e, q)
 
-  pub record-onto : {m : ℕ} {hs : List Fragment} → bodyOf s (joined s fs) g ≡ value m → skip m fs ≡ onto hs → stepped k m hs ≡ bodyStep s k g fs
+  pub record-onto : {m : ℕ} {hs : List Fragment} → bodyOf s (joined s fs) g ≡ value m → skip m fs ≡ onto hs
+      → stepped k m hs ≡ bodyStep s k g fs
   unfolding bodyStep
   record-onto e q = rw (e, q)
 
@@ -159,12 +162,14 @@ le-drop (suc m) n d at = rw (getD-drop n d at 0, le-drop m n d (at + 1)) (let e 
 module _ (s : List ℕ) (n : ℕ) (gs : List ℕ) (fs : List Fragment) (t : Counts s fs) where
   pub step-short : skip n fs ≡ short → stuck ≡ stepAt s n gs fs
   unfolding stepAt frameAt
-  step-short e = rw (← le-no n (length (joined s fs)) (onKnown (withId s (leAt n (joined s fs) 0) 0 gs) (λ k g. frameOf s (joined s fs) n k g)) broken (t .few n e) refl)
+  step-short e = rw (← le-no n (length (joined s fs))
+      (onKnown (withId s (leAt n (joined s fs) 0) 0 gs) (λ k g. frameOf s (joined s fs) n k g)) broken (t .few n e) refl)
 
   module _ {hs : List Fragment} (e : skip n fs ≡ onto hs) where
     opened : stepAt s n gs fs ≡ onFrame (onKnown (withId s (leAt n (joined s fs) 0) 0 gs) (λ k g. frameOf s (joined s fs) n k g)) n fs
     unfolding stepAt frameAt
-    opened = rw (← le-yes n (length (joined s fs)) (onKnown (withId s (leAt n (joined s fs) 0) 0 gs) (λ k g. frameOf s (joined s fs) n k g)) broken (t .long n e) refl)
+    opened = rw (← le-yes n (length (joined s fs)) (onKnown (withId s (leAt n (joined s fs) 0) 0 gs)
+        (λ k g. frameOf s (joined s fs) n k g)) broken (t .long n e) refl)
 
     pub step-big : ((i : ℕ) → getD s i 0 < 256) → numeral (leAt n (joined s fs) 0) ≡ none → stuck ≡ stepAt s n gs fs
     step-big b q = rw (opened, id-unknown s b (leAt n (joined s fs) 0) 0 gs (numeral-none _ q))
@@ -192,18 +197,22 @@ module _ (s : List ℕ) (n : ℕ) (gs : List ℕ) (fs : List Fragment) (t : Coun
         let f : leAt 4 (joined s hs) 0 ≡ leAt 4 (joined s fs) n = rw d (le-drop 4 n (joined s fs) 0 ∙ rw add-zero) in
         ⊎-elim
         (λ b. rw (← le-yes 4 (length (joined s hs)) (value (4 + leAt 4 (joined s hs) 0)) none (omega arith) refl, f,
-            ← le-yes (n + 4) (length (joined s fs)) (ofBytes (joined s fs) n k (4 + leAt 4 (joined s fs) n)) broken b refl) (sized k (4 + leAt 4 (joined s fs) n)))
+            ← le-yes (n + 4) (length (joined s fs)) (ofBytes (joined s fs) n k (4 + leAt 4 (joined s fs) n)) broken b refl)
+                (sized k (4 + leAt 4 (joined s fs) n)))
         (λ b. rw (← le-no 4 (length (joined s hs)) (value (4 + leAt 4 (joined s hs) 0)) none (omega arith) refl,
             ← le-no (n + 4) (length (joined s fs)) (ofBytes (joined s fs) n k (4 + leAt 4 (joined s fs) n)) broken b refl))
         (le-or-lt (n + 4) (length (joined s fs)))
 
     by-kind : (k g : ℕ) (b : Bool)
-        → onNumeral (pick b (ifLe 4 (length (joined s hs)) (value (4 + leAt 4 (joined s hs) 0)) none) (value (samples s g + invalBytes s g))) (λ m. past (skip m hs) k m)
-        ≡ onFrame (pick b (ifLe (n + 4) (length (joined s fs)) (ofBytes (joined s fs) n k (4 + leAt 4 (joined s fs) n)) broken) (ofBytes (joined s fs) n k (samples s g + invalBytes s g))) n fs
+        → onNumeral (pick b (ifLe 4 (length (joined s hs)) (value (4 + leAt 4 (joined s hs) 0)) none)
+            (value (samples s g + invalBytes s g))) (λ m. past (skip m hs) k m)
+        ≡ onFrame (pick b (ifLe (n + 4) (length (joined s fs)) (ofBytes (joined s fs) n k (4 + leAt 4 (joined s fs) n)) broken)
+            (ofBytes (joined s fs) n k (samples s g + invalBytes s g))) n fs
     by-kind k g true = stored k
     by-kind k g false = sized k (samples s g + invalBytes s g)
 
-    pub step-body : {x k g : ℕ} {r : Stepped} → numeral (leAt n (joined s fs) 0) ≡ value x → withId s x 0 gs ≡ known k g → r ≡ bodyStep s k g hs
+    pub step-body : {x k g : ℕ} {r : Stepped} → numeral (leAt n (joined s fs) 0) ≡ value x → withId s x 0 gs ≡ known k g
+        → r ≡ bodyStep s k g hs
         → r ≡ stepAt s n gs fs
     unfolding bodyStep bodyOf frameOf
     step-body {x} {k} {g} q u j = rw (opened, numeral-value _ q, u) (j ∙ by-kind k g (isStorage s g))

@@ -7,7 +7,7 @@ use Rattle.base.specs.Field.{leAt}
 use Rattle.mdf.specs.Chain.{Fragment}
 use Rattle.mdf.specs.Group.{samples, invalBytes, isStorage}
 use Rattle.mdf.specs.Records.{most64, joined}
-use Rattle.records.specs.Ahead.{Skipped, skip, Stepped, stuck, past}
+use Rattle.records.specs.Ahead.{skip, Stepped, stuck, past}
 
 -- a number, or none
 pub data Numeral : Type 0 where

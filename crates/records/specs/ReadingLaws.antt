@@ -1,27 +1,26 @@
 -- The records of several groups, one after the other: what is left of them gives what the whole gives.
-use Prim.Native.Nat.{ℕ, zero, suc, _+_, _*_, _-_, _≤_, _<_}
-use mathlib.Core.List.{List, [], _∷_, _++_, append-nil}
+use Prim.Native.Nat.{ℕ, zero, suc, _+_, _-_, _≤_, _<_}
+use mathlib.Core.List.{List, [], _∷_, _++_}
 use mathlib.Core.Bool.{Bool, true, false}
 use mathlib.Core.Path.{_≡_, refl, sym, ap, _∙_}
-use mathlib.Core.Logic.{_⊎_, inl, inr, ⊎-elim}
+use mathlib.Core.Logic.{⊎-elim}
 use native.Mathlib.Nat.{add-zero, zero-add, add-assoc}
-use native.Mathlib.Numerals.{add-one, sub-one}
+use native.Mathlib.Numerals.{sub-one}
 use native.Mathlib.Omega.{arith}
 use lib.ListN.{length, getD, set, drop, replicate, length-append, length-drop, length-replicate, length-set}
-use Rattle.base.specs.Choice.{pick, ifLt, ifLe, ifEq}
-use Rattle.base.specs.ChoiceLaws.{lt-yes, lt-no, le-yes, le-no, le-first, eq-yes, eq-no}
+use Rattle.base.specs.Choice.{pick, ifLe, ifEq}
+use Rattle.base.specs.ChoiceLaws.{lt-yes, lt-no, le-first, eq-yes, eq-no}
 use Rattle.base.specs.Blit.{part, blit}
-use Rattle.base.specs.BlitLaws.{length-blit}
 use Rattle.base.specs.Field.{leAt}
-use Rattle.base.specs.Checked.{Checked, ok, refused, andThen, Verdict, fine}
-use Rattle.mdf.specs.Chain.{dt, Fragment}
+use Rattle.base.specs.Checked.{ok, refused, fine}
+use Rattle.mdf.specs.Chain.{Fragment}
 use Rattle.mdf.specs.Group.{recordId, samples, invalBytes, isStorage}
 use Rattle.mdf.specs.Words.{fragmentsOf}
 use Rattle.mdf.specs.Records.{most64, rangesIn, joined, placeOf, sizeOf, Frame, Framed, framed, broken, Known, known, unknown, withId, onKnown, ofBytes, frameOf, frameAt, onFramed, framesFrom, frames}
 use Rattle.mdf.specs.Count.{tallies}
-use Rattle.records.specs.Ahead.{fragmentAt, fragmentsFrom, within, clipped, ahead, Skipped, short, onto, skip, Stepped, stepped, stuck, past, onFrame, stepAt}
-use Rattle.records.specs.Several.{tallied, Laid, laid, laidCounts}
-use Rattle.records.specs.FragmentLaws.{lt-or-le, eq-or-ne, from-start, from-more, from-none, ranges-head, ranges-tail}
+use Rattle.records.specs.Ahead.{fragmentsFrom, clipped, ahead, Skipped, short, onto, skip, stepped, stuck, past, onFrame, stepAt}
+use Rattle.records.specs.Several.{tallied, laid, laidCounts}
+use Rattle.records.specs.FragmentLaws.{eq-or-ne, from-start, from-more, from-none}
 use Rattle.records.specs.AheadLaws.{Counts, ahead-counts, joined-ahead, part-low, part-all, place-clipped, skip-place, skip-fewer}
 use Rattle.records.specs.SeveralLaws.{blit-blit, length-tallies, tallies-none, tallied-up, tallied-low}
 
@@ -65,7 +64,8 @@ module _ (s : List ℕ) (n : ℕ) (gs d : List ℕ) where
   kind-fits k g true h e = sized-fits k _ h (le-first _ _ _ _ e broken≢framed .1)
   kind-fits k g false h e = sized-fits k _ h e
 
-  known-fits : (v : Known) {r : Frame} → withId s (leAt n d 0) 0 gs ≡ v → onKnown v (λ k g. frameOf s d n k g) ≡ framed r → Fits n (length gs) (length d) r
+  known-fits : (v : Known) {r : Frame} → withId s (leAt n d 0) 0 gs ≡ v → onKnown v (λ k g. frameOf s d n k g) ≡ framed r
+      → Fits n (length gs) (length d) r
   unfolding frameOf
   known-fits unknown q e = absurd (broken≢framed e)
   known-fits (known k g) q e = kind-fits k g (isStorage s g) (let a = known-in s (leAt n d 0) 0 gs q in omega arith) e
@@ -95,9 +95,11 @@ module _ (s : List ℕ) (n : ℕ) (gs : List ℕ) (hs : List Fragment) where
   on-past : (r : Frame) (v : Skipped) {k m : ℕ} {bs : List Fragment} → frameAt s n gs (joined s hs) ≡ framed r → skip (r .size) hs ≡ v
       → past v (r .group) (r .size - n) ≡ stepped k m bs → Stepping s n gs hs k bs
   on-past r short f q e = absurd (stuck≢stepped e)
-  on-past r (onto cs) f q e = record { frame = r; is = f; fits = frame-fits s n gs (joined s hs) f; group-is = stepped-group e; on = q ∙ stepped-on e }
+  on-past r (onto cs) f q e = record { frame = r; is = f; fits = frame-fits s n gs (joined s hs) f; group-is = stepped-group e; on = q
+      ∙ stepped-on e }
 
-  on-frame : (v : Framed) {k m : ℕ} {bs : List Fragment} → frameAt s n gs (joined s hs) ≡ v → onFrame v n hs ≡ stepped k m bs → Stepping s n gs hs k bs
+  on-frame : (v : Framed) {k m : ℕ} {bs : List Fragment} → frameAt s n gs (joined s hs) ≡ v → onFrame v n hs ≡ stepped k m bs
+      → Stepping s n gs hs k bs
   on-frame broken q e = absurd (stuck≢stepped e)
   on-frame (framed r) q e = on-past r (skip (r .size) hs) q refl e
 
@@ -121,7 +123,8 @@ module _ (s : List ℕ) (n : ℕ) (gs : List ℕ) (hs : List Fragment) where
 -- ---- the frames, one at a time
 frames-open : (fuel : ℕ) (s : List ℕ) (n : ℕ) (gs : List ℕ) (fs : List Fragment) (d : List ℕ) (p : ℕ) (done : List Frame) → 0 < fuel
     → framesFrom fuel s n gs fs d p done ≡ ifEq (length d) 0 (ok done)
-      (onFramed (frameAt s n gs d) (refused 15 (placeOf fs p)) (λ r. framesFrom (fuel - 1) s n gs fs (drop (r .size) d) (p + r .size) (done ++ (r ∷ []))))
+      (onFramed (frameAt s n gs d) (refused 15 (placeOf fs p))
+          (λ r. framesFrom (fuel - 1) s n gs fs (drop (r .size) d) (p + r .size) (done ++ (r ∷ []))))
 unfolding framesFrom
 frames-open zero s n gs fs d p done h = absurd (omega arith)
 frames-open (suc fuel) s n gs fs d p done h = simp sub-one
@@ -229,12 +232,14 @@ module _ (s : List ℕ) (n : ℕ) (gs ws w₀ : List ℕ) (at p l : ℕ) (w : Li
       same = t .same }
 
   pub move-less : {here o z : ℕ} → here ≡ length (part p l s) → here ≡ 0 → at + 3 ≤ length ws → o ≡ getD ws at 0 → z ≡ getD ws (at + 1) 0
-      → length (joined s (ahead s ws (at + 3) o z)) + length (ahead s ws (at + 3) o z) < length (joined s (ahead s ws at p l)) + length (ahead s ws at p l)
+      → length (joined s (ahead s ws (at + 3) o z)) + length (ahead s ws (at + 3) o z) < length (joined s (ahead s ws at p l)) + length
+          (ahead s ws at p l)
   move-less {here} {o} {z} e q h x y =
     let none : length (part p l s) ≡ 0 = sym e ∙ q in
     let j : length (joined s (ahead s ws at p l)) ≡ length (joined s (ahead s ws (at + 3) o z)) =
           ap length (empty-joined s ws at p l none ∙ joined-more s ws at h x y) in
-    let c : length (ahead s ws at p l) ≡ suc (length (ahead s ws (at + 3) o z)) = empty-length s ws at p l none ∙ ap (λ (f : List Fragment). suc (length f)) (clipped-more s ws at h x y) in
+    let c : length (ahead s ws at p l) ≡ suc (length (ahead s ws (at + 3) o z)) = empty-length s ws at p l none
+        ∙ ap (λ (f : List Fragment). suc (length f)) (clipped-more s ws at h x y) in
     omega arith
 
   -- the words, whatever was counted, over those before the first were set to zero
@@ -243,17 +248,21 @@ module _ (s : List ℕ) (n : ℕ) (gs ws w₀ : List ℕ) (at p l : ℕ) (w : Li
     t .counts ∙ rw c (blit-blit (replicate (length gs) 0) (tallies (length gs) 0 (t .done)) 0 e
     (length-replicate (length gs) 0 ∙ sym (length-tallies (length gs) 0 (t .done))))
 
-  pub read-end : (e : List ℕ) {here : ℕ} → w₀ ≡ blit 0 (replicate (length gs) 0) e → here ≡ length (part p l s) → here ≡ 0 → length ws < at + 3
+  pub read-end : (e : List ℕ) {here : ℕ} → w₀ ≡ blit 0 (replicate (length gs) 0) e → here ≡ length (part p l s) → here ≡ 0
+      → length ws < at + 3
       → laid fine w ≡ laidCounts (tallied (length gs) (frames s n gs (fragmentsOf ws))) (length gs) e
   read-end e c m q h =
     let none : length (part p l s) ≡ 0 = sym m ∙ q in
-    let j : length (joined s (ahead s ws at p l)) ≡ 0 = ap length (empty-joined s ws at p l none ∙ ap (joined s) (from-none ws at h)) ∙ joined-none s in
+    let j : length (joined s (ahead s ws at p l)) ≡ 0 = ap length (empty-joined s ws at p l none ∙ ap (joined s) (from-none ws at h))
+        ∙ joined-none s in
     let o : frames s n gs (fragmentsOf ws) ≡ ok (t .done) =
-          sym (t .rest) ∙ frames-open (t .fuel) s n gs (fragmentsOf ws) (joined s (ahead s ws at p l)) (t .passed) (t .done) (omega arith) ∙ sym (eq-yes _ _ _ _ j refl) in
+          sym (t .rest) ∙ frames-open (t .fuel) s n gs (fragmentsOf ws) (joined s (ahead s ws at p l)) (t .passed) (t .done) (omega arith)
+              ∙ sym (eq-yes _ _ _ _ j refl) in
     rw o (ap (laid fine) (over e c))
 
   -- a record that is no record
-  pub read-broken : (e : List ℕ) {here : ℕ} {v : List ℕ} → w₀ ≡ blit 0 (replicate (length gs) 0) e → here ≡ length (part p l s) → (here ≡ 0 → ⊥)
+  pub read-broken : (e : List ℕ) {here : ℕ} {v : List ℕ} → w₀ ≡ blit 0 (replicate (length gs) 0) e → here ≡ length (part p l s)
+      → (here ≡ 0 → ⊥)
       → stepAt s n gs (ahead s ws at p l) ≡ stuck → v ≡ blit 0 (replicate (length gs) 0) w
       → laid (refused 15 p) v ≡ laidCounts (tallied (length gs) (frames s n gs (fragmentsOf ws))) (length gs) e
   read-broken e {here} {v} c m q k x =
@@ -289,7 +298,8 @@ module _ (s : List ℕ) (n : ℕ) (gs ws w₀ : List ℕ) (at p l : ℕ) (w : Li
       let h = step .fits .size-in in
       omega arith
 
-    pub record-less : length (joined s (ahead s ws at' p' l')) + length (ahead s ws at' p' l') < length (joined s (ahead s ws at p l)) + length (ahead s ws at p l)
+    pub record-less : length (joined s (ahead s ws at' p' l')) + length (ahead s ws at' p' l') < length (joined s (ahead s ws at p l)) +
+        length (ahead s ws at p l)
     record-less =
       let a = past-length in
       let b = skip-fewer (ahead s ws at p l) (step .frame .size) (step .on) in
@@ -308,7 +318,8 @@ module _ (s : List ℕ) (n : ℕ) (gs ws w₀ : List ℕ) (at p l : ℕ) (w : Li
       let f = t .few in
       let u = t .enough in
       let some : length d ≡ 0 → ⊥ = λ y. omega arith in
-      let o : framesFrom (t .fuel - 1) s n gs (fragmentsOf ws) (drop z d) (t .passed + z) (t .done ++ (r ∷ [])) ≡ frames s n gs (fragmentsOf ws) =
+      let o : framesFrom (t .fuel - 1) s n gs (fragmentsOf ws) (drop z d) (t .passed + z) (t .done ++ (r ∷ [])) ≡ frames s n gs
+          (fragmentsOf ws) =
             rw (step .is) at (eq-no _ _ _ _ some refl
             ∙ sym (frames-open (t .fuel) s n gs (fragmentsOf ws) d (t .passed) (t .done) (omega arith)) ∙ t .rest) in
       record {

@@ -1,15 +1,15 @@
 -- Whole records in runs, fragment by fragment: the run passed so far enters only by the bytes of its last record and where that starts.
-use Prim.Native.Nat.{ℕ, zero, suc, _+_, _*_, _-_, _%_, _/_, _≤_, _<_}
+use Prim.Native.Nat.{ℕ, zero, suc, _+_, _-_, _%_, _≤_, _<_}
 use mathlib.Core.List.{List, [], _∷_, _++_, append-assoc}
 use mathlib.Core.Bool.{Bool, true, false}
 use mathlib.Core.Path.{_≡_, refl, sym, ap, _∙_}
-use native.Mathlib.Nat.{add-zero, zero-add, zero-mod, mod-lt, mod-le, mod-eq-of-lt, mod-eq-sub-mod, mod-add-mod, add-mod, add-mod-mod, div-add-mod', add-mul-mod-self-right, mul-add-mod-self-right, add-assoc, sub-self, eq-zero-or-pos}
-use mathlib.Core.Logic.{_⊎_, inl, inr, ⊎-elim}
+use native.Mathlib.Nat.{add-zero, zero-add, zero-mod, mod-lt, mod-le, mod-eq-of-lt, mod-eq-sub-mod, mod-add-mod, add-mod-mod, add-assoc, eq-zero-or-pos}
+use mathlib.Core.Logic.{⊎-elim}
 use native.Mathlib.Omega.{arith}
-use lib.ListN.{length, getD, drop}
-use Rattle.base.specs.Choice.{pick, ifLt, ifEq}
+use lib.ListN.{length, getD}
+use Rattle.base.specs.Choice.{ifEq}
 use Rattle.base.specs.ChoiceLaws.{lt-yes, lt-no, le-yes, le-no, eq-yes, eq-no}
-use Rattle.base.specs.Checked.{Checked, ok, refused, andThen, Verdict, fine}
+use Rattle.base.specs.Checked.{refused, andThen, Verdict, fine}
 use Rattle.records.specs.Ahead.{fragmentAt, fragmentsFrom}
 use Rattle.records.specs.FragmentLaws.{lt-or-le, from-start, from-more, from-none, ranges-head, ranges-tail, kind-if}
 use borrow.Author.Tests.{ltb-true, ltb-false}
@@ -217,8 +217,10 @@ module _ (s : List ℕ) (d g : ℕ) (ws : List ℕ) (i c st : ℕ) (h : i + 3 �
   pub pass-in : (k : Kind) → Passing s d g ws i k c st → getD ws i 0 + getD ws (i + 1) 0 ≤ length s
   pass-in k t = ranges-head s (fragmentAt ws i) (fragmentsFrom ws (i + 3)) (rw (from-more ws i h) at (t .ranges))
 
-  same : (k : Kind) (c' st' : ℕ) → Passing s d g ws i k c st → kindOf (getD ws (i + 2) 0) ≡ k → c' ≡ remainder (recordSize s d g k) (c + getD ws (i + 1) 0)
-      → (c' ≤ getD ws (i + 1) 0 → st' ≡ getD ws i 0 + (getD ws (i + 1) 0 - c')) → (getD ws (i + 1) 0 < c' → st' ≡ st) → Passing s d g ws (i + 3) k c' st'
+  same : (k : Kind) (c' st' : ℕ) → Passing s d g ws i k c st → kindOf (getD ws (i + 2) 0) ≡ k
+      → c' ≡ remainder (recordSize s d g k) (c + getD ws (i + 1) 0)
+      → (c' ≤ getD ws (i + 1) 0 → st' ≡ getD ws i 0 + (getD ws (i + 1) 0 - c')) → (getD ws (i + 1) 0 < c' → st' ≡ st)
+          → Passing s d g ws (i + 3) k c' st'
   unfolding runs
   same k c' st' t q e here there =
     let f : Fragment = frag (getD ws i 0) (getD ws (i + 1) 0) k in
@@ -229,25 +231,30 @@ module _ (s : List ℕ) (d g : ℕ) (ws : List ℕ) (i c st : ℕ) (h : i + 3 �
       rest = sym (ap (runsWhole s d g) (front-more _ _ (t .pre) k (runs (fragmentsFrom ws (i + 3))))) ∙ (rw m at (t .rest));
       ranges = ranges-tail s _ _ (rw m at (t .ranges)) }
 
-  changed : (k : Kind) (c' st' : ℕ) → Passing s d g ws i (other k) c st → c ≡ 0 → kindOf (getD ws (i + 2) 0) ≡ k → c' ≡ remainder (recordSize s d g k) (c + getD ws (i + 1) 0)
-      → (c' ≤ getD ws (i + 1) 0 → st' ≡ getD ws i 0 + (getD ws (i + 1) 0 - c')) → (getD ws (i + 1) 0 < c' → st' ≡ st) → Passing s d g ws (i + 3) k c' st'
+  changed : (k : Kind) (c' st' : ℕ) → Passing s d g ws i (other k) c st → c ≡ 0 → kindOf (getD ws (i + 2) 0) ≡ k
+      → c' ≡ remainder (recordSize s d g k) (c + getD ws (i + 1) 0)
+      → (c' ≤ getD ws (i + 1) 0 → st' ≡ getD ws i 0 + (getD ws (i + 1) 0 - c')) → (getD ws (i + 1) 0 < c' → st' ≡ st)
+          → Passing s d g ws (i + 3) k c' st'
   unfolding runs runsWhole
   changed k c' st' t z q e here there =
     let f : Fragment = frag (getD ws i 0) (getD ws (i + 1) 0) k in
     let m : fragmentsFrom ws i ≡ f ∷ fragmentsFrom ws (i + 3) = rw (← q) (from-more ws i h) in
-    let first : runsWhole s d g (withFront (other k) (t .pre) (inFront f (runs (fragmentsFrom ws (i + 3))))) ≡ runsWhole s d g (runs (fragmentsOf ws)) = rw m at (t .rest) in
+    let first : runsWhole s d g (withFront (other k) (t .pre) (inFront f (runs (fragmentsFrom ws (i + 3))))) ≡ runsWhole s d g
+        (runs (fragmentsOf ws)) = rw m at (t .rest) in
     record {
       pre = f ∷ [];
       begun = begun-more _ [] 0 st (begun-none _ _) _ _ k c' (rw z at e) here there;
       rest = rw (front-other _ _ (t .pre) k (runs (fragmentsFrom ws (i + 3))), ← run-whole _ _ _ _ (t .begun) z) at first;
       ranges = ranges-tail s _ _ (rw m at (t .ranges)) }
 
-  apart : (k : Kind) → Passing s d g ws i (other k) c st → 0 < c → kindOf (getD ws (i + 2) 0) ≡ k → refused 15 st ≡ runsWhole s d g (runs (fragmentsOf ws))
+  apart : (k : Kind) → Passing s d g ws i (other k) c st → 0 < c → kindOf (getD ws (i + 2) 0) ≡ k
+      → refused 15 st ≡ runsWhole s d g (runs (fragmentsOf ws))
   unfolding runs runsWhole
   apart k t z q =
     let f : Fragment = frag (getD ws i 0) (getD ws (i + 1) 0) k in
     let m : fragmentsFrom ws i ≡ f ∷ fragmentsFrom ws (i + 3) = rw (← q) (from-more ws i h) in
-    let first : runsWhole s d g (withFront (other k) (t .pre) (inFront f (runs (fragmentsFrom ws (i + 3))))) ≡ runsWhole s d g (runs (fragmentsOf ws)) = rw m at (t .rest) in
+    let first : runsWhole s d g (withFront (other k) (t .pre) (inFront f (runs (fragmentsFrom ws (i + 3))))) ≡ runsWhole s d g
+        (runs (fragmentsOf ws)) = rw m at (t .rest) in
     rw (front-other _ _ (t .pre) k (runs (fragmentsFrom ws (i + 3))), ← run-broken _ _ _ _ (t .begun) z) at first
 
   pub pass-straddle : (a b : Bool) → Passing s d g ws i (kindIf a) c st → b ≡ isDV (kindOf (getD ws (i + 2) 0)) → straddles c a b ≡ true
@@ -257,7 +264,8 @@ module _ (s : List ℕ) (d g : ℕ) (ws : List ℕ) (i c st : ℕ) (h : i + 3 �
   pass-straddle false true t q e = apart dv t (ltb-true _ _ e) (kind-if _ q)
   pass-straddle true false t q e = apart dt t (ltb-true _ _ e) (kind-if _ q)
 
-  pub pass-next : (a b : Bool) (c' st' : ℕ) → Passing s d g ws i (kindIf a) c st → kindOf (getD ws (i + 2) 0) ≡ kindIf b → straddles c a b ≡ false
+  pub pass-next : (a b : Bool) (c' st' : ℕ) → Passing s d g ws i (kindIf a) c st → kindOf (getD ws (i + 2) 0) ≡ kindIf b
+      → straddles c a b ≡ false
       → c' ≡ remainder (recordSize s d g (kindIf b)) (c + getD ws (i + 1) 0)
       → (c' ≤ getD ws (i + 1) 0 → st' ≡ getD ws i 0 + (getD ws (i + 1) 0 - c')) → (getD ws (i + 1) 0 < c' → st' ≡ st)
       → Passing s d g ws (i + 3) (kindIf b) c' st'
@@ -267,7 +275,8 @@ module _ (s : List ℕ) (d g : ℕ) (ws : List ℕ) (i c st : ℕ) (h : i + 3 �
   pass-next true false c' st' t q e = changed dt c' st' t (let u = ltb-false 0 c e in omega arith) q
 
   -- the same, as the code has it
-  pub pass-on : (a b : Bool) {c' st' m z o : ℕ} → Passing s d g ws i (kindIf a) c st → b ≡ isDV (kindOf (getD ws (i + 2) 0)) → straddles c a b ≡ false
+  pub pass-on : (a b : Bool) {c' st' m z o : ℕ} → Passing s d g ws i (kindIf a) c st → b ≡ isDV (kindOf (getD ws (i + 2) 0))
+      → straddles c a b ≡ false
       → m ≡ recordSize s d g (kindIf b) → o ≡ getD ws i 0 → z ≡ getD ws (i + 1) 0 → c' ≡ remainder m (c + z) → st' ≡ startOf c' o z st
       → Passing s d g ws (i + 3) (kindIf b) c' st'
   unfolding startOf

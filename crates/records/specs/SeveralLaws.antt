@@ -1,15 +1,14 @@
 -- Equal ids, the checks of a DG with several groups, and counts laid over words.
-use Prim.{Unit, tt}
-use Prim.Native.Nat.{ℕ, zero, suc, _+_, _*_, _-_, _≤_, _<_}
+use Prim.Native.Nat.{ℕ, zero, suc, _+_, _-_, _≤_, _<_}
 use mathlib.Core.List.{List, [], _∷_, _++_}
 use mathlib.Core.Bool.{Bool, true, false}
 use mathlib.Core.Path.{_≡_, refl, sym, ap, _∙_}
-use mathlib.Core.Logic.{_⊎_, inl, inr, ⊎-elim}
-use native.Mathlib.Nat.{add-zero, zero-add, add-assoc, add-suc, suc-add}
+use mathlib.Core.Logic.{⊎-elim}
+use native.Mathlib.Nat.{add-zero, zero-add, add-assoc}
 use native.Mathlib.Numerals.{add-one, sub-one}
 use native.Mathlib.Omega.{arith}
-use lib.ListN.{length, getD, set, drop, replicate, length-set, length-append, length-replicate, drop-of-length-le, List·getD-eq-default}
-use lib.Seq.{drop-cons, set-out, set-set, set-comm, getD-set-same, getD-set-other}
+use lib.ListN.{length, getD, set, drop, replicate, length-set, drop-of-length-le, List·getD-eq-default}
+use lib.Seq.{drop-cons, set-out, set-set, getD-set-same, getD-set-other}
 use borrow.Author.Tests.{eq-eqb, ne-eqb}
 use Rattle.base.specs.Choice.{pick, ifLt, ifEq}
 use Rattle.base.specs.ChoiceLaws.{lt-yes, lt-no, lt-back, eq-yes, eq-no}
@@ -22,7 +21,7 @@ use Rattle.mdf.specs.Group.{recordId}
 use Rattle.mdf.specs.Words.{fragmentsOf}
 use Rattle.mdf.specs.Records.{most64, rangesIn, anyDV, sizeOf, isIdOf, equalIds, Frame, frames, unsortedFrames}
 use Rattle.mdf.specs.Count.{ofGroup, tallies, countOne, countGroups}
-use Rattle.records.specs.Ahead.{fragmentAt, fragmentsFrom}
+use Rattle.records.specs.Ahead.{fragmentsFrom}
 use Rattle.records.specs.Several.{sizeIn, severalIn, tallied, Laid, laid, laidCounts}
 use Rattle.records.specs.FragmentLaws.{lt-or-le, eq-or-ne, from-start, from-more, from-none}
 use Rattle.blocks.specs.AnswerLaws.{refused≢ok, then-fine}
@@ -46,7 +45,8 @@ module _ (s : List ℕ) (id : ℕ) (gs : List ℕ) (i : ℕ) {b : Bool} (rest : 
   is-end h = rw (drop-of-length-le gs h) at rest
 
 module _ (s : List ℕ) (gs : List ℕ) (i : ℕ) {b : Bool} (rest : equalIds s (drop i gs) ≡ b) where
-  pub equal-met : {g r : ℕ} {t : Bool} → i < length gs → g ≡ getD gs i 0 → r ≡ recordId s g → t ≡ isIdOf s r (drop (i + 1) gs) → t ≡ true → true ≡ b
+  pub equal-met : {g r : ℕ} {t : Bool} → i < length gs → g ≡ getD gs i 0 → r ≡ recordId s g → t ≡ isIdOf s r (drop (i + 1) gs) → t ≡ true
+      → true ≡ b
   unfolding equalIds
   equal-met h e q m k =
     let z : isIdOf s (recordId s (getD gs i 0)) (drop (suc i) gs) ≡ true = rw (← e, ← q, ← add-one i) (sym m ∙ k) in
@@ -98,7 +98,8 @@ module _ (s : List ℕ) (d : ℕ) (gs : List ℕ) (fs : List Fragment) where
   pub several-is : unsortedFrames s d gs fs ≡ andThen (severalIn s d gs fs) (λ _. frames s (idSize s d) gs fs)
   unfolding unsortedFrames severalIn sizeIn
   several-is =
-    sym (chain (pick (equalIds s gs) (refused 14 d) fine) (ifEq (idSize s d) 0 (refused 14 d) fine) (pick (anyDV fs) (refused 14 d) fine) (rangesIn s fs)
+    sym (chain (pick (equalIds s gs) (refused 14 d) fine) (ifEq (idSize s d) 0 (refused 14 d) fine) (pick (anyDV fs) (refused 14 d) fine)
+        (rangesIn s fs)
     (ifLt most64 (sizeOf fs) (refused 19 d) fine) (frames s (idSize s d) gs fs))
 
   pub several-equal : {a : Bool} → a ≡ equalIds s gs → a ≡ true → refused 14 d ≡ severalIn s d gs fs
@@ -115,11 +116,13 @@ module _ (s : List ℕ) (d : ℕ) (gs : List ℕ) (fs : List Fragment) where
       unfolding severalIn
       several-dv f k = rw (← e, q, ← eq-no (idSize s d) 0 (refused 14 d) fine (λ w. z (m ∙ w)) refl, ← f, k)
 
-      pub several-out : {b : Bool} {number place : ℕ} → b ≡ anyDV fs → b ≡ false → rangesIn s fs ≡ refused number place → refused number place ≡ severalIn s d gs fs
+      pub several-out : {b : Bool} {number place : ℕ} → b ≡ anyDV fs → b ≡ false → rangesIn s fs ≡ refused number place
+          → refused number place ≡ severalIn s d gs fs
       unfolding severalIn
       several-out f k r = rw (← e, q, ← eq-no (idSize s d) 0 (refused 14 d) fine (λ w. z (m ∙ w)) refl, ← f, k, r)
 
-      pub several-size : {b : Bool} {v : Verdict} → b ≡ anyDV fs → b ≡ false → rangesIn s fs ≡ fine → v ≡ sizeIn d fs → v ≡ severalIn s d gs fs
+      pub several-size : {b : Bool} {v : Verdict} → b ≡ anyDV fs → b ≡ false → rangesIn s fs ≡ fine → v ≡ sizeIn d fs
+          → v ≡ severalIn s d gs fs
       unfolding severalIn
       several-size f k r j = rw (← e, q, ← eq-no (idSize s d) 0 (refused 14 d) fine (λ w. z (m ∙ w)) refl, ← f, k, r) j
 
@@ -160,7 +163,8 @@ blit-blit [] [] i w h = refl
 blit-blit [] (y ∷ ys) i w h = absurd (omega arith)
 blit-blit (x ∷ xs) [] i w h = absurd (omega arith)
 blit-blit (x ∷ xs) (y ∷ ys) i w h =
-    rw (← blit-one i y (blit (suc i) xs (set w i x)), blit-comm (y ∷ []) i (suc i) xs (set w i x) (omega arith), blit-one i y (set w i x), set-set w i x y)
+    rw (← blit-one i y (blit (suc i) xs (set w i x)), blit-comm (y ∷ []) i (suc i) xs (set w i x) (omega arith), blit-one i y (set w i x),
+        set-set w i x y)
     (blit-blit xs ys (suc i) (set w i y) (omega arith))
 
 -- ---- counts of groups
@@ -188,7 +192,8 @@ one-other g k e = sym (eq-no _ _ _ _ e refl)
 one-few : (g k : ℕ) → ifEq g k 1 0 ≤ 1
 one-few g k =
     ⊎-elim (λ h. let e = one-other g k (λ z. omega arith) in omega arith)
-    (λ h. ⊎-elim (λ l. let e = one-other g k (λ z. omega arith) in omega arith) (λ l. let e = one-same g k (omega arith) in omega arith) (lt-or-le k g))
+    (λ h. ⊎-elim (λ l. let e = one-other g k (λ z. omega arith) in omega arith) (λ l. let e = one-same g k (omega arith) in omega arith)
+        (lt-or-le k g))
     (lt-or-le g k)
 
 of-few : (k : ℕ) (rs : List Frame) → ofGroup k rs ≤ length rs
@@ -252,7 +257,8 @@ module _ (n : ℕ) (rs : List Frame) (r : Frame) (w₀ : List ℕ) {w : List ℕ
     (lt-or-le (r .group) (length w))
 
 -- ---- words set to zero
-pub zero-turn : (n p : ℕ) (d : List ℕ) {g : List ℕ} → 0 < n → blit p (replicate n 0) d ≡ g → blit (p + 1) (replicate (n - 1) 0) (set d p 0) ≡ g
+pub zero-turn : (n p : ℕ) (d : List ℕ) {g : List ℕ} → 0 < n → blit p (replicate n 0) d ≡ g
+    → blit (p + 1) (replicate (n - 1) 0) (set d p 0) ≡ g
 unfolding blit
 zero-turn zero p d h i = absurd (omega arith)
 zero-turn (suc n) p d h i = rw (add-one, sub-one) i
@@ -286,17 +292,20 @@ module _ (s : List ℕ) (d : ℕ) (fs : List Fragment) where
   groups-one (k ∷ []) g e h = rw e
   groups-one (k ∷ j ∷ gs) g e h = absurd (omega arith)
 
-  pub groups-several : (gs : List ℕ) → (length gs ≡ 0 → ⊥) → (length gs ≡ 1 → ⊥) → countGroups s d gs fs ≡ tallied (length gs) (unsortedFrames s d gs fs)
+  pub groups-several : (gs : List ℕ) → (length gs ≡ 0 → ⊥) → (length gs ≡ 1 → ⊥)
+      → countGroups s d gs fs ≡ tallied (length gs) (unsortedFrames s d gs fs)
   unfolding countGroups
   groups-several [] h k = absurd (h refl)
   groups-several (g ∷ []) h k = absurd (k refl)
   groups-several (g ∷ j ∷ gs) h k = refl
 
-  pub alone-refused : (gs w : List ℕ) {g n p : ℕ} {v : List ℕ} → g ≡ getD gs 0 0 → length gs ≡ 1 → countOne s d g fs ≡ refused n p → v ≡ blit 0 (0 ∷ []) w
+  pub alone-refused : (gs w : List ℕ) {g n p : ℕ} {v : List ℕ} → g ≡ getD gs 0 0 → length gs ≡ 1 → countOne s d g fs ≡ refused n p
+      → v ≡ blit 0 (0 ∷ []) w
       → laid (refused n p) v ≡ laidCounts (countGroups s d gs fs) (length gs) w
   alone-refused gs w {g} e h q k = rw (groups-one gs g e h, q, h, k)
 
-  pub alone-counted : (gs w : List ℕ) {g n : ℕ} {v : List ℕ} → g ≡ getD gs 0 0 → length gs ≡ 1 → countOne s d g fs ≡ ok (n ∷ []) → v ≡ blit 0 (n ∷ []) w
+  pub alone-counted : (gs w : List ℕ) {g n : ℕ} {v : List ℕ} → g ≡ getD gs 0 0 → length gs ≡ 1 → countOne s d g fs ≡ ok (n ∷ [])
+      → v ≡ blit 0 (n ∷ []) w
       → laid fine v ≡ laidCounts (countGroups s d gs fs) (length gs) w
   alone-counted gs w {g} e h q k = rw (groups-one gs g e h, q, k)
 
@@ -328,5 +337,6 @@ module _ (s : List ℕ) (d : ℕ) (gs : List ℕ) (fs : List Fragment) where
   several-refused w e q = rw (several-is s d gs fs, e, q)
 
   pub several-read : (w : List ℕ) (n : ℕ) {x : Laid} → severalIn s d gs fs ≡ fine → n ≡ idSize s d
-      → x ≡ laidCounts (tallied (length gs) (frames s n gs fs)) (length gs) w → x ≡ laidCounts (tallied (length gs) (unsortedFrames s d gs fs)) (length gs) w
+      → x ≡ laidCounts (tallied (length gs) (frames s n gs fs)) (length gs) w
+          → x ≡ laidCounts (tallied (length gs) (unsortedFrames s d gs fs)) (length gs) w
   several-read w n e q k = rw (several-is s d gs fs, e, ← q) k

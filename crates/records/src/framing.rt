@@ -58,7 +58,8 @@ pub fn inside(image: &[u8], position: u64, left: u64) -> u64
 
 // The place m bytes further on.
 pub fn skip_on(image: &[u8], fragments: &[u64], at: u64, position: u64, left: u64, m: u64) -> Moved
-    ensures { λ r. ⌜ movedOf (now (image .entry)) (now (fragments .entry)) r ≡ skip m (ahead (now (image .entry)) (now (fragments .entry)) at position left) ⌝ }
+    ensures { λ r. ⌜ movedOf (now (image .entry)) (now (fragments .entry)) r
+      ≡ skip m (ahead (now (image .entry)) (now (fragments .entry)) at position left) ⌝ }
 {
     let n = fragments.len() as u64;
     let mut i = at;
@@ -85,7 +86,8 @@ pub fn skip_on(image: &[u8], fragments: &[u64], at: u64, position: u64, left: u6
 
 // Byte m of what is ahead, 0 past the end.
 pub fn byte_at(image: &[u8], fragments: &[u64], at: u64, position: u64, left: u64, m: u64) -> u64
-    ensures { λ r. ⌜ Bounded 256 (getD (joined (now (image .entry)) (ahead (now (image .entry)) (now (fragments .entry)) at position left)) m 0) r ⌝ }
+    ensures { λ r. ⌜ Bounded 256
+      (getD (joined (now (image .entry)) (ahead (now (image .entry)) (now (fragments .entry)) at position left)) m 0) r ⌝ }
 {
     let n = fragments.len() as u64;
     let mut i = at;
@@ -112,7 +114,8 @@ pub fn byte_at(image: &[u8], fragments: &[u64], at: u64, position: u64, left: u6
 
 // The number of the first n bytes ahead, the lowest first.
 pub fn number_at(image: &[u8], fragments: &[u64], at: u64, position: u64, left: u64, n: u64) -> Number
-    ensures { λ r. ⌜ numberOf r ≡ numeral (leAt n (joined (now (image .entry)) (ahead (now (image .entry)) (now (fragments .entry)) at position left)) 0) ⌝ }
+    ensures { λ r. ⌜ numberOf r
+      ≡ numeral (leAt n (joined (now (image .entry)) (ahead (now (image .entry)) (now (fragments .entry)) at position left)) 0) ⌝ }
 {
     let mut i = n;
     let mut x: u64 = 0;
@@ -127,8 +130,9 @@ pub fn number_at(image: &[u8], fragments: &[u64], at: u64, position: u64, left: 
 }
 
 // The 32-bit number ahead.
-pub fn length_at(image: &[u8], fragments: &[u64], at: u64, position: u64, left: u64) -> u64
-    ensures { λ r. ⌜ Bounded 4294967296 (leAt 4 (joined (now (image .entry)) (ahead (now (image .entry)) (now (fragments .entry)) at position left)) 0) r ⌝ }
+fn length_at(image: &[u8], fragments: &[u64], at: u64, position: u64, left: u64) -> u64
+    ensures { λ r. ⌜ Bounded 4294967296
+      (leAt 4 (joined (now (image .entry)) (ahead (now (image .entry)) (now (fragments .entry)) at position left)) 0) r ⌝ }
 {
     let a = byte_at(image, fragments, at, position, left, 0);
     let b = byte_at(image, fragments, at, position, left, 1);
@@ -154,8 +158,9 @@ pub fn with_id(image: &[u8], groups: &[u64], id: u64) -> Found
 }
 
 // The bytes of a record of the group at g, past its id; of a VLSD storage group with the length that stands ahead.
-pub fn body_of(image: &[u8], fragments: &[u64], at: u64, position: u64, left: u64, g: u64) -> Number
-    ensures { λ r. ⌜ numberOf r ≡ bodyOf (now (image .entry)) (joined (now (image .entry)) (ahead (now (image .entry)) (now (fragments .entry)) at position left)) g ⌝ }
+fn body_of(image: &[u8], fragments: &[u64], at: u64, position: u64, left: u64, g: u64) -> Number
+    ensures { λ r. ⌜ numberOf r
+      ≡ bodyOf (now (image .entry)) (joined (now (image .entry)) (ahead (now (image .entry)) (now (fragments .entry)) at position left)) g ⌝ }
 {
     if is_storage(image, g) {
         let to = skip_on(image, fragments, at, position, left, 4);
@@ -172,8 +177,9 @@ pub fn body_of(image: &[u8], fragments: &[u64], at: u64, position: u64, left: u6
 }
 
 // A record of group number k, whose CG is at g; its id was passed.
-pub fn body_step(image: &[u8], fragments: &[u64], at: u64, position: u64, left: u64, k: u64, g: u64) -> Step
-    ensures { λ r. ⌜ steppedOf (now (image .entry)) (now (fragments .entry)) r ≡ bodyStep (now (image .entry)) k g (ahead (now (image .entry)) (now (fragments .entry)) at position left) ⌝ }
+fn body_step(image: &[u8], fragments: &[u64], at: u64, position: u64, left: u64, k: u64, g: u64) -> Step
+    ensures { λ r. ⌜ steppedOf (now (image .entry)) (now (fragments .entry)) r
+      ≡ bodyStep (now (image .entry)) k g (ahead (now (image .entry)) (now (fragments .entry)) at position left) ⌝ }
 {
     let size = body_of(image, fragments, at, position, left, g);
     match size {
@@ -182,7 +188,9 @@ pub fn body_step(image: &[u8], fragments: &[u64], at: u64, position: u64, left: 
             let to = skip_on(image, fragments, at, position, left, bytes);
             match to {
                 Moved::Past => Step::Broken,
-                Moved::To { at: i, position: p, left: l } => Step::Record { group: k, bytes, next: Framing { at: i }, position: p, left: l },
+                Moved::To { at: i, position: p, left: l } => {
+                    Step::Record { group: k, bytes, next: Framing { at: i }, position: p, left: l }
+                }
             }
         }
     }
@@ -191,7 +199,8 @@ pub fn body_step(image: &[u8], fragments: &[u64], at: u64, position: u64, left: 
 impl Framing {
     // The record that begins at a position of the image, with so many bytes left of its fragment; ids have n bytes.
     pub fn step(self, image: &[u8], n: u64, groups: &[u64], fragments: &[u64], position: u64, left: u64) -> Step
-        ensures { λ r. ⌜ steppedOf (now (image .entry)) (now (fragments .entry)) r ≡ stepAt (now (image .entry)) n (now (groups .entry)) (ahead (now (image .entry)) (now (fragments .entry)) (self .at) position left) ⌝ }
+        ensures { λ r. ⌜ steppedOf (now (image .entry)) (now (fragments .entry)) r
+          ≡ stepAt (now (image .entry)) n (now (groups .entry)) (ahead (now (image .entry)) (now (fragments .entry)) (self .at) position left) ⌝ }
     {
         let to = skip_on(image, fragments, self.at, position, left, n);
         match to {

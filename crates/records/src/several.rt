@@ -17,7 +17,7 @@ ghost use Rattle.mdf.specs.Count.{countGroups};
 ghost use Rattle.records.specs.Several.{sizeIn, severalIn, tallied, laid, laidCounts};
 
 // Whether one of the groups from index `from` on has the id.
-pub fn is_id_of(image: &[u8], id: u64, groups: &[u64], from: u64) -> bool
+fn is_id_of(image: &[u8], id: u64, groups: &[u64], from: u64) -> bool
     ensures { λ r. ⌜ r ≡ isIdOf (now (image .entry)) id (drop from (now (groups .entry))) ⌝ }
 {
     let n = groups.len() as u64;
@@ -47,7 +47,7 @@ pub fn equal_ids(image: &[u8], groups: &[u64]) -> bool
 }
 
 // 19: the bytes of all fragments exceed 2^64 - 1.
-pub fn size_in(d: u64, fragments: &[u64]) -> Check
+fn size_in(d: u64, fragments: &[u64]) -> Check
     ensures { λ r. ⌜ verdictOf r ≡ sizeIn d (fragmentsOf (now (fragments .entry))) ⌝ }
 {
     let n = fragments.len() as u64;
@@ -114,9 +114,11 @@ fn count_up(words: &mut [u64], k: u64)
 
 // The records of all groups, counted; ids have n bytes.
 fn count_frames(image: &[u8], n: u64, groups: &[u64], fragments: &[u64], counts: &mut [u64]) -> Check
-    requires { ⌜ (0 < n) × (rangesIn (now image) (fragmentsOf (now fragments)) ≡ fine) × (sizeOf (fragmentsOf (now fragments)) ≤ most64) ⌝ }
+    requires { ⌜ (0 < n) × (rangesIn (now image) (fragmentsOf (now fragments)) ≡ fine)
+      × (sizeOf (fragmentsOf (now fragments)) ≤ most64) ⌝ }
     ensures { λ r. ⌜ laid (verdictOf r) (now (counts .exit))
-      ≡ laidCounts (tallied (length (now (groups .entry))) (frames (now (image .entry)) n (now (groups .entry)) (fragmentsOf (now (fragments .entry)))))
+      ≡ laidCounts (tallied (length (now (groups .entry)))
+          (frames (now (image .entry)) n (now (groups .entry)) (fragmentsOf (now (fragments .entry)))))
         (length (now (groups .entry))) (now (counts .entry)) ⌝ }
 {
     let k = groups.len() as u64;
@@ -159,7 +161,8 @@ fn count_frames(image: &[u8], n: u64, groups: &[u64], fragments: &[u64], counts:
 // The counts of several groups: the checks, then the records to the end.
 pub fn count_several(image: &[u8], d: u64, groups: &[u64], fragments: &[u64], counts: &mut [u64]) -> Check
     ensures { λ r. ⌜ laid (verdictOf r) (now (counts .exit))
-      ≡ laidCounts (tallied (length (now (groups .entry))) (unsortedFrames (now (image .entry)) d (now (groups .entry)) (fragmentsOf (now (fragments .entry)))))
+      ≡ laidCounts (tallied (length (now (groups .entry)))
+          (unsortedFrames (now (image .entry)) d (now (groups .entry)) (fragmentsOf (now (fragments .entry)))))
         (length (now (groups .entry))) (now (counts .entry)) ⌝ }
 {
     let before = several_in(image, d, groups, fragments);
@@ -173,7 +176,7 @@ pub fn count_several(image: &[u8], d: u64, groups: &[u64], fragments: &[u64], co
 }
 
 // The first word.
-pub fn put_first(words: &mut [u64], x: u64)
+fn put_first(words: &mut [u64], x: u64)
     ensures { λ _. ⌜ now (words .exit) ≡ blit 0 (x ∷ []) (now (words .entry)) ⌝ }
 {
     if words.len() == 0 {
@@ -186,7 +189,8 @@ pub fn put_first(words: &mut [u64], x: u64)
 fn count_alone(image: &[u8], d: u64, groups: &[u64], fragments: &[u64], counts: &mut [u64]) -> Check
     requires { ⌜ length (now groups) ≡ 1 ⌝ }
     ensures { λ r. ⌜ laid (verdictOf r) (now (counts .exit))
-      ≡ laidCounts (countGroups (now (image .entry)) d (now (groups .entry)) (fragmentsOf (now (fragments .entry)))) (length (now (groups .entry))) (now (counts .entry)) ⌝ }
+      ≡ laidCounts (countGroups (now (image .entry)) d (now (groups .entry)) (fragmentsOf (now (fragments .entry))))
+        (length (now (groups .entry))) (now (counts .entry)) ⌝ }
 {
     let counted = count_one(image, d, word_at(groups, 0), fragments);
     match counted {
@@ -204,7 +208,8 @@ fn count_alone(image: &[u8], d: u64, groups: &[u64], fragments: &[u64], counts: 
 // The counts of a DG's groups: of none, of one by its bytes, of several by reading to the end.
 pub fn count_groups(image: &[u8], d: u64, groups: &[u64], fragments: &[u64], counts: &mut [u64]) -> Check
     ensures { λ r. ⌜ laid (verdictOf r) (now (counts .exit))
-      ≡ laidCounts (countGroups (now (image .entry)) d (now (groups .entry)) (fragmentsOf (now (fragments .entry)))) (length (now (groups .entry))) (now (counts .entry)) ⌝ }
+      ≡ laidCounts (countGroups (now (image .entry)) d (now (groups .entry)) (fragmentsOf (now (fragments .entry))))
+        (length (now (groups .entry))) (now (counts .entry)) ⌝ }
 {
     if groups.len() == 0 {
         return Check::Fine;

@@ -10,9 +10,8 @@ ghost use Rattle.fields.specs.Answer.{verdictOf};
 ghost use Rattle.mdf.specs.Words.{kindOf, fragmentsOf};
 ghost use Rattle.mdf.specs.Records.{rangesIn, sortedIn, runs, runsWhole};
 ghost use Rattle.mdf.specs.Count.{quotient, countOne};
-ghost use Rattle.records.specs.Straddle.{straddles, remainder, startOf};
+ghost use Rattle.records.specs.Straddle.{straddles, remainder, startOf, dvFits};
 ghost use Rattle.records.specs.Bounded.{Bounded};
-ghost use Rattle.records.specs.Straddle.{dvFits};
 ghost use Rattle.records.specs.Counted.{bytesOf, ownBytes, within64};
 ghost use Rattle.records.specs.Answer.{countedOf};
 
@@ -23,7 +22,7 @@ pub enum Counted {
 }
 
 // Whether a record straddles: it has bytes in fragments of one kind, and a fragment of the other follows.
-pub fn straddles_in(bytes: u64, was: bool, is: bool) -> bool
+fn straddles_in(bytes: u64, was: bool, is: bool) -> bool
     ensures { λ r. ⌜ r ≡ straddles bytes was is ⌝ }
 {
     if was {
@@ -120,7 +119,7 @@ pub fn sorted_in(image: &[u8], d: u64, g: u64, fragments: &[u64]) -> Check
 // The bytes of the fragment with its words at i, where it is DV or DT as asked, else 0.
 fn own_bytes(fragments: &[u64], i: u64, dv: bool) -> u64
     requires { ⌜ i + 2 < 18446744073709551616 ⌝ }
-    ensures { λ r. do ⌜ r ≡ ownBytes dv (kindOf (getD (now (fragments .entry)) (i + 2) 0)) (getD (now (fragments .entry)) (i + 1) 0) ⌝ }
+    ensures { λ r. ⌜ r ≡ ownBytes dv (kindOf (getD (now (fragments .entry)) (i + 2) 0)) (getD (now (fragments .entry)) (i + 1) 0) ⌝ }
 {
     if is_dv(fragments, i + 2) {
         if dv {
@@ -134,7 +133,7 @@ fn own_bytes(fragments: &[u64], i: u64, dv: bool) -> u64
     word_at(fragments, i + 1)
 }
 
-// n, or 19 where the sum of two numbers is over 2^64 - 1.
+// The sum of two numbers, or 19 where it is over 2^64 - 1.
 fn sum_within(d: u64, a: u64, b: u64) -> Counted
     ensures { λ r. ⌜ countedOf r ≡ within64 d (a + b) ⌝ }
 {

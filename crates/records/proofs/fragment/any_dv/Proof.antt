@@ -3,16 +3,13 @@ use Rattle.mdf.specs.Records.{anyDV}
 use Rattle.mdf.specs.Words.{fragmentsOf}
 use Rattle.records.specs.Ahead.{fragmentsFrom}
 use Rattle.records.specs.FragmentLaws.{from-start, dv-met, dv-next, dv-end}
-use mathlib.Core.Path.{_≡_, refl, sym, ap, _∙_}
-use Prim.Native.Nat.{_+_, _-_, _≤_, _<_}
+use mathlib.Core.Path.{_≡_}
+use Prim.Native.Nat.{_-_, _≤_}
 use borrow.Author.Needs.{needs}
 use native.Mathlib.Omega.{arith}
-use lib.ListN.{length, length-set}
+use lib.ListN.{length}
 use Rattle.records.proofs.fragment.any_dv.Statement.{statement}
 use Rattle.records.proofs.fragment.any_dv.Tie as tie
-use Rattle.records.proofs.fragment.any_dv.Reads as reads
-use Rattle.records.proofs.fragment.any_dv.Lts as lts
-use Rattle.records.proofs.fragment.word_at.Reads as word-at-reads
 
 abbrev Inv-loop : tie.InvT-loop
 Inv-loop fragments n i₀ i = (i ≤ length fragments) × (anyDV (fragmentsFrom fragments i) ≡ anyDV (fragmentsOf fragments))
@@ -20,39 +17,30 @@ Inv-loop fragments n i₀ i = (i ≤ length fragments) × (anyDV (fragmentsFrom 
 abbrev μ-loop : tie.MeasureT-loop
 μ-loop fragments n i₀ i = length fragments - i
 
--- src/fragment.rt:58:5
 loop-holds : tie.Need-loop-holds Inv-loop μ-loop
 loop-holds c = (omega arith, rw (from-start (c .before .args .fragments .now)))
 
--- src/fragment.rt:58:15
 sub-loop : tie.Need-sub-loop Inv-loop μ-loop
 sub-loop c = search needs
 
--- src/fragment.rt:59:39
 add-word-at : tie.Need-add-word-at Inv-loop μ-loop
 add-word-at c = search needs
 
--- src/fragment.rt:59:13
 word-at-requires : tie.Need-word-at-requires Inv-loop μ-loop
 word-at-requires c κs = search needs
 
--- src/fragment.rt:61:13
 returns : tie.Need-returns Inv-loop μ-loop
 returns c = dv-met _ _ (c .before .before .before .loop .inv .1) (omega arith) (c .before .word-at .ensures) (c .if1 .taken)
 
--- src/fragment.rt:63:9
 add-i : tie.Need-add-i Inv-loop μ-loop
 add-i c = search needs
 
--- src/fragment.rt:58:5
 loop-less : tie.Need-loop-less Inv-loop μ-loop
 loop-less c = search needs
 
--- src/fragment.rt:58:5
 loop-again : tie.Need-loop-again Inv-loop μ-loop
 loop-again c = (omega arith, dv-next _ _ (c .before .before .before .loop .inv .1) (omega arith) (c .before .word-at .ensures) (c .if1 .left))
 
--- src/fragment.rt:53:1
 returns-2 : tie.Need-returns-2 Inv-loop μ-loop
 returns-2 c = dv-end _ _ (c .before .loop .inv .1) (omega arith)
 

@@ -1,51 +1,41 @@
 -- The bytes past the id, and what is ahead past them.
 use Rattle.records.specs.FrameLaws.{record-none, record-short, record-onto}
 use Rattle.records.specs.AnswerLaws.{so-past, so-to, so-missing, so-value}
-use native.Mathlib.Omega.{arith}
-use lib.ListN.{length, length-set}
 use borrow.Author.Needs.{needs}
 use Rattle.records.proofs.framing.body_step.Statement.{statement}
 use Rattle.records.proofs.framing.body_step.Tie as tie
-use Rattle.records.proofs.framing.body_step.Reads as reads
-use Rattle.records.proofs.framing.body_step.Lts as lts
-use Rattle.records.proofs.framing.body_of.Reads as body-of-reads
-use Rattle.records.proofs.framing.skip_on.Reads as skip-on-reads
 
--- src/framing.rt:178:9
 body-of-requires : tie.Need-body-of-requires
 body-of-requires c κs = search needs
 
--- src/framing.rt:180:28
 enum-told : tie.Need-enum-told
 enum-told c = search needs
 
--- src/framing.rt:181:23
 enum-known-size : tie.Need-enum-known-size
 enum-known-size c = search needs
 
--- src/framing.rt:182:17
 skip-on-requires : tie.Need-skip-on-requires
 skip-on-requires c κs = search needs
 
--- src/framing.rt:184:32
 enum-told-2 : tie.Need-enum-told-2
 enum-told-2 c = search needs
 
--- src/framing.rt:185:33
 enum-known-to : tie.Need-enum-known-to
 enum-known-to c = search needs
 
--- src/framing.rt:175:1
 returns : tie.Need-returns
 returns c = record-none _ _ _ _ (so-missing (c .before .before .body-of .ensures) (c .enum-told .given .1))
 
--- src/framing.rt:175:1
 returns-2 : tie.Need-returns-2
-returns-2 c = record-short _ _ _ _ (so-value (c .before .before .before .before .before .before .body-of .ensures) (c .before .before .before .before .size .given .1)) (so-past _ _ (c .before .before .skip-on .ensures) (c .enum-told2 .given .1))
+returns-2 c =
+    record-short _ _ _ _ (so-value (c .before .before .before .before .before .before .body-of .ensures)
+    (c .before .before .before .before .size .given .1)) (so-past _ _ (c .before .before .skip-on .ensures) (c .enum-told2 .given .1))
 
--- src/framing.rt:175:1
 returns-3 : tie.Need-returns-3
-returns-3 c = record-onto _ _ _ _ (so-value (c .before .before .before .before .before .before .before .body-of .ensures) (c .before .before .before .before .before .size .given .1)) (so-to _ _ (c .before .before .before .skip-on .ensures) (c .before .to .given .1))
+returns-3 c =
+    record-onto _ _ _ _ (so-value (c .before .before .before .before .before .before .before .body-of .ensures)
+    (c .before .before .before .before .before .size .given .1))
+    (so-to _ _ (c .before .before .before .skip-on .ensures) (c .before .to .given .1))
 
 pub body-step-spec : {M : Type 1} → statement M
 body-step-spec =

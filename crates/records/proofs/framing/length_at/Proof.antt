@@ -1,57 +1,44 @@
 -- Four bytes, the lowest first.
 use Rattle.records.specs.FrameLaws.{four-bytes}
 use native.Mathlib.Omega.{arith}
-use lib.ListN.{length, length-set}
 use borrow.Author.Needs.{needs}
 use Rattle.records.proofs.framing.length_at.Statement.{statement}
 use Rattle.records.proofs.framing.length_at.Tie as tie
-use Rattle.records.proofs.framing.length_at.Reads as reads
-use Rattle.records.proofs.framing.length_at.Lts as lts
-use Rattle.records.proofs.framing.byte_at.Reads as byte-at-reads
 
--- src/framing.rt:133:9
 byte-at-requires : tie.Need-byte-at-requires
 byte-at-requires c κs = search needs
 
--- src/framing.rt:134:9
 byte-at-requires-2 : tie.Need-byte-at-requires-2
 byte-at-requires-2 c κs = search needs
 
--- src/framing.rt:135:9
 byte-at-requires-3 : tie.Need-byte-at-requires-3
 byte-at-requires-3 c κs = search needs
 
--- src/framing.rt:136:9
 byte-at-requires-4 : tie.Need-byte-at-requires-4
 byte-at-requires-4 c κs = search needs
 
--- src/framing.rt:137:31
 mul-result : tie.Need-mul-result
 mul-result c = search needs
 
--- src/framing.rt:137:27
 add-result : tie.Need-add-result
 add-result c = search needs
 
--- src/framing.rt:137:20
 mul-result-2 : tie.Need-mul-result-2
 mul-result-2 c = search needs
 
--- src/framing.rt:137:16
 add-result-2 : tie.Need-add-result-2
 add-result-2 c = search needs
 
--- src/framing.rt:137:9
 mul-result-3 : tie.Need-mul-result-3
 mul-result-3 c = search needs
 
--- src/framing.rt:137:5
 add-result-3 : tie.Need-add-result-3
 add-result-3 c = search needs
 
--- src/framing.rt:130:1
 returns : tie.Need-returns
-returns c = record { is = four-bytes _ (c .before .before .before .byte-at .ensures .is) (c .before .before .byte-at2 .ensures .is) (c .before .byte-at3 .ensures .is) (c .byte-at4 .ensures .is); small = omega arith }
+returns c =
+    record { is = four-bytes _ (c .before .before .before .byte-at .ensures .is) (c .before .before .byte-at2 .ensures .is)
+    (c .before .byte-at3 .ensures .is) (c .byte-at4 .ensures .is); small = omega arith }
 
 pub length-at-spec : {M : Type 1} → statement M
 length-at-spec =

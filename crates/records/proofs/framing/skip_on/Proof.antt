@@ -1,75 +1,68 @@
 -- What is left to skip of what is then ahead gives what the whole gives.
 use Rattle.records.specs.AheadLaws.{part-high, skip-stay, skip-move, skip-over}
 use Rattle.records.specs.Ahead.{ahead, skip}
-use mathlib.Core.Path.{_≡_, refl, sym, ap, _∙_}
-use Prim.Native.Nat.{_+_, _-_, _≤_, _<_}
+use mathlib.Core.Path.{_≡_, refl, _∙_}
+use Prim.Native.Nat.{_-_, _≤_}
 use borrow.Author.Needs.{needs}
 use native.Mathlib.Omega.{arith}
-use lib.ListN.{length, length-set}
+use lib.ListN.{length}
 use Rattle.records.proofs.framing.skip_on.Statement.{statement}
 use Rattle.records.proofs.framing.skip_on.Tie as tie
-use Rattle.records.proofs.framing.skip_on.Reads as reads
-use Rattle.records.proofs.framing.skip_on.Lts as lts
-use Rattle.records.proofs.fragment.word_at.Reads as word-at-reads
-use Rattle.records.proofs.framing.inside.Reads as inside-reads
 
 abbrev Inv-loop : tie.InvT-loop
-Inv-loop image fragments at position left m n i₀ p₀ l₀ more₀ i p l more = (p ≤ 18446744073709551615) × (skip more (ahead image fragments i p l) ≡ skip more₀ (ahead image fragments i₀ p₀ l₀))
+Inv-loop image fragments at position left m n i₀ p₀ l₀ more₀ i p l more =
+    (p ≤ 18446744073709551615) × (skip more (ahead image fragments i p l) ≡ skip more₀ (ahead image fragments i₀ p₀ l₀))
 
 abbrev μ-loop : tie.MeasureT-loop
 μ-loop image fragments at position left m n i₀ p₀ l₀ more₀ i p l more = length fragments - i
 
--- src/framing.rt:68:5
 loop-holds : tie.Need-loop-holds Inv-loop μ-loop
 loop-holds c = (omega arith, refl)
 
--- src/framing.rt:69:13
 inside-requires : tie.Need-inside-requires Inv-loop μ-loop
 inside-requires c κs = search needs
 
--- src/framing.rt:71:49
 add-t15 : tie.Need-add-t15 Inv-loop μ-loop
-add-t15 c = let h = part-high (c .before .before .loop .p) (c .before .before .loop .l) (c .before .before .before .before .before .args .image .now) in let e = c .before .inside .ensures in omega arith
+add-t15 c =
+    let h = part-high (c .before .before .loop .p) (c .before .before .loop .l)
+    (c .before .before .before .before .before .args .image .now) in let e = c .before .inside .ensures in omega arith
 
--- src/framing.rt:71:13
 returns : tie.Need-returns Inv-loop μ-loop
 returns c = skip-stay _ _ _ _ _ _ (c .before .inside .ensures) (c .if1 .taken) ∙ c .before .before .loop .inv .1
 
--- src/framing.rt:74:13
 returns-2 : tie.Need-returns-2 Inv-loop μ-loop
-returns-2 c = skip-over _ _ _ _ _ _ (c .before .before .inside .ensures) (c .before .before .before .loop .inv .1) (c .before .if1 .left) (omega arith)
+returns-2 c =
+    skip-over _ _ _ _ _ _ (c .before .before .inside .ensures) (c .before .before .before .loop .inv .1) (c .before .if1 .left)
+    (omega arith)
 
--- src/framing.rt:77:13
 returns-3 : tie.Need-returns-3 Inv-loop μ-loop
-returns-3 c = skip-over _ _ _ _ _ _ (c .before .before .before .inside .ensures) (c .before .before .before .before .loop .inv .1) (c .before .before .if1 .left) (omega arith)
+returns-3 c =
+    skip-over _ _ _ _ _ _ (c .before .before .before .inside .ensures) (c .before .before .before .before .loop .inv .1)
+    (c .before .before .if1 .left) (omega arith)
 
--- src/framing.rt:79:9
 sub-more : tie.Need-sub-more Inv-loop μ-loop
 sub-more c = search needs
 
--- src/framing.rt:80:9
 word-at-requires : tie.Need-word-at-requires Inv-loop μ-loop
 word-at-requires c κs = search needs
 
--- src/framing.rt:81:32
 add-word-at : tie.Need-add-word-at Inv-loop μ-loop
 add-word-at c = search needs
 
--- src/framing.rt:81:9
 word-at-requires-2 : tie.Need-word-at-requires-2 Inv-loop μ-loop
 word-at-requires-2 c κs = search needs
 
--- src/framing.rt:82:9
 add-i : tie.Need-add-i Inv-loop μ-loop
 add-i c = search needs
 
--- src/framing.rt:68:5
 loop-less : tie.Need-loop-less Inv-loop μ-loop
 loop-less c = search needs
 
--- src/framing.rt:68:5
 loop-again : tie.Need-loop-again Inv-loop μ-loop
-loop-again c = (omega arith, skip-move _ _ _ _ _ _ (c .before .before .before .before .before .inside .ensures) (c .before .before .before .before .before .before .loop .inv .1) (c .before .before .before .before .if1 .left) (omega arith) (c .before .word-at .ensures) (c .word-at2 .ensures))
+loop-again c =
+    (omega arith, skip-move _ _ _ _ _ _ (c .before .before .before .before .before .inside .ensures)
+    (c .before .before .before .before .before .before .loop .inv .1) (c .before .before .before .before .if1 .left) (omega arith)
+    (c .before .word-at .ensures) (c .word-at2 .ensures))
 
 pub skip-on-spec : {M : Type 1} → statement M
 skip-on-spec =

@@ -1,19 +1,12 @@
 -- The invalidation bytes are the 32-bit field at data byte 28.
 use Rattle.records.specs.GroupLaws.{inval-is}
-use native.Mathlib.Omega.{arith}
-use lib.ListN.{length, length-set}
 use borrow.Author.Needs.{needs}
 use Rattle.records.proofs.group.inval_bytes.Statement.{statement}
 use Rattle.records.proofs.group.inval_bytes.Tie as tie
-use Rattle.records.proofs.group.inval_bytes.Reads as reads
-use Rattle.records.proofs.group.inval_bytes.Lts as lts
-use Rattle.blocks.proofs.block.data_u32.Reads as data-u32-reads
 
--- src/group.rt:38:5
 data-u32-requires : tie.Need-data-u32-requires
 data-u32-requires c κs = search needs
 
--- src/group.rt:35:1
 returns : tie.Need-returns
 returns c = record { is = inval-is _ _ (c .data-u32 .ensures .is); small = c .data-u32 .ensures .small }
 

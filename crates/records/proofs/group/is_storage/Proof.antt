@@ -1,19 +1,12 @@
 -- The group is VLSD storage by bit 0 of its flags.
 use Rattle.records.specs.GroupLaws.{storage-is}
-use native.Mathlib.Omega.{arith}
-use lib.ListN.{length, length-set}
 use borrow.Author.Needs.{needs}
 use Rattle.records.proofs.group.is_storage.Statement.{statement}
 use Rattle.records.proofs.group.is_storage.Tie as tie
-use Rattle.records.proofs.group.is_storage.Reads as reads
-use Rattle.records.proofs.group.is_storage.Lts as lts
-use Rattle.blocks.proofs.block.data_u16.Reads as data-u16-reads
 
--- src/group.rt:45:5
 data-u16-requires : tie.Need-data-u16-requires
 data-u16-requires c κs = search needs
 
--- src/group.rt:42:1
 returns : tie.Need-returns
 returns c = storage-is _ _ (c .data-u16 .ensures .is)
 

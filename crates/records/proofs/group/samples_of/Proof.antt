@@ -1,19 +1,12 @@
 -- The data bytes are the 32-bit field at data byte 24.
 use Rattle.records.specs.GroupLaws.{samples-is}
-use native.Mathlib.Omega.{arith}
-use lib.ListN.{length, length-set}
 use borrow.Author.Needs.{needs}
 use Rattle.records.proofs.group.samples_of.Statement.{statement}
 use Rattle.records.proofs.group.samples_of.Tie as tie
-use Rattle.records.proofs.group.samples_of.Reads as reads
-use Rattle.records.proofs.group.samples_of.Lts as lts
-use Rattle.blocks.proofs.block.data_u32.Reads as data-u32-reads
 
--- src/group.rt:31:5
 data-u32-requires : tie.Need-data-u32-requires
 data-u32-requires c κs = search needs
 
--- src/group.rt:28:1
 returns : tie.Need-returns
 returns c = record { is = samples-is _ _ (c .data-u32 .ensures .is); small = c .data-u32 .ensures .small }
 

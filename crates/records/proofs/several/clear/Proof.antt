@@ -2,63 +2,51 @@
 use Rattle.records.specs.SeveralLaws.{zero-past, zero-turn, zero-done}
 use Rattle.base.specs.Blit.{blit}
 use lib.ListN.{replicate}
-use mathlib.Core.Path.{_≡_, refl, sym, ap, _∙_}
-use Prim.Native.Nat.{_+_, _-_, _≤_, _<_}
+use mathlib.Core.Path.{_≡_, refl}
 use borrow.Author.Needs.{needs}
 use native.Mathlib.Omega.{arith}
 use lib.ListN.{length, length-set}
 use Rattle.records.proofs.several.clear.Statement.{statement}
 use Rattle.records.proofs.several.clear.Tie as tie
-use Rattle.records.proofs.several.clear.Reads as reads
-use Rattle.records.proofs.several.clear.Lts as lts
 
 abbrev Inv-loop : tie.InvT-loop
-Inv-loop words₀ n left₀ p₀ words left p = (length words ≡ length words₀) × (blit p (replicate left 0) words ≡ blit p₀ (replicate left₀ 0) words₀)
+Inv-loop words₀ n left₀ p₀ words left p =
+    (length words ≡ length words₀) × (blit p (replicate left 0) words ≡ blit p₀ (replicate left₀ 0) words₀)
 
 abbrev μ-loop : tie.MeasureT-loop
 μ-loop words₀ n left₀ p₀ words left p = left
 
--- src/several.rt:93:5
 loop-holds : tie.Need-loop-holds Inv-loop μ-loop
 loop-holds c = (refl, refl)
 
--- src/several.rt:95:13
 same-length : tie.Need-same-length Inv-loop μ-loop
 same-length c = search needs
 
--- src/several.rt:95:13
 returns : tie.Need-returns Inv-loop μ-loop
 returns c = zero-past (c .before .before .loop .left) _ _ (c .if1 .taken) (c .before .before .loop .inv .1)
 
--- src/several.rt:97:9
 mul-words : tie.Need-mul-words Inv-loop μ-loop
 mul-words c = search needs
 
--- src/several.rt:97:9
 slice-write-words : tie.Need-slice-write-words Inv-loop μ-loop
 slice-write-words c = search needs
 
--- src/several.rt:98:9
 add-p : tie.Need-add-p Inv-loop μ-loop
 add-p c = search needs
 
--- src/several.rt:99:9
 sub-left : tie.Need-sub-left Inv-loop μ-loop
 sub-left c = search needs
 
--- src/several.rt:93:5
 loop-less : tie.Need-loop-less Inv-loop μ-loop
 loop-less c = search needs
 
--- src/several.rt:93:5
 loop-again : tie.Need-loop-again Inv-loop μ-loop
-loop-again c = (simp length-set (c .before .before .loop .inv .0), zero-turn _ _ _ (c .before .loop-test .taken) (c .before .before .loop .inv .1))
+loop-again c =
+    (simp length-set (c .before .before .loop .inv .0), zero-turn _ _ _ (c .before .loop-test .taken) (c .before .before .loop .inv .1))
 
--- src/several.rt:88:1
 same-length-2 : tie.Need-same-length-2 Inv-loop μ-loop
 same-length-2 c = search needs
 
--- src/several.rt:88:1
 returns-2 : tie.Need-returns-2 Inv-loop μ-loop
 returns-2 c = zero-done (c .before .loop .left) (c .before .loop .p) (c .before .loop .words) (omega arith) (c .before .loop .inv .1)
 

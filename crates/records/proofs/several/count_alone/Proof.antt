@@ -1,56 +1,47 @@
 -- The count, or 0 where it is refused, is the one word.
 use Rattle.records.specs.CountLaws.{so-over, so-counted}
 use Rattle.records.specs.SeveralLaws.{alone-refused, alone-counted}
-use native.Mathlib.Omega.{arith}
-use lib.ListN.{length, length-set}
 use borrow.Author.Needs.{needs}
 use Rattle.records.proofs.several.count_alone.Statement.{statement}
 use Rattle.records.proofs.several.count_alone.Tie as tie
-use Rattle.records.proofs.several.count_alone.Reads as reads
-use Rattle.records.proofs.several.count_alone.Lts as lts
-use Rattle.records.proofs.fragment.word_at.Reads as word-at-reads
-use Rattle.records.proofs.several.put_first.Reads as put-first-reads
-use Rattle.records.proofs.sorted.count_one.Reads as count-one-reads
 
--- src/several.rt:191:39
 word-at-requires : tie.Need-word-at-requires
 word-at-requires c κs = search needs
 
--- src/several.rt:191:9
 count-one-requires : tie.Need-count-one-requires
 count-one-requires c κs = search needs
 
--- src/several.rt:193:28
 enum-known-counted : tie.Need-enum-known-counted
 enum-known-counted c = search needs
 
--- src/several.rt:194:13
 put-first-requires : tie.Need-put-first-requires
 put-first-requires c κs = search needs
 
--- src/several.rt:197:24
 enum-known-counted-2 : tie.Need-enum-known-counted-2
 enum-known-counted-2 c = search needs
 
--- src/several.rt:198:13
 put-first-requires-2 : tie.Need-put-first-requires-2
 put-first-requires-2 c κs = search needs
 
--- src/several.rt:186:1
 same-length : tie.Need-same-length
 same-length c = search needs
 
--- src/several.rt:186:1
 returns : tie.Need-returns
-returns c = alone-refused _ _ _ _ _ (c .before .before .before .before .before .before .before .before .word-at .ensures) (c .before .before .before .before .before .before .before .before .before .before .before .before .before .pre) (so-over (c .before .before .before .before .before .before .before .count-one .ensures) (c .before .before .before .before .before .counted .given .1)) (c .before .before .put-first .ensures)
+returns c =
+    alone-refused _ _ _ _ _ (c .before .before .before .before .before .before .before .before .word-at .ensures)
+    (c .before .before .before .before .before .before .before .before .before .before .before .before .before .pre)
+    (so-over (c .before .before .before .before .before .before .before .count-one .ensures)
+    (c .before .before .before .before .before .counted .given .1)) (c .before .before .put-first .ensures)
 
--- src/several.rt:186:1
 same-length-2 : tie.Need-same-length-2
 same-length-2 c = search needs
 
--- src/several.rt:186:1
 returns-2 : tie.Need-returns-2
-returns-2 c = alone-counted _ _ _ _ _ (c .before .before .before .before .before .before .before .before .word-at .ensures) (c .before .before .before .before .before .before .before .before .before .before .before .before .before .pre) (so-counted (c .before .before .before .before .before .before .before .count-one .ensures) (c .before .before .before .before .before .counted2 .given .1)) (c .before .before .put-first2 .ensures)
+returns-2 c =
+    alone-counted _ _ _ _ _ (c .before .before .before .before .before .before .before .before .word-at .ensures)
+    (c .before .before .before .before .before .before .before .before .before .before .before .before .before .pre)
+    (so-counted (c .before .before .before .before .before .before .before .count-one .ensures)
+    (c .before .before .before .before .before .counted2 .given .1)) (c .before .before .put-first2 .ensures)
 
 pub count-alone-spec : {M : Type 1} → statement M
 count-alone-spec =

@@ -3,114 +3,143 @@ use Rattle.records.specs.ReadingLaws.{Reading, read-begin, read-move, mo
 use Rattle.records.specs.AnswerLaws.{so-broken, so-record}
 use Rattle.records.specs.Ahead.{ahead}
 use Rattle.mdf.specs.Records.{joined}
-use mathlib.Core.Path.{_≡_, refl, sym, ap, _∙_}
-use Prim.Native.Nat.{_+_, _-_, _≤_, _<_}
+use Prim.Native.Nat.{_+_}
 use borrow.Author.Needs.{needs}
 use native.Mathlib.Omega.{arith}
-use lib.ListN.{length, length-set}
+use lib.ListN.{length}
 use Rattle.records.proofs.several.count_frames.Statement.{statement}
 use Rattle.records.proofs.several.count_frames.Tie as tie
-use Rattle.records.proofs.several.count_frames.Reads as reads
-use Rattle.records.proofs.several.count_frames.Lts as lts
-use Rattle.records.proofs.fragment.word_at.Reads as word-at-reads
-use Rattle.records.proofs.framing.Framing.step.Reads as step-reads
-use Rattle.records.proofs.framing.inside.Reads as inside-reads
-use Rattle.records.proofs.several.clear.Reads as clear-reads
-use Rattle.records.proofs.several.count_up.Reads as count-up-reads
 
 abbrev Inv-records : tie.InvT-records
-Inv-records image n groups fragments counts₀ k words f₀ position₀ left₀ counts f position left = Reading image n groups fragments counts₀ (f .at) position left counts
+Inv-records image n groups fragments counts₀ k words f₀ position₀ left₀ counts f position left =
+    Reading image n groups fragments counts₀ (f .at) position left counts
 
 abbrev μ-records : tie.MeasureT-records
-μ-records image n groups fragments counts₀ k words f₀ position₀ left₀ counts f position left = length (joined image (ahead image fragments (f .at) position left)) + length (ahead image fragments (f .at) position left)
+μ-records image n groups fragments counts₀ k words f₀ position₀ left₀ counts f position left =
+    length (joined image (ahead image fragments (f .at) position left)) + length (ahead image fragments (f .at) position left)
 
--- src/several.rt:124:5
 clear-requires : tie.Need-clear-requires Inv-records μ-records
 clear-requires c κs = search needs
 
--- src/several.rt:128:9
 records-holds : tie.Need-records-holds Inv-records μ-records
-records-holds c = read-begin _ _ _ _ _ (c .before .before .before .before .before .before .before .before .pre .1) (c .before .before .before .before .before .before .before .before .pre .2) (c .before .before .clear .ensures)
+records-holds c =
+    read-begin _ _ _ _ _ (c .before .before .before .before .before .before .before .before .pre .1)
+    (c .before .before .before .before .before .before .before .before .pre .2) (c .before .before .clear .ensures)
 
--- src/several.rt:129:12
 inside-requires : tie.Need-inside-requires Inv-records μ-records
 inside-requires c κs = search needs
 
--- src/several.rt:137:13
 word-at-requires : tie.Need-word-at-requires Inv-records μ-records
 word-at-requires c κs = search needs
 
--- src/several.rt:138:39
 add-word-at : tie.Need-add-word-at Inv-records μ-records
 add-word-at c = search needs
 
--- src/several.rt:138:13
 word-at-requires-2 : tie.Need-word-at-requires-2 Inv-records μ-records
 word-at-requires-2 c κs = search needs
 
--- src/several.rt:139:31
 add-t26 : tie.Need-add-t26 Inv-records μ-records
 add-t26 c = search needs
 
--- src/several.rt:128:9
 records-less : tie.Need-records-less Inv-records μ-records
-records-less c = move-less (c .before .before .before .before .before .before .before .before .before .before .before .before .before .before .before .args .image .now) (c .before .before .before .before .before .before .before .before .before .before .before .before .before .before .before .args .n) (c .before .before .before .before .before .before .before .before .before .before .before .before .before .before .before .args .groups .now) (c .before .before .before .before .before .before .before .before .before .before .before .before .before .before .before .args .fragments .now) _ (c .before .before .before .before .before .before .records .f .at) (c .before .before .before .before .before .before .records .position) (c .before .before .before .before .before .before .records .left) (c .before .before .before .before .before .before .records .counts) (c .before .before .before .before .before .before .records .inv) (c .before .before .before .before .before .inside .ensures) (c .before .before .before .before .if1 .taken) (omega arith) (c .before .word-at .ensures) (c .word-at2 .ensures)
+records-less c =
+    move-less (c .before .before .before .before .before .before .before .before .before .before .before .before .before .before .before
+    .args .image .now) (c .before .before .before .before .before .before .before .before .before .before .before .before .before .before
+    .before .args .n) (c .before .before .before .before .before .before .before .before .before .before .before .before .before .before
+    .before .args .groups .now) (c .before .before .before .before .before .before .before .before .before .before .before .before .before
+    .before .before .args .fragments .now) _ (c .before .before .before .before .before .before .records .f .at)
+    (c .before .before .before .before .before .before .records .position)
+    (c .before .before .before .before .before .before .records .left) (c .before .before .before .before .before .before .records .counts)
+    (c .before .before .before .before .before .before .records .inv) (c .before .before .before .before .before .inside .ensures)
+    (c .before .before .before .before .if1 .taken) (omega arith) (c .before .word-at .ensures) (c .word-at2 .ensures)
 
--- src/several.rt:128:9
 records-again : tie.Need-records-again Inv-records μ-records
-records-again c = read-move (c .before .before .before .before .before .before .before .before .before .before .before .before .before .before .before .args .image .now) (c .before .before .before .before .before .before .before .before .before .before .before .before .before .before .before .args .n) (c .before .before .before .before .before .before .before .before .before .before .before .before .before .before .before .args .groups .now) (c .before .before .before .before .before .before .before .before .before .before .before .before .before .before .before .args .fragments .now) _ (c .before .before .before .before .before .before .records .f .at) (c .before .before .before .before .before .before .records .position) (c .before .before .before .before .before .before .records .left) (c .before .before .before .before .before .before .records .counts) (c .before .before .before .before .before .before .records .inv) (c .before .before .before .before .before .inside .ensures) (c .before .before .before .before .if1 .taken) (omega arith) (c .before .word-at .ensures) (c .word-at2 .ensures)
+records-again c =
+    read-move (c .before .before .before .before .before .before .before .before .before .before .before .before .before .before .before
+    .args .image .now) (c .before .before .before .before .before .before .before .before .before .before .before .before .before .before
+    .before .args .n) (c .before .before .before .before .before .before .before .before .before .before .before .before .before .before
+    .before .args .groups .now) (c .before .before .before .before .before .before .before .before .before .before .before .before .before
+    .before .before .args .fragments .now) _ (c .before .before .before .before .before .before .records .f .at)
+    (c .before .before .before .before .before .before .records .position)
+    (c .before .before .before .before .before .before .records .left) (c .before .before .before .before .before .before .records .counts)
+    (c .before .before .before .before .before .before .records .inv) (c .before .before .before .before .before .inside .ensures)
+    (c .before .before .before .before .if1 .taken) (omega arith) (c .before .word-at .ensures) (c .word-at2 .ensures)
 
--- src/several.rt:141:17
 step-requires : tie.Need-step-requires Inv-records μ-records
 step-requires c κs = search needs
 
--- src/several.rt:144:27
 enum-told : tie.Need-enum-told Inv-records μ-records
 enum-told c = search needs
 
--- src/several.rt:144:21
 clear-requires-2 : tie.Need-clear-requires-2 Inv-records μ-records
 clear-requires-2 c κs = search needs
 
--- src/several.rt:147:32
 enum-known-step : tie.Need-enum-known-step Inv-records μ-records
 enum-known-step c = search needs
 
--- src/several.rt:148:21
 count-up-requires : tie.Need-count-up-requires Inv-records μ-records
-count-up-requires c κs = record-low _ _ _ _ _ _ _ _ _ (c .before .before .before .before .before .before .before .records .inv) _ _ _ (c .before .before .before .before .before .before .before .before .before .before .before .before .before .before .before .before .pre .0) (so-record _ _ (c .before .before .before .before .step .ensures) (c .before .before .step2 .given .1))
+count-up-requires c κs =
+    record-low _ _ _ _ _ _ _ _ _ (c .before .before .before .before .before .before .before .records .inv) _ _ _
+    (c .before .before .before .before .before .before .before .before .before .before .before .before .before .before .before .before .pre
+    .0) (so-record _ _ (c .before .before .before .before .step .ensures) (c .before .before .step2 .given .1))
 
--- src/several.rt:128:9
 records-less-2 : tie.Need-records-less-2 Inv-records μ-records
-records-less-2 c = record-less _ _ _ _ _ _ _ _ _ (c .before .before .before .before .before .before .before .before .before .before .records .inv) _ _ _ (c .before .before .before .before .before .before .before .before .before .before .before .before .before .before .before .before .before .before .before .pre .0) (so-record _ _ (c .before .before .before .before .before .before .before .step .ensures) (c .before .before .before .before .before .step2 .given .1))
+records-less-2 c =
+    record-less _ _ _ _ _ _ _ _ _ (c .before .before .before .before .before .before .before .before .before .before .records .inv) _ _ _
+    (c .before .before .before .before .before .before .before .before .before .before .before .before .before .before .before .before
+    .before .before .before .pre .0) (so-record _ _ (c .before .before .before .before .before .before .before .step .ensures)
+    (c .before .before .before .before .before .step2 .given .1))
 
--- src/several.rt:128:9
 records-again-2 : tie.Need-records-again-2 Inv-records μ-records
-records-again-2 c = read-record _ _ _ _ _ _ _ _ _ (c .before .before .before .before .before .before .before .before .before .before .records .inv) _ _ _ (c .before .before .before .before .before .before .before .before .before .before .before .before .before .before .before .before .before .before .before .pre .0) (so-record _ _ (c .before .before .before .before .before .before .before .step .ensures) (c .before .before .before .before .before .step2 .given .1)) (c .before .before .count-up .ensures)
+records-again-2 c =
+    read-record _ _ _ _ _ _ _ _ _ (c .before .before .before .before .before .before .before .before .before .before .records .inv) _ _ _
+    (c .before .before .before .before .before .before .before .before .before .before .before .before .before .before .before .before
+    .before .before .before .pre .0) (so-record _ _ (c .before .before .before .before .before .before .before .step .ensures)
+    (c .before .before .before .before .before .step2 .given .1)) (c .before .before .count-up .ensures)
 
--- src/several.rt:116:1
 same-length : tie.Need-same-length Inv-records μ-records
 same-length c = omega (arith, c .before .before .before .records .inv .same, c .before .before .before .before .before .before .clear .kept)
 
--- src/several.rt:116:1
 returns : tie.Need-returns Inv-records μ-records
-returns c = read-end (c .before .before .before .before .before .before .before .before .before .before .before .before .args .image .now) (c .before .before .before .before .before .before .before .before .before .before .before .before .args .n) (c .before .before .before .before .before .before .before .before .before .before .before .before .args .groups .now) (c .before .before .before .before .before .before .before .before .before .before .before .before .args .fragments .now) _ (c .before .before .before .records .f .at) (c .before .before .before .records .position) (c .before .before .before .records .left) (c .before .before .before .records .counts) (c .before .before .before .records .inv) _ (c .before .before .before .before .before .before .clear .ensures) (c .before .before .inside .ensures) (c .before .if1 .taken) (omega arith)
+returns c =
+    read-end (c .before .before .before .before .before .before .before .before .before .before .before .before .args .image .now)
+    (c .before .before .before .before .before .before .before .before .before .before .before .before .args .n)
+    (c .before .before .before .before .before .before .before .before .before .before .before .before .args .groups .now)
+    (c .before .before .before .before .before .before .before .before .before .before .before .before .args .fragments .now) _
+    (c .before .before .before .records .f .at) (c .before .before .before .records .position) (c .before .before .before .records .left)
+    (c .before .before .before .records .counts) (c .before .before .before .records .inv) _
+    (c .before .before .before .before .before .before .clear .ensures) (c .before .before .inside .ensures) (c .before .if1 .taken)
+    (omega arith)
 
--- src/several.rt:116:1
 same-length-2 : tie.Need-same-length-2 Inv-records μ-records
-same-length-2 c = omega (arith, c .before .before .before .before .records .inv .same, c .before .before .before .before .before .before .before .clear .kept)
+same-length-2 c =
+    omega (arith, c .before .before .before .before .records .inv .same, c .before .before .before .before .before .before .before .clear
+    .kept)
 
--- src/several.rt:116:1
 returns-2 : tie.Need-returns-2 Inv-records μ-records
-returns-2 c = read-end (c .before .before .before .before .before .before .before .before .before .before .before .before .before .args .image .now) (c .before .before .before .before .before .before .before .before .before .before .before .before .before .args .n) (c .before .before .before .before .before .before .before .before .before .before .before .before .before .args .groups .now) (c .before .before .before .before .before .before .before .before .before .before .before .before .before .args .fragments .now) _ (c .before .before .before .before .records .f .at) (c .before .before .before .before .records .position) (c .before .before .before .before .records .left) (c .before .before .before .before .records .counts) (c .before .before .before .before .records .inv) _ (c .before .before .before .before .before .before .before .clear .ensures) (c .before .before .before .inside .ensures) (c .before .before .if1 .taken) (omega arith)
+returns-2 c =
+    read-end (c .before .before .before .before .before .before .before .before .before .before .before .before .before .args .image .now)
+    (c .before .before .before .before .before .before .before .before .before .before .before .before .before .args .n)
+    (c .before .before .before .before .before .before .before .before .before .before .before .before .before .args .groups .now)
+    (c .before .before .before .before .before .before .before .before .before .before .before .before .before .args .fragments .now) _
+    (c .before .before .before .before .records .f .at) (c .before .before .before .before .records .position)
+    (c .before .before .before .before .records .left) (c .before .before .before .before .records .counts)
+    (c .before .before .before .before .records .inv) _ (c .before .before .before .before .before .before .before .clear .ensures)
+    (c .before .before .before .inside .ensures) (c .before .before .if1 .taken) (omega arith)
 
--- src/several.rt:116:1
 same-length-3 : tie.Need-same-length-3 Inv-records μ-records
-same-length-3 c = omega (arith, c .before .before .before .before .before .before .before .before .before .records .inv .same, c .before .before .before .before .before .before .before .before .before .before .before .before .clear .kept, c .before .before .clear2 .kept)
+same-length-3 c =
+    omega (arith, c .before .before .before .before .before .before .before .before .before .records .inv .same, c .before .before .before
+    .before .before .before .before .before .before .before .before .before .clear .kept, c .before .before .clear2 .kept)
 
--- src/several.rt:116:1
 returns-3 : tie.Need-returns-3 Inv-records μ-records
-returns-3 c = read-broken _ _ _ _ _ _ _ _ _ (c .before .before .before .before .before .before .before .before .before .records .inv) _ (c .before .before .before .before .before .before .before .before .before .before .before .before .clear .ensures) (c .before .before .before .before .before .before .before .before .inside .ensures) (c .before .before .before .before .before .before .before .if1 .left) (so-broken _ _ (c .before .before .before .before .before .before .step .ensures) (c .before .before .before .before .enum-told .given .1)) (c .before .before .clear2 .ensures)
+returns-3 c =
+    read-broken _ _ _ _ _ _ _ _ _ (c .before .before .before .before .before .before .before .before .before .records .inv) _
+    (c .before .before .before .before .before .before .before .before .before .before .before .before .clear .ensures)
+    (c .before .before .before .before .before .before .before .before .inside .ensures)
+    (c .before .before .before .before .before .before .before .if1 .left)
+    (so-broken _ _ (c .before .before .before .before .before .before .step .ensures)
+    (c .before .before .before .before .enum-told .given .1)) (c .before .before .clear2 .ensures)
 
 pub count-frames-spec : {M : Type 1} → statement M
 count-frames-spec =

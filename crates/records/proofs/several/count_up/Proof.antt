@@ -1,42 +1,30 @@
 -- A word past the end is none; else the store is the contract.
 use Rattle.records.specs.SeveralLaws.{up-none}
-use native.Mathlib.Omega.{arith}
-use lib.ListN.{length, length-set}
 use borrow.Author.Needs.{needs}
 use Rattle.records.proofs.several.count_up.Statement.{statement}
 use Rattle.records.proofs.several.count_up.Tie as tie
-use Rattle.records.proofs.several.count_up.Reads as reads
-use Rattle.records.proofs.several.count_up.Lts as lts
 
--- src/several.rt:110:9
 returns : tie.Need-returns
 returns c = up-none _ _ _ (c .if1 .taken)
 
--- src/several.rt:112:16
 mul-words : tie.Need-mul-words
 mul-words c = search needs
 
--- src/several.rt:112:16
 slice-read-words : tie.Need-slice-read-words
 slice-read-words c = search needs
 
--- src/several.rt:112:16
 add-words : tie.Need-add-words
 add-words c = search needs
 
--- src/several.rt:112:5
 mul-words-2 : tie.Need-mul-words-2
 mul-words-2 c = search needs
 
--- src/several.rt:112:5
 slice-write-words : tie.Need-slice-write-words
 slice-write-words c = search needs
 
--- src/several.rt:104:1
 same-length : tie.Need-same-length
 same-length c = search needs
 
--- src/several.rt:104:1
 returns-2 : tie.Need-returns-2
 returns-2 c = search needs
 

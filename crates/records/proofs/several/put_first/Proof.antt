@@ -1,26 +1,18 @@
 -- One store, if there is a word.
 use Rattle.records.specs.SeveralLaws.{first-none, first-put}
-use native.Mathlib.Omega.{arith}
-use lib.ListN.{length, length-set}
 use borrow.Author.Needs.{needs}
 use Rattle.records.proofs.several.put_first.Statement.{statement}
 use Rattle.records.proofs.several.put_first.Tie as tie
-use Rattle.records.proofs.several.put_first.Reads as reads
-use Rattle.records.proofs.several.put_first.Lts as lts
 
--- src/several.rt:180:9
 returns : tie.Need-returns
 returns c = first-none _ _ (c .if1 .taken)
 
--- src/several.rt:182:5
 slice-write-words : tie.Need-slice-write-words
 slice-write-words c = search needs
 
--- src/several.rt:176:1
 same-length : tie.Need-same-length
 same-length c = search needs
 
--- src/several.rt:176:1
 returns-2 : tie.Need-returns-2
 returns-2 c = first-put _ _
 

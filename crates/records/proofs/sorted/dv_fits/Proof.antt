@@ -1,32 +1,25 @@
 -- By whether there is DV, and whether there are invalidation bytes.
 use Rattle.records.specs.RunLaws.{fits-not, fits-dv, fits-dt}
-use native.Mathlib.Omega.{arith}
-use lib.ListN.{length, length-set}
 use borrow.Author.Needs.{needs}
 use Rattle.records.proofs.sorted.dv_fits.Statement.{statement}
 use Rattle.records.proofs.sorted.dv_fits.Tie as tie
-use Rattle.records.proofs.sorted.dv_fits.Reads as reads
-use Rattle.records.proofs.sorted.dv_fits.Lts as lts
-use Rattle.records.proofs.fragment.any_dv.Reads as any-dv-reads
-use Rattle.records.proofs.group.inval_bytes.Reads as inval-bytes-reads
 
--- src/sorted.rt:94:8
 any-dv-requires : tie.Need-any-dv-requires
 any-dv-requires c κs = search needs
 
--- src/sorted.rt:95:12
 inval-bytes-requires : tie.Need-inval-bytes-requires
 inval-bytes-requires c κs = search needs
 
--- src/sorted.rt:96:13
 returns : tie.Need-returns
-returns c = fits-not _ _ _ _ (c .before .before .before .any-dv .ensures) (c .before .before .if1 .taken) (c .before .inval-bytes .ensures .is) (c .if2 .taken)
+returns c =
+    fits-not _ _ _ _ (c .before .before .before .any-dv .ensures) (c .before .before .if1 .taken) (c .before .inval-bytes .ensures .is)
+    (c .if2 .taken)
 
--- src/sorted.rt:98:9
 returns-2 : tie.Need-returns-2
-returns-2 c = fits-dv _ _ _ _ (c .before .before .before .any-dv .ensures) (c .before .before .if1 .taken) (c .before .inval-bytes .ensures .is) (c .if2 .left)
+returns-2 c =
+    fits-dv _ _ _ _ (c .before .before .before .any-dv .ensures) (c .before .before .if1 .taken) (c .before .inval-bytes .ensures .is)
+    (c .if2 .left)
 
--- src/sorted.rt:91:1
 returns-3 : tie.Need-returns-3
 returns-3 c = fits-dt _ _ _ _ (c .before .any-dv .ensures) (c .if1 .left)
 

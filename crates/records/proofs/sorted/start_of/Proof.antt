@@ -1,22 +1,16 @@
 -- The two ways of the definition.
 use Rattle.records.specs.RunLaws.{start-in, start-before}
 use native.Mathlib.Omega.{arith}
-use lib.ListN.{length, length-set}
 use borrow.Author.Needs.{needs}
 use Rattle.records.proofs.sorted.start_of.Statement.{statement}
 use Rattle.records.proofs.sorted.start_of.Tie as tie
-use Rattle.records.proofs.sorted.start_of.Reads as reads
-use Rattle.records.proofs.sorted.start_of.Lts as lts
 
--- src/sorted.rt:57:16
 add-result : tie.Need-add-result
 add-result c = search needs
 
--- src/sorted.rt:57:9
 returns : tie.Need-returns
 returns c = start-in _ _ _ _ (omega arith)
 
--- src/sorted.rt:52:1
 returns-2 : tie.Need-returns-2
 returns-2 c = start-before _ _ _ _ (omega arith)
 

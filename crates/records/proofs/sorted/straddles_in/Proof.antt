@@ -1,25 +1,17 @@
 -- Each answer is that of the definition for its two kinds.
-use native.Mathlib.Omega.{arith}
-use lib.ListN.{length, length-set}
 use borrow.Author.Needs.{needs}
 use Rattle.records.proofs.sorted.straddles_in.Statement.{statement}
 use Rattle.records.proofs.sorted.straddles_in.Tie as tie
-use Rattle.records.proofs.sorted.straddles_in.Reads as reads
-use Rattle.records.proofs.sorted.straddles_in.Lts as lts
 
--- src/sorted.rt:30:13
 returns : tie.Need-returns
 returns c = search needs
 
--- src/sorted.rt:32:9
 returns-2 : tie.Need-returns-2
 returns-2 c = rw (c .before .if1 .taken, c .if2 .left)
 
--- src/sorted.rt:35:9
 returns-3 : tie.Need-returns-3
 returns-3 c = rw (c .before .if1 .left, c .if3 .taken)
 
--- src/sorted.rt:25:1
 returns-4 : tie.Need-returns-4
 returns-4 c = search needs
 

@@ -1,26 +1,19 @@
 -- The sum is tested before it is made.
 use Rattle.records.specs.CountLaws.{within-over, within-in}
 use native.Mathlib.Omega.{arith}
-use lib.ListN.{length, length-set}
 use borrow.Author.Needs.{needs}
 use Rattle.records.proofs.sorted.sum_within.Statement.{statement}
 use Rattle.records.proofs.sorted.sum_within.Tie as tie
-use Rattle.records.proofs.sorted.sum_within.Reads as reads
-use Rattle.records.proofs.sorted.sum_within.Lts as lts
 
--- src/sorted.rt:126:8
 sub-if1 : tie.Need-sub-if1
 sub-if1 c = search needs
 
--- src/sorted.rt:127:9
 returns : tie.Need-returns
 returns c = within-over _ _ (omega arith)
 
--- src/sorted.rt:129:20
 add-t4 : tie.Need-add-t4
 add-t4 c = search needs
 
--- src/sorted.rt:123:1
 returns-2 : tie.Need-returns-2
 returns-2 c = within-in _ _ (omega arith)
 

@@ -3,72 +3,66 @@ use Rattle.records.specs.FrameLaws.{step-short, step-big, step-unknown, 
 use Rattle.records.specs.AnswerLaws.{so-past, so-to, so-missing, so-value, so-unknown, so-group}
 use Rattle.records.specs.AheadLaws.{ahead-counts}
 use native.Mathlib.Omega.{arith}
-use lib.ListN.{length, length-set}
 use borrow.Author.Needs.{needs}
 use Rattle.records.proofs.framing.Framing.step.Statement.{statement}
 use Rattle.records.proofs.framing.Framing.step.Tie as tie
-use Rattle.records.proofs.framing.Framing.step.Reads as reads
-use Rattle.records.proofs.framing.Framing.step.Lts as lts
-use Rattle.records.proofs.framing.body_step.Reads as body-step-reads
-use Rattle.records.proofs.framing.number_at.Reads as number-at-reads
-use Rattle.records.proofs.framing.skip_on.Reads as skip-on-reads
-use Rattle.records.proofs.framing.with_id.Reads as with-id-reads
 
--- src/framing.rt:196:13
 skip-on-requires : tie.Need-skip-on-requires
 skip-on-requires c κs = search needs
 
--- src/framing.rt:198:28
 enum-told : tie.Need-enum-told
 enum-told c = search needs
 
--- src/framing.rt:199:29
 enum-known-to : tie.Need-enum-known-to
 enum-known-to c = search needs
 
--- src/framing.rt:200:21
 number-at-requires : tie.Need-number-at-requires
 number-at-requires c κs = search needs
 
--- src/framing.rt:202:40
 enum-told-2 : tie.Need-enum-told-2
 enum-told-2 c = search needs
 
--- src/framing.rt:203:35
 enum-known-id : tie.Need-enum-known-id
 enum-known-id c = search needs
 
--- src/framing.rt:204:29
 with-id-requires : tie.Need-with-id-requires
 with-id-requires c κs = search needs
 
--- src/framing.rt:206:47
 enum-told-3 : tie.Need-enum-told-3
 enum-told-3 c = search needs
 
--- src/framing.rt:207:44
 enum-known-found : tie.Need-enum-known-found
 enum-known-found c = search needs
 
--- src/framing.rt:207:60
 body-step-requires : tie.Need-body-step-requires
 body-step-requires c κs = search needs
 
--- src/framing.rt:193:5
 returns : tie.Need-returns
 returns c = step-short _ _ _ _ (ahead-counts _ _ _ _ _) (so-past _ _ (c .before .before .skip-on .ensures) (c .enum-told .given .1))
 
--- src/framing.rt:193:5
 returns-2 : tie.Need-returns-2
-returns-2 c = step-big _ _ _ _ (ahead-counts _ _ _ _ _) (so-to _ _ (c .before .before .before .before .before .before .skip-on .ensures) (c .before .before .before .before .to .given .1)) (λ i. let h = c .before .before .before .before .before .before .before .before .before .shared-slice-known .given i in omega arith) (so-missing (c .before .before .number-at .ensures) (c .enum-told2 .given .1))
+returns-2 c =
+    step-big _ _ _ _ (ahead-counts _ _ _ _ _) (so-to _ _ (c .before .before .before .before .before .before .skip-on .ensures)
+    (c .before .before .before .before .to .given .1))
+    (λ i. let h = c .before .before .before .before .before .before .before .before .before .shared-slice-known .given i in omega arith)
+    (so-missing (c .before .before .number-at .ensures) (c .enum-told2 .given .1))
 
--- src/framing.rt:193:5
 returns-3 : tie.Need-returns-3
-returns-3 c = step-unknown _ _ _ _ (ahead-counts _ _ _ _ _) (so-to _ _ (c .before .before .before .before .before .before .before .before .before .before .skip-on .ensures) (c .before .before .before .before .before .before .before .before .to .given .1)) (so-value (c .before .before .before .before .before .before .number-at .ensures) (c .before .before .before .before .id .given .1)) (so-unknown (c .before .before .with-id .ensures) (c .enum-told3 .given .1))
+returns-3 c =
+    step-unknown _ _ _ _ (ahead-counts _ _ _ _ _) (so-to _ _
+    (c .before .before .before .before .before .before .before .before .before .before .skip-on .ensures)
+    (c .before .before .before .before .before .before .before .before .to .given .1))
+    (so-value (c .before .before .before .before .before .before .number-at .ensures) (c .before .before .before .before .id .given .1))
+    (so-unknown (c .before .before .with-id .ensures) (c .enum-told3 .given .1))
 
--- src/framing.rt:193:5
 returns-4 : tie.Need-returns-4
-returns-4 c = step-body _ _ _ _ (ahead-counts _ _ _ _ _) (so-to _ _ (c .before .before .before .before .before .before .before .before .before .before .before .before .skip-on .ensures) (c .before .before .before .before .before .before .before .before .before .before .to .given .1)) (so-value (c .before .before .before .before .before .before .before .before .number-at .ensures) (c .before .before .before .before .before .before .id .given .1)) (so-group (c .before .before .before .before .with-id .ensures) (c .before .before .found .given .1)) (c .body-step .ensures)
+returns-4 c =
+    step-body _ _ _ _ (ahead-counts _ _ _ _ _) (so-to _ _
+    (c .before .before .before .before .before .before .before .before .before .before .before .before .skip-on .ensures)
+    (c .before .before .before .before .before .before .before .before .before .before .to .given .1))
+    (so-value (c .before .before .before .before .before .before .before .before .number-at .ensures)
+    (c .before .before .before .before .before .before .id .given .1))
+    (so-group (c .before .before .before .before .with-id .ensures) (c .before .before .found .given .1)) (c .body-step .ensures)
 
 pub step-spec : {M : Type 1} → statement M
 step-spec =
