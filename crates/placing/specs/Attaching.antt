@@ -1,0 +1,55 @@
+-- The attachment chain in words: whether it goes on, and what the code answers.
+use Prim.Native.Nat.{ℕ, zero, suc, _+_, _*_, _≤_}
+use mathlib.Core.List.{List}
+use mathlib.Core.Path.{_≡_}
+use mathlib.Core.Bool.{Bool, true, false}
+use lib.Dec.{eqb}
+use lib.ListN.{length, getD}
+use Rattle.base.specs.Choice.{pick, ifLt, ifEq}
+use Rattle.base.specs.Checked.{Checked, ok, refused, andThen}
+use Rattle.base.specs.Blit.{blit}
+use Rattle.mdf.specs.Block.{kindAt, headerIn}
+use Rattle.plan.specs.Copies.{kindAT, Attached, mostAttachments, attachmentIn}
+use Rattle.plan.specs.CopyWords.{attachmentWords, attachmentsAt}
+use Rattle.placing.specs.declared.memo.Copying.{Copying}
+use Rattle.placing.specs.declared.attachments.Moved.{Moved}
+use Rattle.placing.specs.declared.attachments.Moved.the-variants.{At, Refused}
+use Rattle.placing.specs.Standing.{standing, Past}
+
+-- whether a is one of so many attachments from word p on
+unfoldable pub attachedIn : List ℕ → ℕ → ℕ → ℕ → Bool
+attachedIn w p zero a = false
+attachedIn w p (suc k) a = let more = attachedIn w (p + 3) k a in pick (eqb (getD w p 0) a) true more
+
+-- whether the chain goes on at a, where it was met or not, after n attachments; a refusal; in the order of `attachmentsFrom`
+unfoldable pub attachesAt : List ℕ → ℕ → Bool → ℕ → Checked Bool
+attachesAt s a met n =
+    let limited = ifLt n mostAttachments (ok true) (refused 19 a) in
+    let checked = andThen (attachmentIn s a) (λ _. limited) in
+    let unseen = andThen (headerIn s a) (λ _. ifEq (kindAt s a) kindAT checked (ok false)) in
+    ifEq a 0 (ok false) (pick met (ok false) unseen)
+
+abbrev pub onAttaches : Checked Bool → Attached → Checked Attached → Checked Attached
+onAttaches (ok true) t more = more
+onAttaches (ok false) t more = ok t
+onAttaches (refused number place) t more = refused number place
+
+-- the attachments, and what stands of them in the words: past the copies the words w' are those at entry with the attachments laid over them
+pub record Moving (count : ℕ) (w w' : List ℕ) (s t : Copying) : Type 0 where
+  pub told : Attached
+  pub made : told .made ≡ standing w' t
+  pub counted : length (told .attachments) ≡ count
+  pub few : count ≤ 64
+  pub more : s .used ≤ t .used
+  pub most : t .used ≤ 2048
+  pub near : t .next + s .used * 536870912 ≤ s .next + t .used * 536870912 + count * 8589934592
+  pub past : Past (2 * t .used) (blit attachmentsAt (attachmentWords (told .attachments)) w) w'
+
+pub record MovedAll (count : ℕ) (w w' : List ℕ) (s t : Copying) (v : Checked Attached) : Type 0 where
+  pub moving : Moving count w w' s t
+  pub is : v ≡ ok (moving .told)
+
+-- with words w at entry and w' at exit the answer is what is defined; after a refusal the words are not said
+abbrev pub Moves : List ℕ → List ℕ → Copying → Moved → Checked Attached → Type 0
+Moves w w' s (At count t) v = MovedAll count w w' s t v
+Moves w w' s (Refused number place) v = v ≡ refused number place

@@ -1,0 +1,336 @@
+-- The ways of the attachment chain.
+use Prim.{tt}
+use Prim.Native.Nat.{ℕ, zero, suc, _+_, _*_, _-_, _≤_, _<_}
+use mathlib.Core.List.{List, [], _∷_, _++_}
+use mathlib.Core.Path.{_≡_, refl, sym, ap, _∙_}
+use mathlib.Core.Bool.{Bool, true, false}
+use native.Mathlib.Numerals.{sub-one}
+use native.Mathlib.Omega.{arith}
+use borrow.Author.Tests.{eq-eqb, ne-eqb}
+use lib.Dec.{eqb, ltb}
+use lib.ListN.{length, drop, set, getD, length-append, length-drop, length-set}
+use lib.Seq.{getD-drop, getD-set-same, getD-set-other}
+use Rattle.base.specs.Choice.{pick, ifLt, ifEq}
+use Rattle.base.specs.ChoiceLaws.{lt-yes, lt-no, lt-back, lt-first, eq-yes, eq-no, eq-first}
+use Rattle.base.specs.Checked.{Checked, ok, refused, andThen, Verdict, fine}
+use Rattle.base.specs.Blit.{blit}
+use Rattle.base.specs.BlitLaws.{blit-append, length-blit}
+use Rattle.blocks.specs.AnswerLaws.{refused≢ok, then-fine}
+use Rattle.mdf.specs.Block.{kindAt, sizeAt, linksAt, firstLink, headerIn}
+use Rattle.plan.specs.Geometry.{align8}
+use Rattle.plan.specs.Copies.{kindAT, Copies, copies, copyRoot, copyLinks, Attachment, Attached, isAttached, mostAttachments, attachmentIn, attach, attachmentsFrom, attachmentsOf}
+use Rattle.plan.specs.CopyWords.{attachmentWords, attachmentsAt}
+use Rattle.placing.specs.declared.memo.Copying.{Copying}
+use Rattle.placing.specs.declared.copier.Got.{Got}
+use Rattle.placing.specs.declared.copier.Got.the-variants as got
+use Rattle.placing.specs.declared.attachments.Moved.the-variants.{At, Refused}
+use Rattle.placing.specs.Standing.{copiesFrom, copiesIn, standing, Room, Past}
+use Rattle.placing.specs.StandingLaws.{length-copies, copies-set, align-near, past-more, past-then, past-same}
+use Rattle.placing.specs.Got.{Copied, AfterGot}
+use Rattle.placing.specs.TurnLaws.{copied-at, copied-refused, after-at}
+use Rattle.placing.specs.HistoryLaws.{past-both}
+use Rattle.placing.specs.Attaching.{attachedIn, attachesAt, onAttaches, Moving, MovedAll}
+
+-- ---- the search: what is left of the attachments gives what all give
+attached-none : (w : List ℕ) (p k a : ℕ) → k ≡ 0 → attachedIn w p k a ≡ false
+unfolding attachedIn
+attached-none w p k a e = rw e
+
+attached-cons : (w : List ℕ) (p k a : ℕ) → 0 < k → attachedIn w p k a ≡ pick (eqb (getD w p 0) a) true (attachedIn w (p + 3) (k - 1) a)
+unfolding attachedIn
+attached-cons w p zero a h = absurd (omega arith)
+attached-cons w p (suc k) a h = rw sub-one
+
+module _ (w : List ℕ) (p k a : ℕ) {b : Bool} where
+  pub attached-end : attachedIn w p k a ≡ b → k ≡ 0 → false ≡ b
+  attached-end i e = rw (attached-none w p k a e) at i
+
+  pub attached-hit : attachedIn w p k a ≡ b → 0 < k → getD w p 0 ≡ a → true ≡ b
+  attached-hit i h e = rw (attached-cons w p k a h, eq-eqb _ _ e) at i
+
+  pub attached-miss : attachedIn w p k a ≡ b → 0 < k → (getD w p 0 ≡ a → ⊥) → attachedIn w (p + 3) (k - 1) a ≡ b
+  attached-miss i h e = rw (attached-cons w p k a h, ne-eqb _ _ e) at i
+
+-- ---- the words of attachments
+getD-before : (bs : List ℕ) (j i : ℕ) (l : List ℕ) → i < j → getD (blit j bs l) i 0 ≡ getD l i 0
+unfolding blit
+getD-before [] j i l h = refl
+getD-before (b ∷ bs) j i l h = getD-before bs (suc j) i (set l j b) (omega arith) ∙ getD-set-other l j i b 0 (λ e. omega arith)
+
+attached-blit : (ts : List Attachment) (w : List ℕ) (p a : ℕ) → p + 3 * length ts ≤ length w → attachedIn (blit p (attachmentWords ts) w) p (length ts) a ≡ isAttached a ts
+unfolding attachedIn attachmentWords isAttached blit
+attached-blit [] w p a h = refl
+attached-blit (t ∷ ts) w p a h =
+    let x : List ℕ = set (set (set w p (t .from)) (suc p) (t .to)) (suc (suc p)) (length (t .own)) in
+    let n : suc (suc (suc p)) ≡ p + 3 = omega arith in
+    let first : getD (blit (suc (suc (suc p))) (attachmentWords ts) x) p 0 ≡ t .from =
+          getD-before (attachmentWords ts) (suc (suc (suc p))) p x (omega arith)
+          ∙ getD-set-other (set (set w p (t .from)) (suc p) (t .to)) (suc (suc p)) p (length (t .own)) 0 (λ e. omega arith)
+          ∙ getD-set-other (set w p (t .from)) (suc p) p (t .to) 0 (λ e. omega arith) ∙ getD-set-same w p (t .from) 0 (omega arith) in
+    let room : p + 3 + 3 * length ts ≤ length x = simp length-set (omega arith) in
+    let rest : attachedIn (blit (suc (suc (suc p))) (attachmentWords ts) x) (p + 3) (length ts) a ≡ isAttached a ts =
+          rw n (attached-blit ts x (p + 3) a room) in
+    rw (first, rest)
+
+attached-past : {n : ℕ} {x y : List ℕ} (p k a : ℕ) → Past n x y → n ≤ p → attachedIn y p k a ≡ attachedIn x p k a
+unfolding attachedIn
+attached-past p zero a h l = refl
+attached-past {n} {x} {y} p (suc k) a h l =
+    let e : p ≡ n + (p - n) = omega arith in
+    let g : getD y p 0 ≡ getD x p 0 =
+          ap (λ (i : ℕ). getD y i 0) e ∙ sym (getD-drop n y (p - n) 0) ∙ ap (λ (z : List ℕ). getD z (p - n) 0) (h .kept) ∙ getD-drop n x (p - n) 0
+          ∙ ap (λ (i : ℕ). getD x i 0) (sym e) in
+    rw (g, attached-past (p + 3) k a h (omega arith))
+
+words-snoc : (ts : List Attachment) (t : Attachment) → attachmentWords (ts ++ (t ∷ [])) ≡ attachmentWords ts ++ (t .from ∷ t .to ∷ length (t .own) ∷ [])
+unfolding attachmentWords
+words-snoc [] t = refl
+words-snoc (x ∷ ts) t = rw (words-snoc ts t)
+
+pub length-words : (ts : List Attachment) → length (attachmentWords ts) ≡ 3 * length ts
+unfolding attachmentWords
+length-words [] = refl
+length-words (t ∷ ts) = let e = length-words ts in omega arith
+
+pub past-blit : {n : ℕ} (bs : List ℕ) {x y : List ℕ} (j : ℕ) → n ≤ j → Past n x y → Past n (blit j bs x) (blit j bs y)
+unfolding blit
+past-blit [] j h p = p
+past-blit (b ∷ bs) j h p = past-blit bs (suc j) (omega arith) (past-both j b h p)
+
+copies-blit : (bs w : List ℕ) (k j : ℕ) → 2 * k ≤ j → copiesFrom (blit j bs w) 0 k ≡ copiesFrom w 0 k
+unfolding blit
+copies-blit [] w k j h = refl
+copies-blit (b ∷ bs) w k j h = copies-blit bs (set w j b) k (suc j) (omega arith) ∙ copies-set w 0 k j b (omega arith)
+
+-- an AT's three words, and the state after it
+pub three-stores : (i a b b' c : ℕ) (w : List ℕ) → b ≡ b' → set (set (set w i a) (i + 1) b) (i + 2) c ≡ blit i (a ∷ b' ∷ c ∷ []) w
+unfolding blit
+three-stores i a b b' c w e =
+    let n : i + 1 ≡ suc i = omega arith in
+    let m : i + 2 ≡ suc (suc i) = omega arith in
+    rw (n, m, e)
+
+pub attached-state : (used n size : ℕ) {x y : ℕ} → x ≡ align8 n → y ≡ align8 (x + size)
+  → _≡_ {A = Copying} (record { used = used; next = y }) (record { used = used; next = align8 (align8 n + size) })
+attached-state used n size p q = rw (q, p)
+
+-- ---- the checks of an AT: 18 for its links, its length and the most bytes; its range
+module _ (s : List ℕ) (a : ℕ) where
+  pub at-few : linksAt s a < 4 → refused 18 a ≡ attachmentIn s a
+  unfolding attachmentIn
+  at-few h = lt-yes _ _ _ _ h refl
+
+  module _ (h : 4 ≤ linksAt s a) where
+    pub at-short : sizeAt s a < 24 + 8 * linksAt s a → refused 18 a ≡ attachmentIn s a
+    unfolding attachmentIn
+    at-short k = lt-no _ _ _ _ h (lt-yes _ _ _ _ k refl)
+
+    module _ (k : 24 + 8 * linksAt s a ≤ sizeAt s a) where
+      pub at-long : 268435456 < 24 + 8 * linksAt s a → refused 18 a ≡ attachmentIn s a
+      unfolding attachmentIn
+      at-long l = lt-no _ _ _ _ h (lt-no _ _ _ _ k (lt-yes _ _ _ _ l refl))
+
+      pub at-past : 24 + 8 * linksAt s a ≤ 268435456 → length s < a + sizeAt s a → refused 4 a ≡ attachmentIn s a
+      unfolding attachmentIn
+      at-past l r = lt-no _ _ _ _ h (lt-no _ _ _ _ k (lt-no _ _ _ _ l (lt-yes _ _ _ _ r refl)))
+
+      pub at-fine : 24 + 8 * linksAt s a ≤ 268435456 → a + sizeAt s a ≤ length s → fine ≡ attachmentIn s a
+      unfolding attachmentIn
+      at-fine l r = lt-no _ _ _ _ h (lt-no _ _ _ _ k (lt-no _ _ _ _ l (lt-no _ _ _ _ r refl)))
+
+-- ---- whether the chain goes on, one law for each way of the code
+pub attaches-none : (s : List ℕ) (a : ℕ) (met : Bool) (n : ℕ) → a ≡ 0 → ok false ≡ attachesAt s a met n
+unfolding attachesAt
+attaches-none s a met n z = eq-yes _ _ _ _ z refl
+
+module _ (s : List ℕ) (a : ℕ) (met : Bool) (n : ℕ) (link : a ≡ 0 → ⊥) where
+  pub attaches-met : met ≡ true → ok false ≡ attachesAt s a met n
+  unfolding attachesAt
+  attaches-met i = eq-no _ _ _ _ link (rw i)
+
+  module _ (i : met ≡ false) where
+    pub attaches-header : {k p : ℕ} → headerIn s a ≡ refused k p → refused k p ≡ attachesAt s a met n
+    unfolding attachesAt
+    attaches-header v = eq-no _ _ _ _ link (rw (i, v))
+
+    module _ (v : headerIn s a ≡ ok tt) where
+      pub attaches-other : (kindAt s a ≡ kindAT → ⊥) → ok false ≡ attachesAt s a met n
+      unfolding attachesAt
+      attaches-other k = eq-no _ _ _ _ link (rw (i, v) (eq-no _ _ _ _ k refl))
+
+      module _ (k : kindAt s a ≡ kindAT) where
+        pub attaches-refused : {q p : ℕ} → attachmentIn s a ≡ refused q p → refused q p ≡ attachesAt s a met n
+        unfolding attachesAt
+        attaches-refused f = eq-no _ _ _ _ link (rw (i, v) (eq-yes _ _ _ _ k (rw f)))
+
+        pub attaches-full : attachmentIn s a ≡ ok tt → 64 ≤ n → refused 19 a ≡ attachesAt s a met n
+        unfolding attachesAt
+        attaches-full f h = eq-no _ _ _ _ link (rw (i, v) (eq-yes _ _ _ _ k (rw f (lt-no _ _ _ _ h refl))))
+
+        pub attaches-on : attachmentIn s a ≡ ok tt → n < 64 → ok true ≡ attachesAt s a met n
+        unfolding attachesAt
+        attaches-on f h = eq-no _ _ _ _ link (rw (i, v) (eq-yes _ _ _ _ k (rw f (lt-yes _ _ _ _ h refl))))
+
+-- what is known where it goes on
+pub record Fitting (s : List ℕ) (a n : ℕ) : Type 0 where
+  pub linked : 4 ≤ linksAt s a
+  pub within : 24 + 8 * linksAt s a ≤ sizeAt s a
+  pub range : a + sizeAt s a ≤ length s
+  pub few : n < 64
+
+false≢true : _≡_ {A = Checked Bool} (ok false) (ok true) → ⊥
+false≢true e = let z : _≡_ {A = ℕ} 0 1 = cc in omega arith
+
+at-fits : (s : List ℕ) (a n : ℕ) → attachmentIn s a ≡ fine → n < 64 → Fitting s a n
+unfolding attachmentIn
+at-fits s a n e h =
+    let b = lt-back _ _ _ _ e refused≢ok in
+    let c = lt-back _ _ _ _ (b .1) refused≢ok in
+    let d = lt-back _ _ _ _ (c .1) refused≢ok in
+    let f = lt-back _ _ _ _ (d .1) refused≢ok in
+    record { linked = b .0; within = c .0; range = f .0; few = h }
+
+not-zero : (a : ℕ) (x : Checked Bool) → ifEq a 0 (ok false) x ≡ ok true → x ≡ ok true
+unfolding ifEq
+not-zero a x e = go (eqb a 0) e
+  where
+    go : (b : Bool) → pick b (ok false) x ≡ ok true → x ≡ ok true
+    go true e = absurd (false≢true e)
+    go false e = e
+
+not-met : (met : Bool) (x : Checked Bool) → pick met (ok false) x ≡ ok true → x ≡ ok true
+not-met true x e = absurd (false≢true e)
+not-met false x e = e
+
+pub attaches-fits : (s : List ℕ) (a : ℕ) (met : Bool) (n : ℕ) → attachesAt s a met n ≡ ok true → Fitting s a n
+unfolding attachesAt
+attaches-fits s a met n e =
+    let header = then-fine (headerIn s a) _ (not-met met _ (not-zero a _ e)) in
+    let checked = then-fine (attachmentIn s a) _ (eq-first _ _ _ _ (header .1) false≢true .1) in
+    at-fits s a n (checked .0) (lt-first _ _ _ _ (checked .1) refused≢ok .0)
+
+-- ---- the next AT: whether the chain goes on, then the blocks that its links lead to, then itself and the rest
+attachMore : ℕ → List ℕ → ℕ → Attached → Checked Attached
+attachMore turns s a t =
+    andThen (copyLinks (copyRoot s) s (linksAt s a - 1) (a + 32) (t .made))
+    (λ m. attachmentsFrom turns s (firstLink s a) (attach a (sizeAt s a) (t .made) m t))
+
+attach-open : (turns : ℕ) (s : List ℕ) (a : ℕ) (t : Attached) → 0 < turns
+  → attachmentsFrom turns s a t ≡ onAttaches (attachesAt s a (isAttached a (t .attachments)) (length (t .attachments))) t (attachMore (turns - 1) s a t)
+unfolding attachmentsFrom attachesAt ifEq ifLt attachMore
+attach-open zero s a t h = absurd (omega arith)
+attach-open (suc turns) s a t h =
+    rw (sub-one (suc turns))
+    (go (eqb a 0) (isAttached a (t .attachments)) (headerIn s a) (eqb (kindAt s a) kindAT) (attachmentIn s a) (ltb (length (t .attachments)) mostAttachments))
+  where
+    go : (e i : Bool) (v : Verdict) (k : Bool) (f : Verdict) (l : Bool)
+      → pick e (ok t) (pick i (ok t) (andThen v (λ _. pick k (andThen f (λ _. pick l (attachMore turns s a t) (refused 19 a))) (ok t))))
+      ≡ onAttaches
+        (pick e (ok false) (pick i (ok false) (andThen v (λ _. pick k (andThen f (λ _. pick l (ok true) (refused 19 a))) (ok false)))))
+        t (attachMore turns s a t)
+    go true i v k f l = refl
+    go false true v k f l = refl
+    go false false (refused n p) k f l = refl
+    go false false (ok u) false f l = refl
+    go false false (ok u) true (refused n p) l = refl
+    go false false (ok u) true (ok x) true = refl
+    go false false (ok u) true (ok x) false = refl
+
+-- ---- the walk along the chain
+pub record Chaining (s w₀ : List ℕ) (a : ℕ) (st₀ : Copying) (w : List ℕ) (at count turns : ℕ) (st : Copying) : Type 0 where
+  pub moving : Moving count w₀ w st₀ st
+  pub same : length w ≡ length w₀
+  pub words : 8192 ≤ length w
+  pub short : length s ≤ 4294967296
+  pub start : st₀ .next ≤ 576460752303423488
+  pub sum : count + turns ≡ 66
+  pub room : Room (st .used) (st .next)
+  pub rest : attachmentsFrom turns s at (moving .told) ≡ attachmentsOf s a (standing w₀ st₀)
+
+pub chain-begin : (s w : List ℕ) (a : ℕ) (st : Copying) → 8192 ≤ length w → length s ≤ 4294967296 → st .used ≤ 2048 → st .next ≤ 576460752303423488
+  → Chaining s w a st w a 0 66 st
+unfolding attachmentsOf attachmentWords blit
+chain-begin s w a st h l u n =
+    record {
+      moving = record {
+        told = record { attachments = []; made = standing w st }; made = refl; counted = refl; few = omega arith; more = omega arith; most = u;
+        near = omega arith; past = past-same _ w };
+      same = refl; words = h; short = l; start = n; sum = refl; room = record { few = u; near = omega arith }; rest = refl }
+
+module _ {s w₀ : List ℕ} {a : ℕ} {st₀ : Copying} {w : List ℕ} {at count turns : ℕ} {st : Copying}
+  (u : Chaining s w₀ a st₀ w at count turns st) where
+  pub chain-out : turns ≡ 0 → MovedAll count w₀ w st₀ st (attachmentsOf s a (standing w₀ st₀))
+  unfolding attachmentsFrom
+  chain-out e = record { moving = u .moving; is = sym (rw e at (u .rest)) }
+
+  met-told : attachedIn w 4096 count at ≡ isAttached at (u .moving .told .attachments)
+  met-told =
+      let m = u .moving in
+      attached-past 4096 count at (m .past) (omega arith)
+      ∙ ap (λ (k : ℕ). attachedIn (blit 4096 (attachmentWords (m .told .attachments)) w₀) 4096 k at) (sym (m .counted))
+      ∙ attached-blit (m .told .attachments) w₀ 4096 at (omega arith)
+
+  module _ (h : 0 < turns) where
+    opened : {v : Checked Bool} → attachesAt s at (attachedIn w 4096 count at) count ≡ v
+      → onAttaches v (u .moving .told) (attachMore (turns - 1) s at (u .moving .told)) ≡ attachmentsOf s a (standing w₀ st₀)
+    opened e =
+        ap (λ (v : Checked Bool). onAttaches v (u .moving .told) (attachMore (turns - 1) s at (u .moving .told)))
+        (sym e ∙ ap (λ (b : Bool). attachesAt s at b count) met-told
+          ∙ ap (λ (n : ℕ). attachesAt s at (isAttached at (u .moving .told .attachments)) n) (sym (u .moving .counted)))
+        ∙ sym (attach-open turns s at (u .moving .told) h) ∙ u .rest
+
+    pub chain-ends : attachesAt s at (attachedIn w 4096 count at) count ≡ ok false → MovedAll count w₀ w st₀ st (attachmentsOf s a (standing w₀ st₀))
+    chain-ends e = record { moving = u .moving; is = sym (opened e) }
+
+    pub chain-refused : {n p : ℕ} → attachesAt s at (attachedIn w 4096 count at) count ≡ refused n p → attachmentsOf s a (standing w₀ st₀) ≡ refused n p
+    chain-refused e = sym (opened e)
+
+    module _ (e : attachesAt s at (attachedIn w 4096 count at) count ≡ ok true) {n : ℕ} (l : n ≡ linksAt s at) {w' : List ℕ} {g : Got}
+      (c : Copied w w' g (copyLinks (copyRoot s) s (n - 1) (at + 32) (standing w st))) where
+      followed : {v : Checked Copies} → v ≡ copyLinks (copyRoot s) s (n - 1) (at + 32) (standing w st)
+        → copyLinks (copyRoot s) s (linksAt s at - 1) (at + 32) (standing w st) ≡ v
+      followed q = rw (← l) (sym q)
+
+      pub chain-stopped : {k p : ℕ} → g ≡ got.Refused k p → attachmentsOf s a (standing w₀ st₀) ≡ refused k p
+      unfolding attachMore
+      chain-stopped q = sym (rw (u .moving .made, followed (copied-refused c q)) at (opened e))
+
+      pub chain-next : {t r : Copying} {b size : ℕ} {x : List ℕ} → AfterGot g st → g ≡ got.At t → length w' ≡ length w → size ≡ sizeAt s at
+        → x ≡ blit (4096 + 3 * count) (at ∷ align8 (t .next) ∷ (t .used - st .used) ∷ []) w'
+        → r ≡ record { used = t .used; next = align8 (align8 (t .next) + size) } → b ≡ firstLink s at
+        → Chaining s w₀ a st₀ x b (count + 1) (turns - 1) r
+      unfolding attachMore attach
+      chain-next {t} {r} {b} {size} {x} f q k z j i y =
+          let d = copied-at c q in
+          let k' = after-at f q in
+          let m = u .moving in
+          let g = attaches-fits s at (attachedIn w 4096 count at) count e in
+          let new : Attachment = record { from = at; to = align8 (t .next); own = drop (length (copiesIn w (st .used))) (copiesIn w' (t .used)) } in
+          let own : length (new .own) ≡ t .used - st .used = simp (length-drop, length-copies) in
+          let told : Attached = record { attachments = m .told .attachments ++ (new ∷ []); made = copies (copiesIn w' (t .used)) (align8 (align8 (t .next) + sizeAt s at)) } in
+          let kept : copiesIn x (t .used) ≡ copiesIn w' (t .used) = rw j (copies-blit _ w' (t .used) (4096 + 3 * count) (omega arith)) in
+          let long : length x ≡ length w' = rw j (length-blit _ _ w') in
+          let near = align-near (t .next) in
+          let near' = align-near (align8 (t .next) + size) in
+          let words : length (attachmentWords (m .told .attachments)) ≡ 3 * count = length-words (m .told .attachments) ∙ ap (λ (n : ℕ). 3 * n) (m .counted) in
+          let past : Past (2 * t .used) (blit attachmentsAt (attachmentWords (told .attachments)) w₀) x =
+                rw (words-snoc (m .told .attachments) new, own, blit-append (attachmentWords (m .told .attachments)) 4096 _ w₀, words, j)
+                (past-blit _ (4096 + 3 * count) (omega arith) (past-then (past-more _ (omega arith) (m .past)) (d .1))) in
+          rw i
+          (record {
+            moving = record {
+              told = told;
+              made = rw (kept, z);
+              counted = simp length-append (omega arith);
+              few = omega arith;
+              more = omega arith;
+              most = omega arith;
+              near = omega arith;
+              past = past };
+            same = long ∙ k ∙ u .same;
+            words = omega arith;
+            short = u .short;
+            start = u .start;
+            sum = omega arith;
+            room = record { few = omega arith; near = omega arith };
+            rest = rw y (rw (u .moving .made, followed (d .0)) at (opened e)) })

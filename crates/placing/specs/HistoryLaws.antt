@@ -1,0 +1,171 @@
+-- The ways of the history chain.
+use Prim.{tt}
+use Prim.Native.Nat.{ℕ, zero, suc, _+_, _*_, _-_, _≤_, _<_}
+use mathlib.Core.List.{List, [], _∷_, _++_}
+use mathlib.Core.Path.{_≡_, refl, sym, ap, _∙_}
+use mathlib.Core.Bool.{Bool, true, false}
+use native.Mathlib.Numerals.{sub-one, add-one}
+use native.Mathlib.Omega.{arith}
+use lib.Dec.{eqb}
+use lib.ListN.{length, take, drop, set, length-drop, length-set}
+use lib.Seq.{drop-set-add, take-suc-set, length-take-le}
+use Rattle.base.specs.Choice.{pick, ifEq}
+use Rattle.base.specs.ChoiceLaws.{eq-yes, eq-no}
+use Rattle.base.specs.Checked.{Checked, ok, refused, andThen, Verdict}
+use Rattle.base.specs.Blit.{part, blit}
+use Rattle.base.specs.BlitLaws.{blit-append, blit-one}
+use Rattle.mdf.specs.Block.{kindAt, linksAt, firstLink, wholeAt}
+use Rattle.mdf.specs.Chain.{isIn}
+use Rattle.plan.specs.Copies.{copyRoot, isCopied, History, history, historyFrom, historyOf}
+use Rattle.plan.specs.CopyWords.{historyAt}
+use Rattle.placing.specs.declared.memo.Copying.{Copying}
+use Rattle.placing.specs.declared.copier.Got.{Got}
+use Rattle.placing.specs.declared.copier.Got.the-variants as got
+use Rattle.placing.specs.declared.history.Chain.the-variants.{At, Refused}
+use Rattle.placing.specs.Standing.{copiesIn, standing, Room, Past}
+use Rattle.placing.specs.StandingLaws.{copies-set, past-more, past-then, past-same}
+use Rattle.placing.specs.Got.{Copied, After, AfterGot}
+use Rattle.placing.specs.TurnLaws.{copied-at, copied-refused, after-same, after-then, after-at}
+use Rattle.placing.specs.History.{goesOn, onGoes, chainIn, Chained, ChainLaid}
+
+-- ---- whether it goes on, one law for each way of the code
+pub ends-none : (s : List ℕ) (a : ℕ) (chain : List ℕ) → a ≡ 0 → ok false ≡ goesOn s a chain
+unfolding goesOn
+ends-none s a chain z = eq-yes _ _ _ _ z refl
+
+module _ (s : List ℕ) (a : ℕ) (chain : List ℕ) (link : a ≡ 0 → ⊥) where
+  pub ends-met : isIn a chain ≡ true → ok false ≡ goesOn s a chain
+  unfolding goesOn
+  ends-met i = eq-no _ _ _ _ link (rw i)
+
+  module _ (i : isIn a chain ≡ false) where
+    pub goes-refused : {n p : ℕ} → wholeAt s a ≡ refused n p → refused n p ≡ goesOn s a chain
+    unfolding goesOn
+    goes-refused v = eq-no _ _ _ _ link (rw (i, v))
+
+    module _ (v : wholeAt s a ≡ ok tt) where
+      pub ends-other : isCopied (kindAt s a) ≡ false → ok false ≡ goesOn s a chain
+      unfolding goesOn
+      ends-other k = eq-no _ _ _ _ link (rw (i, v, k))
+
+      pub goes-unlinked : isCopied (kindAt s a) ≡ true → linksAt s a ≡ 0 → refused 17 a ≡ goesOn s a chain
+      unfolding goesOn
+      goes-unlinked k l = eq-no _ _ _ _ link (rw (i, v, k) (eq-yes _ _ _ _ l refl))
+
+      pub goes-on : isCopied (kindAt s a) ≡ true → (linksAt s a ≡ 0 → ⊥) → ok true ≡ goesOn s a chain
+      unfolding goesOn
+      goes-on k l = eq-no _ _ _ _ link (rw (i, v, k) (eq-no _ _ _ _ l refl))
+
+-- in the chain or not, by the search of the words
+pub in-chain : (w : List ℕ) (i k a : ℕ) {b : Bool} → b ≡ isIn a (part i (i + k - i) w) → {x : Bool} → b ≡ x → isIn a (part i k w) ≡ x
+in-chain w i k a q h =
+    let e : i + k - i ≡ k = omega arith in
+    sym (rw e at q) ∙ h
+
+-- ---- the next block: whether the chain goes on, then its copy, then the rest
+historyMore : ℕ → List ℕ → ℕ → History → Checked History
+historyMore turns s a h =
+    andThen (copyRoot s a (h .made)) (λ m. historyFrom turns s (firstLink s a) (history (h .chain ++ (a ∷ [])) m))
+
+history-open : (turns : ℕ) (s : List ℕ) (a : ℕ) (h : History) → 0 < turns
+  → historyFrom turns s a h ≡ onGoes (goesOn s a (h .chain)) h (historyMore (turns - 1) s a h)
+unfolding historyFrom goesOn ifEq historyMore
+history-open zero s a h p = absurd (omega arith)
+history-open (suc turns) s a h p =
+    rw sub-one (go (eqb a 0) (isIn a (h .chain)) (wholeAt s a) (isCopied (kindAt s a)) (eqb (linksAt s a) 0))
+  where
+    go : (e i : Bool) (v : Verdict) (k l : Bool)
+      → pick e (ok h) (pick i (ok h) (andThen v (λ _. pick k (pick l (refused 17 a) (historyMore turns s a h)) (ok h))))
+      ≡ onGoes (pick e (ok false) (pick i (ok false) (andThen v (λ _. pick k (pick l (refused 17 a) (ok true)) (ok false))))) h (historyMore turns s a h)
+    go true i v k l = refl
+    go false true v k l = refl
+    go false false (refused n p) k l = refl
+    go false false (ok u) false l = refl
+    go false false (ok u) true true = refl
+    go false false (ok u) true false = refl
+
+-- ---- words
+pub part-past : {n : ℕ} {w w' : List ℕ} (i k : ℕ) → Past n w w' → n ≤ i → part i k w' ≡ part i k w
+unfolding part
+part-past i k p h = ap (take k) (past-more i h p .kept)
+
+pub length-part : (i k : ℕ) (w : List ℕ) → i + k ≤ length w → length (part i k w) ≡ k
+unfolding part
+length-part i k w h = length-take-le k (drop i w) (simp length-drop (omega arith))
+
+pub part-snoc : (i k x : ℕ) (w : List ℕ) → i + k < length w → part i (k + 1) (set w (i + k) x) ≡ part i k w ++ (x ∷ [])
+unfolding part
+part-snoc i k x w h =
+    let l : k < length (drop i w) = simp length-drop (omega arith) in
+    rw (add-one, drop-set-add i w k x) (take-suc-set (drop i w) k x l)
+
+pub past-both : {n : ℕ} {x y : List ℕ} (j b : ℕ) → n ≤ j → Past n x y → Past n (set x j b) (set y j b)
+past-both {n} {x} {y} j b h p =
+    let e : j ≡ n + (j - n) = omega arith in
+    record { kept = rw (e, drop-set-add n y (j - n) b, drop-set-add n x (j - n) b, p .kept) }
+
+pub past-snoc : {n : ℕ} {y : List ℕ} (i : ℕ) (bs x : List ℕ) (k b : ℕ) → length bs ≡ k → n ≤ i → Past n (blit i bs x) y
+  → Past n (blit i (bs ++ (b ∷ [])) x) (set y (i + k) b)
+past-snoc i bs x k b l h p =
+    rw (blit-append bs i (b ∷ []) x, l, blit-one (i + k) b (blit i bs x)) (past-both (i + k) b (omega arith) p)
+
+-- ---- the walk along the chain
+pub record Walked (s w₀ : List ℕ) (a : ℕ) (st₀ : Copying) (w : List ℕ) (at count turns : ℕ) (st : Copying) : Type 0 where
+  pub same : length w ≡ length w₀
+  pub words : 8192 ≤ length w
+  pub sum : count + turns ≡ 2049
+  pub after : After 0 st₀ st
+  pub past : Past (2 * st .used) (blit historyAt (chainIn w count) w₀) w
+  pub rest : historyFrom turns s at (history (chainIn w count) (standing w st)) ≡ historyOf s a (standing w₀ st₀)
+
+pub walk-begin : (s w : List ℕ) (a : ℕ) (st : Copying) → 8192 ≤ length w → Room (st .used) (st .next) → Walked s w a st w a 0 2049 st
+unfolding historyOf part blit
+walk-begin s w a st h r =
+    record { same = refl; words = h; sum = refl; after = after-same st r; past = past-same _ w; rest = refl }
+
+module _ {s w₀ : List ℕ} {a : ℕ} {st₀ : Copying} {w : List ℕ} {at count turns : ℕ} {st : Copying}
+  (u : Walked s w₀ a st₀ w at count turns st) where
+  laid-here : ChainLaid count w₀ w st₀ st
+  laid-here = record { few = omega arith; after = u .after; past = u .past }
+
+  pub walk-out : turns ≡ 0 → Chained w₀ w st₀ (At count st) (historyOf s a (standing w₀ st₀))
+  unfolding historyFrom
+  walk-out e = record { is = rw e at (u .rest); laid = laid-here }
+
+  module _ (h : 0 < turns) where
+    opened : {v : Checked Bool} → goesOn s at (chainIn w count) ≡ v
+      → onGoes v (history (chainIn w count) (standing w st)) (historyMore (turns - 1) s at (history (chainIn w count) (standing w st)))
+      ≡ historyOf s a (standing w₀ st₀)
+    opened e =
+        ap (λ (v : Checked Bool). onGoes v (history (chainIn w count) (standing w st)) (historyMore (turns - 1) s at (history (chainIn w count) (standing w st)))) (sym e)
+        ∙ sym (history-open turns s at (history (chainIn w count) (standing w st)) h) ∙ u .rest
+
+    pub walk-ends : goesOn s at (chainIn w count) ≡ ok false → Chained w₀ w st₀ (At count st) (historyOf s a (standing w₀ st₀))
+    walk-ends e = record { is = opened e; laid = laid-here }
+
+    pub walk-refused : {n p : ℕ} → goesOn s at (chainIn w count) ≡ refused n p → Chained w₀ w st₀ (Refused n p) (historyOf s a (standing w₀ st₀))
+    walk-refused e = record { is = opened e; laid = tt }
+
+    module _ (e : goesOn s at (chainIn w count) ≡ ok true) {w' : List ℕ} {g : Got} (c : Copied w w' g (copyRoot s at (standing w st))) where
+      pub walk-stopped : {n p : ℕ} → g ≡ got.Refused n p → Chained w₀ w' st₀ (Refused n p) (historyOf s a (standing w₀ st₀))
+      unfolding historyMore
+      walk-stopped q = record { is = rw (sym (copied-refused c q)) at (opened e); laid = tt }
+
+      pub walk-next : {t : Copying} {b : ℕ} → AfterGot g st → g ≡ got.At t → length w' ≡ length w → b ≡ firstLink s at
+        → Walked s w₀ a st₀ (set w' (4352 + count) at) b (count + 1) (turns - 1) t
+      unfolding historyMore
+      walk-next {t} {b} f q l z =
+          let k = after-at f q in
+          let d = copied-at c q in
+          let i : 4352 + count < length w' = omega arith in
+          let chain : chainIn w' count ≡ chainIn w count = part-past historyAt count (d .1) (omega arith) in
+          let more : chainIn (set w' (4352 + count) at) (count + 1) ≡ chainIn w count ++ (at ∷ []) = part-snoc 4352 count at w' i ∙ ap (λ (x : List ℕ). x ++ (at ∷ [])) chain in
+          let kept : copiesIn (set w' (4352 + count) at) (t .used) ≡ copiesIn w' (t .used) = copies-set w' 0 (t .used) (4352 + count) at (omega arith) in
+          record {
+            same = length-set w' (4352 + count) at ∙ l ∙ u .same;
+            words = simp length-set (omega arith);
+            sum = omega arith;
+            after = after-then (u .after) k;
+            past = rw more (past-snoc historyAt (chainIn w count) w₀ count at (length-part 4352 count w (omega arith)) (omega arith)
+              (past-then (past-more _ (omega arith) (u .past)) (d .1)));
+            rest = rw (more, kept, z) (rw (sym (d .0)) at (opened e)) }

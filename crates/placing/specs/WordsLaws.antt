@@ -1,0 +1,49 @@
+-- The words at the end of placing: copies, attachments and the history chain laid over the words at entry.
+use Prim.Native.Nat.{ℕ, zero, suc, _+_, _*_, _≤_}
+use mathlib.Core.List.{List, _++_}
+use mathlib.Core.Path.{_≡_, refl, sym, ap, _∙_}
+use native.Mathlib.Nat.{zero-add}
+use native.Mathlib.Omega.{arith}
+use lib.ListN.{length, take, drop, take-append-drop}
+use lib.Seq.{drop-cons, length-take-le}
+use Rattle.base.specs.Blit.{blit}
+use Rattle.base.specs.BlitLaws.{blit-is, blit-comm, length-blit}
+use Rattle.plan.specs.Copies.{Attachment}
+use Rattle.plan.specs.CopyWords.{copyWords, attachmentWords, attachmentsAt, historyAt}
+use Rattle.placing.specs.Standing.{copiesFrom, copiesIn, Past}
+use Rattle.placing.specs.AttachingLaws.{length-words}
+
+-- the words of copies read from words are those words
+words-copies : (w : List ℕ) (p k : ℕ) → p + 2 * k ≤ length w → copyWords (copiesFrom w p k) ≡ take (2 * k) (drop p w)
+unfolding copyWords copiesFrom
+words-copies w p zero h = refl
+words-copies w p (suc k) h =
+    let n : 2 * suc k ≡ suc (suc (2 * k)) = omega arith in
+    let i : p + 1 ≡ suc p = omega arith in
+    let j : p + 2 ≡ suc (suc p) = omega arith in
+    rw (n, drop-cons w p 0 (omega arith), drop-cons w (suc p) 0 (omega arith), words-copies w (p + 2) k (omega arith), i, j)
+
+pub length-words-copies : (w : List ℕ) (k : ℕ) → 2 * k ≤ length w → length (copyWords (copiesIn w k)) ≡ 2 * k
+length-words-copies w k h = rw (words-copies w 0 k (omega arith)) (length-take-le (2 * k) w h)
+
+-- words that are kept past the copies are those at entry with the copies laid over them
+pub copies-laid : (w w' : List ℕ) (k : ℕ) → length w' ≡ length w → 2 * k ≤ length w → Past (2 * k) w w' → w' ≡ blit 0 (copyWords (copiesIn w' k)) w
+copies-laid w w' k l h p =
+    let n = length-words-copies w' k (omega arith) in
+    let e : blit 0 (copyWords (copiesIn w' k)) w ≡ copyWords (copiesIn w' k) ++ drop (2 * k) w =
+          blit-is 0 (copyWords (copiesIn w' k)) w (omega arith) ∙ rw (zero-add, n) in
+    sym (e ∙ rw (words-copies w' 0 k (omega arith), ← (p .kept)) (take-append-drop (2 * k) w'))
+
+-- the words of `laidCopies`, in any order
+pub all-laid : (w w' : List ℕ) (k : ℕ) (chain : List ℕ) (ts : List Attachment) → length w' ≡ length w → 4096 ≤ length w → k ≤ 2048 → length ts ≤ 64
+  → Past (2 * k) (blit attachmentsAt (attachmentWords ts) (blit historyAt chain w)) w'
+  → w' ≡ blit historyAt chain (blit attachmentsAt (attachmentWords ts) (blit 0 (copyWords (copiesIn w' k)) w))
+all-laid w w' k chain ts l h u t p =
+    let n = length-words-copies w' k (omega arith) in
+    let m = length-words ts in
+    let x = length-blit attachmentsAt (attachmentWords ts) (blit historyAt chain w) in
+    let y = length-blit historyAt chain w in
+    copies-laid (blit attachmentsAt (attachmentWords ts) (blit historyAt chain w)) w' k (omega arith) (omega arith) p
+    ∙ blit-comm (copyWords (copiesIn w' k)) 0 4096 (attachmentWords ts) (blit historyAt chain w) (omega arith)
+    ∙ ap (blit attachmentsAt (attachmentWords ts)) (blit-comm (copyWords (copiesIn w' k)) 0 4352 chain w (omega arith))
+    ∙ blit-comm (attachmentWords ts) 4096 4352 chain (blit 0 (copyWords (copiesIn w' k)) w) (omega arith)

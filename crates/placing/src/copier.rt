@@ -1,0 +1,179 @@
+// The metadata copier: it calls itself on each link, the depth left falls from 65, and copied blocks come from the words.
+use blocks::block::{TX, MD, kind_at, size_at, links_at, whole_at};
+use fields::{Check, u64_at};
+use crate::memo::{Copying, Found, find, is_in, place};
+ghost use mathlib.Core.Path.{_≡_};
+ghost use Prim.Native.Nat.{_+_, _*_, _-_, _≤_, _<_};
+ghost use lib.ListN.{length, drop};
+ghost use Rattle.mdf.specs.Block.{linksAt};
+ghost use Rattle.plan.specs.Copies.{isCopied, lostLinks, copyLinks, copyAt, copyRoot};
+ghost use Rattle.placing.specs.Standing.{copiesIn, standing, Room};
+ghost use Rattle.placing.specs.Begin.{beginAt};
+ghost use Rattle.placing.specs.Got.{begunOf, Copied, AfterGot};
+
+pub const CC: u64 = 1128473379;
+pub const SI: u64 = 1230185251;
+pub const FH: u64 = 1212556067;
+pub const AT: u64 = 1413554979;
+
+// What was copied, or document 01's refusal with number and place.
+pub enum Got {
+    At(Copying),
+    Refused { number: u64, place: u64 },
+}
+
+// At a link: nothing to copy, its block's links to follow, or a refusal.
+pub enum Begun {
+    Nothing,
+    Links,
+    Refused { number: u64, place: u64 },
+}
+
+// TX, MD, CC, SI, FH.
+pub fn is_copied(kind: u64) -> bool
+    ensures { λ r. ⌜ r ≡ isCopied kind ⌝ }
+{
+    if kind == TX {
+        return true;
+    }
+    if kind == MD {
+        return true;
+    }
+    if kind == CC {
+        return true;
+    }
+    if kind == SI {
+        return true;
+    }
+    kind == FH
+}
+
+// The links that the block at a loses in front: the first of an FH.
+pub fn lost_links(image: &[u8], a: u64) -> u64
+    ensures { λ r. ⌜ r ≡ lostLinks (now (image .entry)) a ⌝ }
+{
+    if kind_at(image, a) == FH {
+        return 1;
+    }
+    0
+}
+
+// The number of links of the block at a that are followed.
+pub fn links_left(image: &[u8], a: u64) -> u64
+    ensures { λ r. ⌜ r ≡ linksAt (now (image .entry)) a - lostLinks (now (image .entry)) a ⌝ }
+{
+    let links = links_at(image, a);
+    let lost = lost_links(image, a);
+    if links < lost {
+        return 0;
+    }
+    links - lost
+}
+
+// The checks at a link to a, with the blocks on the way down from index left on, the nearest first: nothing for 0 and for a block that is copied,
+// 16, then the block's own (4, 8, 9, 4), nothing for another kind, 19.
+fn begin(image: &[u8], memo: &[u64], way: &[u64], a: u64, left: u64, used: u64) -> Begun
+    requires { ⌜ (used ≤ 2048) × (2 * used ≤ length (now memo)) × (length (now way) ≡ 65) × (left ≤ 65) ⌝ }
+    ensures { λ r. ⌜ begunOf r ≡ beginAt left (now (image .entry)) (drop left (now (way .entry))) a (copiesIn (now (memo .entry)) used) ⌝ }
+{
+    if a == 0 {
+        return Begun::Nothing;
+    }
+    let found = find(memo, used, a);
+    if let Found::At(_) = found {
+        return Begun::Nothing;
+    }
+    if left == 0 {
+        return Begun::Refused { number: 16, place: a };
+    }
+    if is_in(way, left as usize, 65, a) {
+        return Begun::Refused { number: 16, place: a };
+    }
+    let whole = whole_at(image, a);
+    if let Check::Refused { number, place } = whole {
+        return Begun::Refused { number, place };
+    }
+    if is_copied(kind_at(image, a)) {
+        if used + (65 - left) < 2048 {
+            return Begun::Links;
+        }
+        return Begun::Refused { number: 19, place: a };
+    }
+    Begun::Nothing
+}
+
+// The block at a and all that it links to, with the blocks on the way down in `way` from index left on.
+pub(crate) fn copy(image: &[u8], memo: &mut [u64], way: [u64; 65], a: u64, left: u64, state: Copying) -> Got
+    requires { ⌜ (8192 ≤ length (now memo)) × (left ≤ 65) × (state .used + 65 ≤ 2048 + left) × Room (state .used) (state .next) ⌝ }
+    ensures { λ r. ⌜ Copied (now (memo .entry)) (now (memo .exit)) r
+        (copyAt left (now (image .entry)) (drop left way) a (standing (now (memo .entry)) state)) ⌝ }
+{
+    let used = state.used;
+    let begun = begin(image, memo, &way, a, left, used);
+    match begun {
+        Begun::Nothing => {
+            return Got::At(state);
+        }
+        Begun::Refused { number, place } => {
+            return Got::Refused { number, place };
+        }
+        Begun::Links => {}
+    }
+    let mut down = way;
+    down[(left - 1) as usize] = a;
+    let mut links = links_left(image, a);
+    let mut p = a + 24 + 8 * lost_links(image, a);
+    let mut st = state;
+    while 0 < links {
+        let link = u64_at(image, p);
+        let got = copy(image, memo, down, link, left - 1, st);
+        match got {
+            Got::At(t) => {
+                st = t;
+            }
+            Got::Refused { number, place } => {
+                return Got::Refused { number, place };
+            }
+        }
+        p += 8;
+        links -= 1;
+    }
+    let size = size_at(image, a);
+    Got::At(place(memo, a, size, st))
+}
+
+// The block at a, from outside of any copied block.
+pub(crate) fn copy_root(image: &[u8], memo: &mut [u64], a: u64, state: Copying) -> Got
+    requires { ⌜ (8192 ≤ length (now memo)) × Room (state .used) (state .next) ⌝ }
+    ensures { λ r. ⌜ Copied (now (memo .entry)) (now (memo .exit)) r (copyRoot (now (image .entry)) a (standing (now (memo .entry)) state)) ⌝ }
+    ensures after { λ r. ⌜ AfterGot r state ⌝ }
+{
+    copy(image, memo, [0u64; 65], a, 65, state)
+}
+
+// The links that stand at p, so many of them, from outside of any copied block.
+pub(crate) fn follow(image: &[u8], memo: &mut [u64], count: u64, at: u64, state: Copying) -> Got
+    requires { ⌜ (8192 ≤ length (now memo)) × Room (state .used) (state .next) × (at + 8 * count ≤ length (now image) + 8) ⌝ }
+    ensures { λ r. ⌜ Copied (now (memo .entry)) (now (memo .exit)) r
+        (copyLinks (copyRoot (now (image .entry))) (now (image .entry)) count at (standing (now (memo .entry)) state)) ⌝ }
+    ensures after { λ r. ⌜ AfterGot r state ⌝ }
+{
+    let mut links = count;
+    let mut p = at;
+    let mut st = state;
+    while 0 < links {
+        let link = u64_at(image, p);
+        let got = copy_root(image, memo, link, st);
+        match got {
+            Got::At(t) => {
+                st = t;
+            }
+            Got::Refused { number, place } => {
+                return Got::Refused { number, place };
+            }
+        }
+        p += 8;
+        links -= 1;
+    }
+    Got::At(st)
+}

@@ -1,0 +1,6 @@
+// Which metadata blocks are copied and where they are placed, while measuring.
+pub mod memo;
+pub mod copier;
+pub mod roots;
+pub mod history;
+pub mod attachments;
