@@ -1,0 +1,3 @@
+// Reading a recording: the walk over its blocks, then the counts of its records.
+pub mod answer;
+pub mod recording;
