@@ -1,0 +1,159 @@
+-- Planning with bare groups gives the plan with bare columns, and the same words.
+use Prim.Native.Nat.{ℕ, suc, _+_}
+use mathlib.Core.List.{List, [], _∷_, _++_}
+use mathlib.Core.Bool.{Bool, true, false}
+use mathlib.Core.Option.{Option, none, some}
+use mathlib.Core.Path.{_≡_, refl, sym, ap, _∙_}
+use lib.Dec.{eqb}
+use lib.ListN.{length}
+use Rattle.base.specs.Choice.{pick, ifEq}
+use Rattle.base.specs.Checked.{Checked, ok, refused, andThen}
+use Rattle.mdf.specs.Group.{isStorage}
+use Rattle.plan.specs.Columns.{SrcGroup, Column, Plan, unsigned, onPlanned, Decision, omitted, kept, TimeOf, time, untimed, differs, masterOf, groupAt, remoteLink, onGroup, onMaster, remoteTime, timeOf, timeColumn, withColumn, withOmission, withTime, decide, decided, ownMaster, planChannels, planTimed, planGroup, planGroups, plan, sizeOfSignal}
+use Rattle.plan.specs.PlanWords.{columnWords, columnsWords, signalFragments, laidPlan}
+use Rattle.plan.specs.Data.{isNonempty, anyNonempty, signalIn, signalsIn, blocksIn}
+use Rattle.planning.specs.Bare.{bare, bares, bareColumn, bareColumns, barePlan, bareChecked, bareGroup, bareTime}
+
+group-bare : (a : ℕ) (gs : List SrcGroup) → groupAt a (bares gs) ≡ bareGroup (groupAt a gs)
+unfolding groupAt bares ifEq
+group-bare a [] = refl
+group-bare a (g ∷ gs) = rw (group-bare a gs) (go (eqb (g .at) a))
+  where
+    go : (t : Bool) → pick t (some (bare g)) (bareGroup (groupAt a gs)) ≡ bareGroup (pick t (some g) (groupAt a gs))
+    go true = refl
+    go false = refl
+
+master-bare : (s : List ℕ) (g : SrcGroup) → masterOf s (bare g) ≡ masterOf s g
+unfolding masterOf
+master-bare s g = refl
+
+remote-bare : (s : List ℕ) (all : List SrcGroup) (g : SrcGroup) → remoteTime s (bares all) (bare g) ≡ bareTime (remoteTime s all g)
+unfolding remoteTime ifEq
+remote-bare s all g = rw (group-bare (remoteLink s (g .at)) all) (go (groupAt (remoteLink s (g .at)) all))
+  where
+    at : (t : SrcGroup) (m : ℕ) (b : Bool) → pick b (time (bare t) m) differs ≡ bareTime (pick b (time t m) differs)
+    at t m true = refl
+    at t m false = refl
+    by : (t : SrcGroup) (o : Option ℕ)
+      → onMaster o untimed (λ m. pick (eqb (t .records) (g .records)) (time (bare t) m) differs)
+        ≡ bareTime (onMaster o untimed (λ m. pick (eqb (t .records) (g .records)) (time t m) differs))
+    by t none = refl
+    by t (some m) = at t m (eqb (t .records) (g .records))
+    go : (o : Option SrcGroup)
+      → onGroup (bareGroup o) untimed (λ t. onMaster (masterOf s t) untimed (λ m. pick (eqb (t .records) (g .records)) (time t m) differs))
+        ≡ bareTime (onGroup o untimed (λ t. onMaster (masterOf s t) untimed (λ m. pick (eqb (t .records) (g .records)) (time t m) differs)))
+    go none = refl
+    go (some t) = rw (master-bare s t) (by t (masterOf s t))
+
+time-bare : (s : List ℕ) (all : List SrcGroup) (g : SrcGroup) → timeOf s (bares all) (bare g) ≡ bareTime (timeOf s all g)
+unfolding timeOf
+time-bare s all g = rw (master-bare s g, remote-bare s all g) (go (masterOf s g))
+  where
+    go : (o : Option ℕ) → onMaster o (bareTime (remoteTime s all g)) (λ m. time (bare g) m) ≡ bareTime (onMaster o (remoteTime s all g) (λ m. time g m))
+    go none = refl
+    go (some m) = refl
+
+column-bare : (g k : ℕ) (cs : List Column) → timeColumn g k (bareColumns cs) ≡ timeColumn g k cs
+unfolding timeColumn bareColumns
+column-bare g k [] = refl
+column-bare g k (c ∷ cs) = rw (column-bare g (k + 1) cs)
+
+append-bare : (cs ds : List Column) → bareColumns (cs ++ ds) ≡ bareColumns cs ++ bareColumns ds
+unfolding bareColumns
+append-bare [] ds = refl
+append-bare (c ∷ cs) ds = rw (append-bare cs ds)
+
+one-bare : (c : Column) → bareColumns (c ∷ []) ≡ bareColumn c ∷ []
+unfolding bareColumns
+one-bare c = refl
+
+added-bare : (c : Column) (n : ℕ) (p : Plan) → withColumn (bareColumn c) n (barePlan p) ≡ barePlan (withColumn c n p)
+added-bare c n p = rw (append-bare (p .columns) (c ∷ []), one-bare c)
+
+decided-bare : (g : SrcGroup) (m : Option ℕ) (c : ℕ) (p : Plan) (d : Decision) → decided (bare g) m c (barePlan p) d ≡ barePlan (decided g m c p d)
+decided-bare g m c p (omitted r) = refl
+decided-bare g m c p (kept d) = added-bare (record { group = g; channel = c; isTime = false; master = m; signalOf = d }) (sizeOfSignal d) p
+
+timed-bare : (t : SrcGroup) (m : ℕ) (p : Plan) → withTime (bare t) m (barePlan p) ≡ barePlan (withTime t m p)
+unfolding withTime
+timed-bare t m p = rw (column-bare (t .at) 0 (p .columns)) (go (timeColumn (t .at) 0 (p .columns)))
+  where
+    go : (o : Option ℕ) → onPlanned o (withColumn (bareColumn (record { group = t; channel = m; isTime = true; master = none; signalOf = unsigned })) 0 (barePlan p)) (barePlan p)
+      ≡ barePlan (onPlanned o (withColumn (record { group = t; channel = m; isTime = true; master = none; signalOf = unsigned }) 0 p) p)
+    go none = added-bare (record { group = t; channel = m; isTime = true; master = none; signalOf = unsigned }) 0 p
+    go (some k) = refl
+
+channels-bare : (s : List ℕ) (g : SrcGroup) (own : ℕ) (m : Option ℕ) (cs : List ℕ) (p : Plan)
+  → planChannels s (bare g) own m cs (barePlan p) ≡ bareChecked (planChannels s g own m cs p)
+unfolding planChannels ifEq
+channels-bare s g own m [] p = refl
+channels-bare s g own m (c ∷ cs) p =
+    go (λ d. ap (planChannels s (bare g) own m cs) (decided-bare g m c p d) ∙ channels-bare s g own m cs (decided g m c p d))
+      (channels-bare s g own m cs p) (eqb c own) (decide s (p .fragments) (g .at) c)
+  where
+    go : ((d : Decision) → planChannels s (bare g) own m cs (decided (bare g) m c (barePlan p) d) ≡ bareChecked (planChannels s g own m cs (decided g m c p d)))
+      → planChannels s (bare g) own m cs (barePlan p) ≡ bareChecked (planChannels s g own m cs p)
+      → (t : Bool) (o : Checked Decision)
+      → pick t (planChannels s (bare g) own m cs (barePlan p)) (andThen o (λ d. planChannels s (bare g) own m cs (decided (bare g) m c (barePlan p) d)))
+        ≡ bareChecked (pick t (planChannels s g own m cs p) (andThen o (λ d. planChannels s g own m cs (decided g m c p d))))
+    go f h true o = h
+    go f h false (ok d) = f d
+    go f h false (refused x y) = refl
+
+planned-bare : (s : List ℕ) (all : List SrcGroup) (g : SrcGroup) (p : Plan) → planGroup s (bares all) (bare g) (barePlan p) ≡ bareChecked (planGroup s all g p)
+unfolding planGroup
+planned-bare s all g p = rw (time-bare s all g) (go (isStorage s (g .at)) (timeOf s all g))
+  where
+    by : (o : TimeOf) → planTimed s (bare g) (bareTime o) (barePlan p) ≡ bareChecked (planTimed s g o p)
+    by untimed = rw (master-bare s g) (channels-bare s g (ownMaster (masterOf s g)) none (g .channels) p)
+    by differs = rw (master-bare s g) (channels-bare s g (ownMaster (masterOf s g)) none (g .channels) (withOmission (g .at) 1 p))
+    by (time t m) =
+        rw (master-bare s g, timed-bare t m p, column-bare (t .at) 0 (withTime t m p .columns))
+        (channels-bare s g (ownMaster (masterOf s g)) (timeColumn (t .at) 0 (withTime t m p .columns)) (g .channels) (withTime t m p))
+    go : (b : Bool) (o : TimeOf) → pick b (ok (barePlan p)) (planTimed s (bare g) (bareTime o) (barePlan p)) ≡ bareChecked (pick b (ok p) (planTimed s g o p))
+    go true o = refl
+    go false o = by o
+
+pub groups-bare : (s : List ℕ) (all gs : List SrcGroup) (p : Plan) → planGroups s (bares all) (bares gs) (barePlan p) ≡ bareChecked (planGroups s all gs p)
+unfolding planGroups bares
+groups-bare s all [] p = refl
+groups-bare s all (g ∷ gs) p = rw (planned-bare s all g p) (go (λ q. groups-bare s all gs q) (planGroup s all g p))
+  where
+    go : ((q : Plan) → planGroups s (bares all) (bares gs) (barePlan q) ≡ bareChecked (planGroups s all gs q)) → (o : Checked Plan)
+      → andThen (bareChecked o) (λ q. planGroups s (bares all) (bares gs) q) ≡ bareChecked (andThen o (λ q. planGroups s all gs q))
+    go f (ok q) = f q
+    go f (refused x y) = refl
+
+pub plan-bare : (s : List ℕ) (n : ℕ) (all : List SrcGroup) → plan s n (bares all) ≡ bareChecked (plan s n all)
+unfolding plan bareColumns
+plan-bare s n all = groups-bare s all all (record { columns = []; omissions = []; fragments = n })
+
+-- ---- the same words, and the same data stage
+words-bare : (n : ℕ) (cs : List Column) → columnsWords n (bareColumns cs) ≡ columnsWords n cs
+unfolding columnsWords columnWords bareColumns
+words-bare n [] = refl
+words-bare n (c ∷ cs) = rw (words-bare (n + sizeOfSignal (c .signalOf)) cs)
+
+pub laid-bare : (n : ℕ) (p : Plan) (w : List ℕ) → laidPlan n (barePlan p) w ≡ laidPlan n p w
+unfolding laidPlan
+laid-bare n p w = rw (words-bare n (p .columns))
+
+pub signals-bare : (cs : List Column) → signalFragments (bareColumns cs) ≡ signalFragments cs
+unfolding signalFragments bareColumns
+signals-bare [] = refl
+signals-bare (c ∷ cs) = rw (signals-bare cs)
+
+pub nonempty-bare : (s : List ℕ) (d : ℕ) (cs : List Column) → anyNonempty s d (bareColumns cs) ≡ anyNonempty s d cs
+unfolding anyNonempty isNonempty bareColumns
+nonempty-bare s d [] = refl
+nonempty-bare s d (c ∷ cs) = rw (nonempty-bare s d cs)
+
+pub signalsIn-bare : (s : List ℕ) (d : ℕ) (cs : List Column) → signalsIn s d (bareColumns cs) ≡ signalsIn s d cs
+unfolding signalsIn bareColumns
+signalsIn-bare s d [] = refl
+signalsIn-bare s d (c ∷ cs) = rw (signalsIn-bare s d cs)
+
+pub blocks-bare : (s : List ℕ) (size : ℕ) (cs : List Column) → blocksIn s size (bareColumns cs) ≡ blocksIn s size cs
+unfolding blocksIn bareColumns
+blocks-bare s size [] = refl
+blocks-bare s size (c ∷ cs) = rw (blocks-bare s size cs)

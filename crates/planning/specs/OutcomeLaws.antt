@@ -1,0 +1,103 @@
+-- The code's answer for the groups in words is that of the recording's plan.
+use Prim.Native.Nat.{ℕ, zero, suc, _+_, _*_, _-_, _≤_, _<_}
+use mathlib.Core.List.{List, [], _∷_}
+use mathlib.Core.Path.{_≡_, refl, sym, ap, _∙_}
+use native.Mathlib.Nat.{add-zero}
+use native.Mathlib.Omega.{arith}
+use lib.ListN.{length}
+use Rattle.base.specs.Blit.{blit}
+use Rattle.base.specs.Checked.{Checked, ok, refused}
+use Rattle.mdf.specs.Walk.{Source, walk, levelCG, tally}
+use Rattle.mdf.specs.Group.{dataGroups, groupsOf}
+use Rattle.mdf.specs.Count.{counts}
+use Rattle.mdf.specs.Words.{countsAt, laidItems}
+use Rattle.chains.specs.Kept.{kept}
+use Rattle.chains.specs.KeptLaws.{kept-none}
+use Rattle.plan.specs.Columns.{SrcGroup, Column, Plan, srcGroups, planGroups, plan}
+use Rattle.plan.specs.PlanWords.{columnsWords, omissionPairs, signalFragments, laidPlan}
+use Rattle.plan_laws.specs.WalkLaws.{walk-sound, walk-open}
+use Rattle.plan_laws.specs.GroupLaws.{allChannels}
+use Rattle.plan_laws.specs.SourceLaws.{groups-known}
+use Rattle.planning.specs.declared.column.Progress.{Progress}
+use Rattle.planning.specs.declared.column.Progress.the-variants.{Refused, Done}
+use Rattle.planning.specs.Items.{itemsFrom, groupsIn}
+use Rattle.planning.specs.Planning.{Base, Held, Went, gives, Gives}
+use Rattle.planning.specs.Timing.{waiting}
+use Rattle.planning.specs.Planned.{othersIn, reserved, GroupsPlan}
+use Rattle.planning.specs.Bare.{bares, bareColumns, barePlan, bareChecked}
+use Rattle.planning.specs.BareLaws.{plan-bare, laid-bare, signals-bare}
+use Rattle.planning.specs.FlatLaws.{groups-flat}
+use Rattle.planning.specs.RoomLaws.{all-room, channels-bare}
+use Rattle.planning.specs.ReadBackLaws.{items-back, laid-items, laid-counts, few-items, groups-counted, open-groups}
+use Rattle.planning.specs.Outcome.{Outcome, stops, leaves, outcome, laidOutcome}
+
+-- before planning
+abbrev nothing : ℕ → Plan
+nothing n = record { columns = []; omissions = []; fragments = n }
+
+held-nothing : (n : ℕ) (w f : List ℕ) → Held (record { found = n; words = w; fragments = f }) (nothing n) 0 0 n w f
+unfolding laidPlan columnsWords omissionPairs signalFragments blit
+held-nothing n w f =
+    record { columns = refl; omissions = refl; fragments = refl; signals = sym (add-zero n); room = omega arith; inColumns = refl; inFragments = sym (kept-none n f) }
+
+length-bare : (cs : List Column) → length (bareColumns cs) ≡ length cs
+unfolding bareColumns
+length-bare [] = refl
+length-bare (c ∷ cs) = ap suc (length-bare cs)
+
+-- a plan that the words hold, as an outcome
+gives-outcome : (n : ℕ) (w f : List ℕ) (o : Checked Plan) (r : Progress) (w' f' : List ℕ)
+  → Gives (record { found = n; words = w; fragments = f }) (bareChecked o) r w' f' → outcome r w' f' ≡ laidOutcome o n w f
+unfolding gives laidOutcome
+gives-outcome n w f (refused x p) r w' f' g = let e = g .by in rw e
+gives-outcome n w f (ok q) r w' f' g =
+    let t = g .by in
+    let h = t .held in
+    let c : t .nc ≡ length (q .columns) = sym (h .columns) ∙ length-bare (q .columns) in
+    done q (t .nc) (t .no) (t .nf) (t .is) c (sym (h .omissions)) (sym (h .fragments))
+      (h .inColumns ∙ laid-bare n q w) (h .inFragments ∙ ap (λ fs. kept n fs f) (signals-bare (q .columns)))
+  where
+    done : (q : Plan) (x y z : ℕ) → r ≡ Done x y z → x ≡ length (q .columns) → y ≡ length (q .omissions) → z ≡ q .fragments
+      → w' ≡ laidPlan n q w → f' ≡ kept n (signalFragments (q .columns)) f
+      → outcome r w' f' ≡ leaves (Done (length (q .columns)) (length (q .omissions)) (q .fragments)) (laidPlan n q w) (kept n (signalFragments (q .columns)) f)
+    done q x y z e a b c i j = rw (e, a, b, c, i, j)
+
+-- the groups of a recording that was read into words
+module _ (s : List ℕ) (st : Source) (ns : List ℕ) (walked : walk s ≡ ok st) (counted : counts s (dataGroups st) ≡ ok ns) (w₀ : List ℕ) (long : 4096 ≤ length w₀) where
+  abbrev kept-words : List ℕ
+  kept-words = blit countsAt ns (laidItems (st .items) w₀)
+
+  abbrev all : List SrcGroup
+  all = srcGroups (dataGroups st) ns
+
+  numbers : tally (levelCG .own) (st .items) ≡ length ns
+  unfolding dataGroups
+  numbers =
+      let k = groups-known s st ns walked counted .asMany in
+      let c = groups-counted (st .fragments) (st .items) in
+      let o = open-groups (st .items) (walk-open s st walked) in
+      omega arith
+
+  pub read-groups : groupsIn kept-words (length (st .items)) ≡ bares all
+  read-groups =
+      let h = walk-sound s st walked in
+      let n = numbers in
+      let few = few-items (st .items) (h .fewDG) (h .fewCG) (h .fewCN) in
+      let cg = h .fewCG in
+      groups-flat kept-words ns (length (st .items)) st
+        (items-back kept-words 0 (st .items) (laid-items (st .items) ns w₀ long few cg (omega arith)))
+        (laid-counts (st .items) ns w₀ long few cg (omega arith))
+        (walk-open s st walked) (omega arith)
+
+  -- planning over those words is the recording's plan
+  pub planned-read : {r : Progress} {w f w' f' : List ℕ} → GroupsPlan s kept-words (length (st .items)) (length (st .fragments)) w f r w' f'
+    → outcome r w' f' ≡ laidOutcome (plan s (length (st .fragments)) all) (length (st .fragments)) w f
+  unfolding plan
+  planned-read {r} {w} {f} {w'} {f'} g =
+      let n = length (st .fragments) in
+      let room = all-room s (bares all) in
+      let few = groups-known s st ns walked counted .fewChannels in
+      let c = ap (λ l. length l) (channels-bare all) in
+      let e = read-groups in
+      gives-outcome n w f (plan s n all) r w' f'
+        (rw (← plan-bare s n all) (rw e at (g .is (record { found = n; words = w; fragments = f }) (nothing n) (held-nothing n w f) (rw e (omega arith)))))
