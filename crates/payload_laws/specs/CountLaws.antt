@@ -19,7 +19,7 @@ use Rattle.mdf.specs.Count.{sortedCount, countOne, ofGroup, tallies, countGroup
 use Rattle.plan.specs.Channel.{both}
 use Rattle.plan.specs.Columns.{SrcGroup, withCounts, srcGroups, Column}
 use Rattle.plan.specs.Data.{isNonempty, anyNonempty, recordsIn, signalsIn, dataIn, allDataIn}
-use Rattle.result.specs.Payload.{framedRecords, recordsIn as recordsAt, recordsOf}
+use Rattle.result.specs.Payload.{framedRecords, groupRecords, recordsOf}
 use Rattle.result.specs.Guarantee.{In, here, there}
 use Rattle.payload_laws.specs.Answers.{refused≢ok, ok-same, then-fine, then-ok, under}
 use Rattle.payload_laws.specs.Lists.{Long, in-append}
@@ -165,7 +165,7 @@ read-several s d k n g h gs fs {ms} e l q =
     rw (c .1) (record { many = m; long = λ z. framed-long k w z; bytes = λ z. rw m at (framed-bytes k w z); ranges = w .ranges })
 
 read-at : (s : List ℕ) (d k n : ℕ) (gs : List ℕ) (fs : List Fragment) {ms : List ℕ} → countGroups s d gs fs ≡ ok ms
-  → k < length gs → getD ms k 0 ≡ n → recordsIn s d gs fs ≡ fine → Read s (getD gs k 0) n fs (recordsAt s d k gs fs)
+  → k < length gs → getD ms k 0 ≡ n → recordsIn s d gs fs ≡ fine → Read s (getD gs k 0) n fs (groupRecords s d k gs fs)
 unfolding countGroups
 read-at s d k n [] fs e l q w = absurd (omega arith)
 read-at s d zero n (g ∷ []) fs e l q w = read-alone s d g n fs e q w

@@ -1,10 +1,10 @@
--- How placing keeps copies, attachments and the history chain in lent words.
+-- How placing keeps copies, attachments, the history chain and the places of columns in lent words.
 use Prim.Native.Nat.{ℕ, _+_}
 use mathlib.Core.List.{List, [], _∷_, _++_}
 use lib.ListN.{length}
 use Rattle.base.specs.Blit.{blit}
 use Rattle.plan.specs.Copies.{Copy, Copies, History, Attachment, Attached}
-use Rattle.plan.specs.Layout.{Layout}
+use Rattle.plan.specs.Layout.{Placed, Layout}
 
 -- two words for a copy: where it stood, where it is placed
 unfoldable pub copyWords : List Copy → List ℕ
@@ -22,6 +22,15 @@ attachmentsAt = 4096
 abbrev pub historyAt : ℕ
 historyAt = 4352
 
+-- three words for a placed column, from here on: the places of its DG, of its first data block and of its SD
+abbrev pub placedAt : ℕ
+placedAt = 6656
+
+unfoldable pub placedWords : List Placed → List ℕ
+placedWords [] = []
+placedWords (p ∷ ps) = p .dg ∷ p .first ∷ p .sd ∷ placedWords ps
+
 unfoldable pub laidCopies : Layout → List ℕ → List ℕ
 laidCopies l w =
-    blit historyAt (l .past .chain) (blit attachmentsAt (attachmentWords (l .attached .attachments)) (blit 0 (copyWords (l .attached .made .memo)) w))
+    blit placedAt (placedWords (l .placed)) (blit historyAt (l .past .chain)
+    (blit attachmentsAt (attachmentWords (l .attached .attachments)) (blit 0 (copyWords (l .attached .made .memo)) w)))

@@ -20,13 +20,13 @@ framedRecords k (ok rs) = unsortedRecords k rs
 framedRecords k (refused number place) = []
 
 -- the records of group k of the DG at d, which has the groups gs: "its own, from the front of the DG's joined fragments, without ids"
-abbrev pub recordsIn : List ℕ → ℕ → ℕ → List ℕ → List Fragment → List (List ℕ)
-recordsIn s d k [] fs = []
-recordsIn s d k (g ∷ []) fs = sortedRecords s d g (runs fs)
-recordsIn s d k (g ∷ h ∷ gs) fs = framedRecords k (unsortedFrames s d (g ∷ h ∷ gs) fs)
+abbrev pub groupRecords : List ℕ → ℕ → ℕ → List ℕ → List Fragment → List (List ℕ)
+groupRecords s d k [] fs = []
+groupRecords s d k (g ∷ []) fs = sortedRecords s d g (runs fs)
+groupRecords s d k (g ∷ h ∷ gs) fs = framedRecords k (unsortedFrames s d (g ∷ h ∷ gs) fs)
 
 unfoldable pub recordsOf : List ℕ → SrcGroup → List (List ℕ)
-recordsOf s g = recordsIn s (g .dataGroup .at) (g .number) (addresses (g .dataGroup .groups)) (g .dataGroup .fragments)
+recordsOf s g = groupRecords s (g .dataGroup .at) (g .number) (addresses (g .dataGroup .groups)) (g .dataGroup .fragments)
 
 -- "channel bytes start at the byte offset"; the kept invalidation bit follows as one byte, 0 or 1
 unfoldable pub cell : List ℕ → ℕ → ℕ → List ℕ → List ℕ

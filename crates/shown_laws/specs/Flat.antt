@@ -24,7 +24,7 @@ ordered-ends (b ∷ bs) a e o =
     omega arith
 
 -- the bytes from a on up to e
-flat-length : (bs : List Block) (a e : ℕ) → Ordered a bs e → length (flat a bs e) ≡ e - a
+pub flat-length : (bs : List Block) (a e : ℕ) → Ordered a bs e → length (flat a bs e) ≡ e - a
 unfolding flat Ordered
 flat-length [] a e o = length-replicate (e - a) 0
 flat-length (b ∷ bs) a e o =

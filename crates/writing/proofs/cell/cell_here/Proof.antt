@@ -1,0 +1,79 @@
+-- The channel's bytes, then the bit, both as they stand in the record.
+use mathlib.Core.Path.{_∙_}
+use Rattle.base.specs.Blit.{part}
+use Rattle.payload_laws.specs.Lists.{length-part}
+use Rattle.writing.specs.CellLaws.{room-kept, cell-bare, cell-kept, part-in, byte-in}
+use native.Mathlib.Omega.{arith}
+use lib.ListN.{length}
+use borrow.Author.Needs.{needs}
+use Rattle.writing.proofs.cell.cell_here.Statement.{statement}
+use Rattle.writing.proofs.cell.cell_here.Tie as tie
+
+add-copy : tie.Need-add-copy
+add-copy c = search needs
+
+copy-requires : tie.Need-copy-requires
+copy-requires c κs = search needs
+
+add-i : tie.Need-add-i
+add-i c = let k = c .before .before .before .before .before .before .before .before .before .pre .0 .kept (c .before .if1 .taken)
+    in omega arith
+
+shared-slice-read-out : tie.Need-shared-slice-read-out
+shared-slice-read-out c = let k = c .before .before .before .before .before .before .before .before .before .before .pre .0 .kept
+    (c .before .before .if1 .taken) in omega arith
+
+cast-out : tie.Need-cast-out
+cast-out c = search needs
+
+shr-out : tie.Need-shr-out
+shr-out c = search needs
+
+add-out : tie.Need-add-out
+add-out c = search needs
+
+slice-write-out : tie.Need-slice-write-out
+slice-write-out c = let k = room-kept (c .before .before .before .before .before .before .before .before .before .before .before .pre .0)
+    (c .before .before .before .if1 .taken) in omega arith
+
+same-length : tie.Need-same-length
+same-length c = search needs
+
+returns : tie.Need-returns
+returns c =
+    let a = c .before .before .before .before .before .before .before .before .before .before .before .args in
+    let w = c .before .before .before .before .before .before .before .before .before .before .before .pre .0 in
+    let s = a .image .now in
+    let f = w .fit in
+    let n = length-part (a .q) (a .h .length) s (omega arith) in
+    cell-kept w (part (a .q) (a .h .length) s) (a .to) _ _ (c .before .before .before .if1 .taken) (omega arith)
+    (c .before .before .before .before .before .before .copy .ensures ∙ rw (part-in (a .q) (a .h .length) (a .h .first) (a .h .bytes) s f))
+    (byte-in (a .q) (a .h .length) (a .h .inval) s (w .kept (c .before .before .before .if1 .taken)))
+
+same-length-2 : tie.Need-same-length-2
+same-length-2 c = search needs
+
+returns-2 : tie.Need-returns-2
+returns-2 c =
+    let a = c .before .before .before .before .before .before .before .before .args in
+    let w = c .before .before .before .before .before .before .before .before .pre .0 in
+    let s = a .image .now in
+    cell-bare w (part (a .q) (a .h .length) s) (a .to) _ (c .if1 .left)
+    (c .before .before .before .copy .ensures ∙ rw (part-in (a .q) (a .h .length) (a .h .first) (a .h .bytes) s (w .fit)))
+
+pub cell-here-spec : {M : Type 1} → statement M
+cell-here-spec =
+    tie.close
+    (tie.spec
+    add-copy
+    copy-requires
+    add-i
+    shared-slice-read-out
+    cast-out
+    shr-out
+    add-out
+    slice-write-out
+    same-length
+    returns
+    same-length-2
+    returns-2)
