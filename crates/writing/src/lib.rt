@@ -2,4 +2,5 @@
 mod cursor;
 mod cell;
 pub mod sorted;
+pub mod several;
 pub mod signal;
