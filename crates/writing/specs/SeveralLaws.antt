@@ -109,7 +109,8 @@ after-frames (suc turns) s n gs fs l p done {rs} some h e =
         let c = b .size in
         let y = q .0 in
         let i = ih r (rw length-drop (omega arith)) (f .2) in
-        record { new = r ∷ i .new; is = i .is ∙ append-assoc done (r ∷ []) (i .new); read = more (omega arith) (f .1) (i .read) }
+        let x : 0 < length l = omega arith in
+        record { new = r ∷ i .new; is = i .is ∙ append-assoc done (r ∷ []) (i .new); read = more x (f .1) (i .read) }
 
 pub frames-read : (s : List ℕ) (n : ℕ) (gs : List ℕ) (fs : List Fragment) {rs : List Frame} → 0 < n → frames s n gs fs ≡ ok rs
   → Read s n gs (joined s fs) rs

@@ -48,11 +48,9 @@ same-step e = (cc, cc)
 broken≢framed : {r : Frame} → broken ≡ framed r → ⊥
 broken≢framed e = let z : _≡_ {A = ℕ} 0 1 = cc in omega arith
 
-module _ (s : List ℕ) (n : ℕ) (gs ws : List ℕ) (k : Cursor) {v : Frame} {r : Step} (f : frameAt s n gs (joined s (ahead ws k)) ≡ framed v)
+module _ (s : List ℕ) (n : ℕ) (gs ws : List ℕ) (k : Cursor) {v : Frame} (r : Step)
+    (f : frameAt s n gs (joined s (ahead ws k)) ≡ framed v)
     (e : steppedOf s ws r ≡ stepAt s n gs (records.ahead s ws (k .at) (k .position) (k .left))) where
-  hs : List Fragment
-  hs = records.ahead s ws (k .at) (k .position) (k .left)
-
   same-frame : frameAt s n gs (joined s (records.ahead s ws (k .at) (k .position) (k .left))) ≡ framed v
   same-frame = rw (same-bytes s ws k) f
 
@@ -130,6 +128,38 @@ module _ {s : List ℕ} {h : Shape} {gs : List ℕ} {j : ℕ} {ws : List ℕ} {k
         enough = omega (arith, n, z .0);
         is = e ∙ sym (t .is) ∙ f .own g ∙ rw (p, n);
         whole = rw n at (f .later) }
+
+  -- by the framing's answer
+  module _ (r : Step) (e : steppedOf s ws r ≡ stepAt s (h .id) gs (records.ahead s ws (k .at) (k .position) (k .left))) where
+    pub seeking-framed : r ≡ Broken → ⊥
+    seeking-framed q = step-framed s (h .id) gs ws k r (seeking-first .is) e q
+
+    module _ {i m p l : ℕ} {x : Framing} (q : r ≡ Record i m x p l) where
+      answered : (seeking-first .frame .group ≡ i) × (h .id + m ≡ seeking-first .frame .size)
+      answered =
+          let a = step-is s (h .id) gs ws k r (seeking-first .is) e q in
+          let z = seeking-size in
+          (a .0, omega (arith, a .1, z .2))
+
+      pub seeking-room : (rangesIn s (ahead ws k) ≡ fine) × (h .id + m ≤ sizeOf (ahead ws k)) × (h .id + m ≤ most64)
+      seeking-room =
+          let a = answered in
+          let z = seeking-size in
+          (t .ranges, omega (arith, a .1, z .0), omega (arith, a .1, z .0, t .small))
+
+      pub seeking-next : {o : Cursor} → (i ≡ j → ⊥) → ahead ws o ≡ past (h .id + m) (ahead ws k) → Seeking s h gs j ws o own
+      seeking-next {o} g y =
+          let a = answered in
+          seeking-on (λ z. g (sym (a .0) ∙ z)) (y ∙ ap (λ (n : ℕ). past n (ahead ws k)) (a .1))
+
+      pub seeking-less : (o : Cursor) → ahead ws o ≡ past (h .id + m) (ahead ws k) → sizeOf (ahead ws o) < sizeOf (ahead ws k)
+      seeking-less o y =
+          let z = seeking-room in
+          let d = b .ids in
+          rw (y, size-past (h .id + m) (ahead ws k) (z .1)) (omega (arith, z .1, d))
+
+      pub seeking-found : {k₀ : Cursor} → Shaped s h → ownFrom s h gs j ws k₀ ≡ own → i ≡ j → Sought s h gs j ws k₀ k
+      seeking-found w y g = seeking-end w y (answered .0 ∙ g)
 
 pub seeking-start : {s : List ℕ} {h : Shape} {gs : List ℕ} {j : ℕ} {ws : List ℕ} {k : Cursor} → Among s h gs j ws k
   → 0 < length (ownFrom s h gs j ws k) → Seeking s h gs j ws k (ownFrom s h gs j ws k)
@@ -220,8 +250,9 @@ module _ {s gs ws : List ℕ} {d k g c n : ℕ} (q : SeveralReady s gs ws d k g 
       let v : WholeFrames s (idSize s d) gs (joined s fs) =
           record { frames = rs; read = frames-read s (idSize s d) gs fs i (u .1); known = several .known } in
       let o : ownIn s (h .id) gs k (joined s (ahead ws a)) ≡ unsortedRecords k rs = rw (x, id) (own-is i k v) in
+      let z : getD gs k 0 ≡ h .group = q .group ∙ sym (p .group) in
       let l : Long (samples s (h .group) + invalBytes s (h .group)) (ownIn s (h .id) gs k (joined s (ahead ws a))) =
-          rw (o, p .group, ← q .group) (framed-long k several (rw (q .group) (q .plain))) in
+          rw (o, ← z) (framed-long k several (rw (q .group) (q .plain))) in
       let w : 0 < width s (h .group) (h .channel) = rw (p .group, p .channel) wide in
       let y = p .shaped .wide in
       record {

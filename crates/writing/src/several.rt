@@ -25,11 +25,10 @@ pub(crate) fn seek(image: &[u8], groups: &[u64], fragments: &[u64], k: Cursor, h
         × (0 < length (ownFrom (now image) h (now groups) j (now fragments) k)) ⌝ }
     ensures { λ r. ⌜ Sought (now (image .entry)) h (now (groups .entry)) j (now (fragments .entry)) k r ⌝ }
 {
-    let n = h.id;
     let mut a = k;
     loop {
         let f = Framing { at: a.at as u64 };
-        let step = f.step(image, n, groups, fragments, a.position, a.left);
+        let step = f.step(image, h.id, groups, fragments, a.position, a.left);
         match step {
             Step::Broken => {
                 return a;
@@ -38,7 +37,7 @@ pub(crate) fn seek(image: &[u8], groups: &[u64], fragments: &[u64], k: Cursor, h
                 if group == j {
                     return a;
                 }
-                a = skip(image, fragments, a, n + bytes);
+                a = skip(image, fragments, a, h.id + bytes);
             }
         }
     }

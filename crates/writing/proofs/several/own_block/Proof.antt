@@ -34,9 +34,9 @@ same-length c = search needs
 
 returns : tie.Need-returns
 returns c =
-    block-written _ _ _ _ (c .before .before .before .before .before .before .before .before .before .before .before .before .pre .0)
-        (c .before .before .before .before .before .before .before .before .before .before .before .before .pre .2 .long)
-        (c .before .before .before .before .before .before .before .before .before .before .before .before .pre .3)
+    block-written _ _ _ _ (c .before .before .before .before .before .before .before .before .before .before .before .before .before .pre .0)
+        (c .before .before .before .before .before .before .before .before .before .before .before .before .before .pre .2 .long)
+        (c .before .before .before .before .before .before .before .before .before .before .before .before .before .pre .3)
         (lent-is _ _ _ _ (c .before .before .before .before .before .before .header .ensures)) (c .before .before .own-cells .ensures)
 
 pub own-block-spec : {M : Type 1} → statement M

@@ -29,31 +29,31 @@ least-requires c κs = search needs
 
 own-block-requires : tie.Need-own-block-requires Inv-loop μ-loop
 own-block-requires c κs =
-    let b = next-block _ _ (c .before .before .before .before .before .before .before .pre .0) (c .before .before .before .loop .inv .0)
+    let b = next-block _ _ (c .before .before .before .before .before .before .before .before .pre .0) (c .before .before .before .loop .inv .0)
         (c .before .before .loop-test .taken) (c .before .least .ensures) in 
-    (c .before .before .before .before .before .before .before .pre .0, c .before .before .before .before .before .before .before .pre .1,
+    (c .before .before .before .before .before .before .before .before .pre .0, c .before .before .before .before .before .before .before .before .pre .1,
         c .before .before .before .loop .inv .0 .going, b .few, b .room)
 
 mul-to : tie.Need-mul-to Inv-loop μ-loop
-mul-to c = let b = next-block _ _ (c .before .before .before .before .before .before .before .before .before .before .before .pre .0)
+mul-to c = let b = next-block _ _ (c .before .before .before .before .before .before .before .before .before .before .before .before .pre .0)
     (c .before .before .before .before .before .before .before .loop .inv .0)
     (c .before .before .before .before .before .before .loop-test .taken) (c .before .before .before .before .before .least .ensures)
     in omega (arith, b .room)
 
 add-to : tie.Need-add-to Inv-loop μ-loop
-add-to c = let b = next-block _ _ (c .before .before .before .before .before .before .before .before .before .before .before .pre .0)
+add-to c = let b = next-block _ _ (c .before .before .before .before .before .before .before .before .before .before .before .before .pre .0)
     (c .before .before .before .before .before .before .before .loop .inv .0)
     (c .before .before .before .before .before .before .loop-test .taken) (c .before .before .before .before .before .least .ensures)
     in omega (arith, b .room)
 
 add-to-2 : tie.Need-add-to-2 Inv-loop μ-loop
-add-to-2 c = let b = next-block _ _ (c .before .before .before .before .before .before .before .before .before .before .before .pre .0)
+add-to-2 c = let b = next-block _ _ (c .before .before .before .before .before .before .before .before .before .before .before .before .pre .0)
     (c .before .before .before .before .before .before .before .loop .inv .0)
     (c .before .before .before .before .before .before .loop-test .taken) (c .before .before .before .before .before .least .ensures)
     in omega (arith, b .room)
 
 sub-left : tie.Need-sub-left Inv-loop μ-loop
-sub-left c = let b = next-block _ _ (c .before .before .before .before .before .before .before .before .before .before .before .pre .0)
+sub-left c = let b = next-block _ _ (c .before .before .before .before .before .before .before .before .before .before .before .before .pre .0)
     (c .before .before .before .before .before .before .before .loop .inv .0)
     (c .before .before .before .before .before .before .loop-test .taken) (c .before .before .before .before .before .least .ensures)
     in omega (arith, b .within)
@@ -66,7 +66,7 @@ loop-less c = search needs
 
 loop-again : tie.Need-loop-again Inv-loop μ-loop
 loop-again c =
-    (blocks-turn _ _ (c .before .before .before .before .before .before .before .before .before .before .before .pre .0)
+    (blocks-turn _ _ (c .before .before .before .before .before .before .before .before .before .before .before .before .pre .0)
         (c .before .before .before .before .before .before .before .loop .inv .0)
         (c .before .before .before .before .before .before .loop-test .taken) (c .before .before .before .before .before .least .ensures)
         (c .before .before .before .own-block .ensures) (search needs), search needs)

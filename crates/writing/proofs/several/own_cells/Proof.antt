@@ -28,7 +28,7 @@ loop-holds c = (record { going = search needs; long = search needs; enough = sea
 own-step-requires : tie.Need-own-step-requires Inv-loop μ-loop
 own-step-requires c κs =
     let r = cells-room (c .before .before .loop .inv .0) (c .before .loop-test .taken) in
-    (c .before .before .before .before .before .before .pre .0, c .before .before .before .before .before .before .pre .1,
+    (c .before .before .before .before .before .before .before .pre .0, c .before .before .before .before .before .before .before .pre .1,
         c .before .before .loop .inv .0 .going, r .0, r .1)
 
 add-to : tie.Need-add-to Inv-loop μ-loop
@@ -44,7 +44,7 @@ loop-less c = search needs
 loop-again : tie.Need-loop-again Inv-loop μ-loop
 loop-again c =
     let e = c .before .before .before .before .before .loop .inv .2 in
-    (rw e (cells-turn _ (c .before .before .before .before .before .before .before .before .before .pre .0)
+    (rw e (cells-turn _ (c .before .before .before .before .before .before .before .before .before .before .pre .0)
         (c .before .before .before .before .before .loop .inv .0) (c .before .before .before .before .loop-test .taken)
         (c .before .before .own-step .ensures) (search needs)), search needs, e)
 

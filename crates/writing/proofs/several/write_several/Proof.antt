@@ -16,7 +16,7 @@ block-count-requires c κs = search needs
 
 returns : tie.Need-returns
 returns c =
-    let e = c .before .before .before .before .before .before in
+    let e = c .before .before .before .before .before .before .before in
     let y : blockCount (e .args .size) (width (e .args .image .now) (e .args .g) (e .args .c)) (e .args .n) ≡ 0 =
         rw (← c .before .before .width-of .ensures .is) (sym (c .before .block-count .ensures) ∙ c .if1 .taken) in
     column-none _ _ _ _ _ _ _ _ y
@@ -26,7 +26,7 @@ shape-of-requires c κs = search needs
 
 next-requires : tie.Need-next-requires
 next-requires c κs =
-    let e = c .before .before .before .before .before .before .before in
+    let e = c .before .before .before .before .before .before .before .before in
     let x = c .before .before .before .width-of .ensures .is in
     let y = c .before .before .block-count .ensures in
     let z = has-blocks (e .args .image .now) (e .args .g) (e .args .c) (e .args .size) (e .args .n) x y (c .before .if1 .left) in
@@ -40,7 +40,7 @@ per-full-requires c κs = search needs
 
 own-blocks-requires : tie.Need-own-blocks-requires
 own-blocks-requires c κs =
-    let e = c .before .before .before .before .before .before .before .before .before .before .before in
+    let e = c .before .before .before .before .before .before .before .before .before .before .before .before in
     let x = c .before .before .before .before .before .before .before .width-of .ensures .is in
     let y = c .before .before .before .before .before .before .block-count .ensures in
     let z = has-blocks (e .args .image .now) (e .args .g) (e .args .c) (e .args .size) (e .args .n) x y
@@ -54,7 +54,7 @@ same-length c = search needs
 
 returns-2 : tie.Need-returns-2
 returns-2 c =
-    let e = c .before .before .before .before .before .before .before .before .before .before .before .before .before .before in
+    let e = c .before .before .before .before .before .before .before .before .before .before .before .before .before .before .before in
     let x = c .before .before .before .before .before .before .before .before .before .before .width-of .ensures .is in
     let y = c .before .before .before .before .before .before .before .before .before .block-count .ensures in
     let z = has-blocks (e .args .image .now) (e .args .g) (e .args .c) (e .args .size) (e .args .n) x y
