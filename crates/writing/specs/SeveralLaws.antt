@@ -1,14 +1,14 @@
 -- The records of several groups ahead of a cursor, one after the other.
-use Prim.Native.Nat.{ℕ, zero, suc, _+_, _-_, _≤_, _<_}
+use Prim.Native.Nat.{ℕ, zero, suc, _+_, _≤_, _<_}
 use mathlib.Core.Bool.{Bool, true, false}
 use mathlib.Core.List.{List, [], _∷_, _++_, append-assoc, append-nil}
 use mathlib.Core.Path.{_≡_, refl, sym, ap, _∙_, subst}
 use mathlib.Core.Logic.{_⊎_, inl, inr}
 use native.Mathlib.Omega.{arith}
-use lib.ListN.{length, getD, take, drop, length-drop}
+use lib.ListN.{length, drop, length-drop}
 use Rattle.base.specs.Choice.{pick, ifLe, ifEq, ifLt}
 use Rattle.base.specs.ChoiceLaws.{le-first, eq-yes, eq-no, lt-back}
-use Rattle.base.specs.Blit.{part, blit}
+use Rattle.base.specs.Blit.{part}
 use Rattle.base.specs.Field.{leAt}
 use Rattle.base.specs.Checked.{Checked, ok, refused, andThen, fine}
 use Rattle.base.specs.CheckedLaws.{refused≢ok, ok-same, then-fine}
@@ -20,7 +20,7 @@ use Rattle.mdf.specs.Records.{withId, onKnown, ofBytes, frameOf, frameAt, onFra
 use Rattle.payload_laws.specs.Answers.{eq-cases}
 use Rattle.payload_laws.specs.Lists.{length-part}
 use Rattle.payload_laws.specs.FramedLaws.{KnownFrame, AllKnown}
-use Rattle.writing.specs.Several.{withFrame, framesIn, ownIn, Read, end, more, WholeFrames}
+use Rattle.writing.specs.Several.{framesIn, ownIn, Read, end, more, WholeFrames}
 
 -- ---- a frame
 broken≢framed : {r : Frame} → broken ≡ framed r → ⊥

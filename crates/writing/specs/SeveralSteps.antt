@@ -1,7 +1,7 @@
 -- The turns of writing a column from the records of a group in a DG with several groups.
 use Prim.Native.Nat.{ℕ, _+_, _-_, _≤_, _<_}
 use mathlib.Core.List.{List, _∷_}
-use mathlib.Core.Path.{_≡_, refl, sym, ap, _∙_, subst}
+use mathlib.Core.Path.{_≡_, refl, sym, ap, _∙_}
 use native.Mathlib.Omega.{arith}
 use lib.ListN.{length, getD, take, drop}
 use Rattle.base.specs.Blit.{part, blit}
@@ -9,7 +9,7 @@ use Rattle.base.specs.Checked.{Checked, ok, refused, fine}
 use Rattle.mdf.specs.Chain.{Fragment}
 use Rattle.mdf.specs.Walk.{idSize}
 use Rattle.mdf.specs.Words.{fragmentsOf}
-use Rattle.mdf.specs.Group.{samples, invalBytes, isStorage}
+use Rattle.mdf.specs.Group.{samples, invalBytes}
 use Rattle.mdf.specs.Records.{most64, rangesIn, joined, sizeOf, Frame, framed, broken, frameAt, unsortedFrames, unsortedRecords}
 use Rattle.plan.specs.Channel.{width}
 use Rattle.result.specs.Payload.{cell, framedRecords}
@@ -19,7 +19,7 @@ use Rattle.payload_laws.specs.FramedLaws.{Several, unsorted-several, framed-lon
 use Rattle.records.specs.declared.framing.Step.{Step}
 use Rattle.records.specs.declared.framing.Step.the-variants.{Broken, Record}
 use Rattle.records.specs.declared.framing.Framing.{Framing}
-use Rattle.records.specs.Ahead.{fragmentsFrom, Skipped, short, onto, skip, Stepped, stepped, stuck, stepAt}
+use Rattle.records.specs.Ahead.{fragmentsFrom, Skipped, short, onto, skip, stepped, stuck, stepAt}
 use Rattle.records.specs.Ahead as records
 use Rattle.records.specs.AheadLaws.{joined-ahead, ahead-counts}
 use Rattle.records.specs.Answer.{steppedOf}
