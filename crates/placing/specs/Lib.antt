@@ -12,3 +12,5 @@ pub mod HistoryLaws
 pub mod Attaching
 pub mod AttachingLaws
 pub mod WordsLaws
+pub mod InWords
+pub mod InWordsLaws

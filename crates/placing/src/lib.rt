@@ -4,3 +4,4 @@ pub mod copier;
 pub mod roots;
 pub mod history;
 pub mod attachments;
+pub mod columns;
