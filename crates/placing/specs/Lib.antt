@@ -14,3 +14,6 @@ pub mod AttachingLaws
 pub mod WordsLaws
 pub mod InWords
 pub mod InWordsLaws
+pub mod ColumnsLaws
+pub mod Laying
+pub mod LayingLaws

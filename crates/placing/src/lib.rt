@@ -5,3 +5,4 @@ pub mod roots;
 pub mod history;
 pub mod attachments;
 pub mod columns;
+pub mod layout;
