@@ -3,7 +3,7 @@ use Prim.Native.Nat.{ℕ, zero, suc, _+_, _*_, _-_, _≤_, _<_}
 use mathlib.Core.List.{List, [], _∷_, _++_}
 use mathlib.Core.Path.{_≡_, refl, sym, ap, _∙_}
 use mathlib.Core.Option.{Option, none, some}
-use native.Mathlib.Nat.{add-zero, zero-add}
+use native.Mathlib.Nat.{add-zero}
 use native.Mathlib.Omega.{arith}
 use lib.ListN.{length, getD, set, length-set, length-append, List·getD-append}
 use lib.Seq.{getD-set-same, getD-append-add}
@@ -15,15 +15,14 @@ use Rattle.mdf.specs.Words.{fragmentWords}
 use Rattle.mdf.specs.Records.{sizeOf}
 use Rattle.plan.specs.Columns.{Column, Signal, unsigned, signalData, sizeOfSignal, Plan}
 use Rattle.plan.specs.PlanWords.{masterWord, signalWord, columnWords, columnsWords, fragmentsIn, signalFragments, omissionPairs, laidPlan}
-use Rattle.plan.specs.Geometry.{align8}
 use Rattle.plan.specs.Copies.{Copies, copyRoots, columnLinks, columnCopies}
 use Rattle.plan.specs.CopyWords.{placedWords}
 use Rattle.plan.specs.Layout.{columnWidth, columnBlocks, cgSize, structureSize, payloadSize, blocksEnd, signalEnd, placedFrom, structureEnd, dataEnd}
-use Rattle.result.specs.Guarantee.{In, here, there}
+use Rattle.result.specs.Guarantee.{here, there}
 use Rattle.placing.specs.Roots.{roots, roots-of}
 use Rattle.placing.specs.AttachingLaws.{getD-before}
 use Rattle.placing.specs.InWords.{widthAt, blocksAt, payloadAt, cgBytes, structureAt, blocksEndAt, sizesIn, signalAt, signalEndAt,
-  structuresIn, dataIn, placedIn, rootsAt, copiesOf, Within, AllWithin, Columns, signalBytesOf, Bounded, AllBounded}
+  structuresIn, dataIn, placedIn, rootsAt, copiesOf, Within, AllWithin, Columns, signalBytesOf, AllBounded}
 use Rattle.placing.specs.InWordsLaws.{cg-yes, cg-no}
 
 -- ---- words of fragments

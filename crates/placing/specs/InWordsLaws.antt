@@ -4,16 +4,14 @@ use Prim.Native.Nat.{ℕ, zero, suc, _+_, _*_, _-_, _≤_, _<_}
 use mathlib.Core.List.{List, [], _∷_, _++_}
 use mathlib.Core.Path.{_≡_, refl, sym, ap, _∙_}
 use mathlib.Core.Bool.{Bool, true, false}
-use mathlib.Core.Option.{Option, none, some}
 use native.Mathlib.Nat.{add-zero}
 use native.Mathlib.Numerals.{sub-one}
 use native.Mathlib.Omega.{arith}
 use lib.Dec.{eqb}
 use lib.ListN.{length, getD, List·getD-eq-default}
-use lib.Seq.{getD-append-add}
 use Rattle.base.specs.Choice.{pick, ifEq}
 use Rattle.base.specs.ChoiceLaws.{eq-yes, eq-no}
-use Rattle.base.specs.Checked.{Checked, ok, refused, andThen}
+use Rattle.base.specs.Checked.{ok, refused, andThen}
 use Rattle.base.specs.Blit.{blit}
 use Rattle.base.specs.BlitLaws.{blit-append, length-blit}
 use Rattle.plan.specs.Geometry.{align8, blockCount}

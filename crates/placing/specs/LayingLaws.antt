@@ -1,16 +1,15 @@
 -- The stages of the whole layout, one law for each way of the code.
-use Prim.Native.Nat.{ℕ, zero, suc, _+_, _*_, _-_, _≤_, _<_}
+use Prim.Native.Nat.{ℕ, _+_, _*_, _≤_}
 use mathlib.Core.List.{List, []}
 use mathlib.Core.Path.{_≡_, refl, sym, ap, _∙_, subst}
 use native.Mathlib.Omega.{arith}
 use lib.ListN.{length}
 use Rattle.base.specs.Checked.{Checked, ok, refused, andThen}
 use Rattle.base.specs.Blit.{blit}
-use Rattle.base.specs.BlitLaws.{blit-comm, length-blit}
 use Rattle.mdf.specs.Block.{linkAt}
 use Rattle.plan.specs.Columns.{Column}
 use Rattle.plan.specs.Geometry.{align8}
-use Rattle.plan.specs.Copies.{Copies, copies, copyRoot, History, history, historyOf, columnCopies, Attachment, Attached, attachmentsOf}
+use Rattle.plan.specs.Copies.{Copies, copies, copyRoot, History, history, historyOf, columnCopies, Attached, attachmentsOf}
 use Rattle.plan.specs.CopyWords.{copyWords, attachmentWords, attachmentsAt, historyAt, placedAt, placedWords, laidCopies}
 use Rattle.plan.specs.Layout.{Layout, layout, mdSize, mdPlace, fhPlace, structurePlace, structureEnd, dataEnd, placedFrom}
 use Rattle.placing.specs.declared.memo.Copying.{Copying}
@@ -20,23 +19,22 @@ use Rattle.placing.specs.declared.history.Chain.{Chain}
 use Rattle.placing.specs.declared.history.Chain.the-variants as chain
 use Rattle.placing.specs.declared.attachments.Moved.{Moved}
 use Rattle.placing.specs.declared.attachments.Moved.the-variants as moved
-use Rattle.placing.specs.declared.layout.Numbers.{Numbers}
 use Rattle.placing.specs.declared.layout.Rest.{Rest}
 use Rattle.placing.specs.declared.layout.Rest.the-variants as rest
 use Rattle.placing.specs.declared.layout.Laid.the-variants as laid
 use Rattle.placing.specs.Standing.{copiesFrom, copiesIn, standing, Room, Past}
 use Rattle.placing.specs.StandingLaws.{length-copies, align-near, past-more, past-then}
-use Rattle.placing.specs.Got.{Copied, After, AfterGot}
+use Rattle.placing.specs.Got.{Copied, AfterGot}
 use Rattle.placing.specs.TurnLaws.{copied-at, copied-refused, after-at, after-then}
 use Rattle.placing.specs.History.{chainIn, Chained}
-use Rattle.placing.specs.HistoryLaws.{length-part, part-past}
+use Rattle.placing.specs.HistoryLaws.{length-part}
 use Rattle.placing.specs.Attaching.{Moves}
 use Rattle.placing.specs.AttachingLaws.{past-blit, copies-blit}
 use Rattle.placing.specs.WordsLaws.{all-placed}
 use Rattle.placing.specs.InWords.{structuresIn, dataIn, placedIn, copiesOf, AllWithin, Columns}
 use Rattle.placing.specs.InWordsLaws.{structures-near, data-near}
 use Rattle.placing.specs.ColumnsLaws.{structures-of, data-of, placed-of, copies-of}
-use Rattle.placing.specs.Laying.{start, FirstCopies, Begins, metadataEndIn, attachedIn, Rested, Rests, Numbered, LaidOut, Lays, LaysOut}
+use Rattle.placing.specs.Laying.{start, FirstCopies, Begins, metadataEndIn, attachedIn, Rested, Rests, Numbered, LaysOut}
 
 pub md-bytes : (n : ℕ) {r : ℕ} → r ≡ align8 (24 + n + 1) → r ≡ mdSize n
 unfolding mdSize

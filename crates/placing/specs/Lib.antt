@@ -17,3 +17,4 @@ pub mod InWordsLaws
 pub mod ColumnsLaws
 pub mod Laying
 pub mod LayingLaws
+pub mod BoundedLaws

@@ -1,4 +1,4 @@
-// Which metadata blocks are copied and where they are placed, while measuring.
+// Which metadata blocks are copied and where all blocks of the result are placed, while measuring.
 pub mod memo;
 pub mod copier;
 pub mod roots;

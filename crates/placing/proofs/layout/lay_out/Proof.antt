@@ -1,7 +1,6 @@
 -- The stages of the layout, one after the other.
 use Rattle.placing.specs.LayingLaws.{begins-at, first-near, whole-first, whole-columns, whole-rest, rests-at, whole-done}
 use Rattle.placing.specs.TurnLaws.{after-at}
-use mathlib.Core.Path.{refl}
 use native.Mathlib.Omega.{arith}
 use borrow.Author.Needs.{needs}
 use Rattle.placing.proofs.layout.lay_out.Statement.{statement}
