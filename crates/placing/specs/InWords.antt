@@ -90,6 +90,10 @@ pub record Within (s : List ℕ) (size : ℕ) (w f : List ℕ) (p : ℕ) : Type 
 pub record AllWithin (s : List ℕ) (size : ℕ) (w f : List ℕ) (p n : ℕ) : Type 0 where
   pub each : (k : ℕ) → k < n → Within s size w f (p + 8 * k)
 
+-- of the number of blocks alone
+pub record AllFew (s : List ℕ) (size : ℕ) (w : List ℕ) (p n : ℕ) : Type 0 where
+  pub each : (k : ℕ) → k < n → blocksAt s size w (p + 8 * k) ≤ 4294967295
+
 -- ---- columns that stand in words
 
 -- from p on, and their signal data's fragments from number m on

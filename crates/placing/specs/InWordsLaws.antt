@@ -27,7 +27,7 @@ use Rattle.placing.specs.Roots.{roots}
 use Rattle.placing.specs.Got.{Copied, AfterGot}
 use Rattle.placing.specs.TurnLaws.{Held, held-begin, held-next, copied-at, copied-refused}
 use Rattle.placing.specs.InWords.{widthAt, blocksAt, payloadAt, cgBytes, structureAt, blocksEndAt, sizesIn, signalAt, signalEndAt,
-  structuresIn, dataIn, placedIn, rootsAt, copiesOf, Within, AllWithin}
+  structuresIn, dataIn, placedIn, rootsAt, copiesOf, Within, AllWithin, AllFew}
 
 -- ---- a word
 pub past-end : (w : List ℕ) (i : ℕ) → length w ≤ i → 0 ≡ getD w i 0
@@ -168,6 +168,20 @@ module _ {s : List ℕ} {size : ℕ} {w f : List ℕ} {p n : ℕ} (b : AllWithin
         rw e (b .each (suc k) (omega arith))
     }
 
+pub all-few : {s : List ℕ} {size : ℕ} {w f : List ℕ} {p n : ℕ} → AllWithin s size w f p n → AllFew s size w p n
+all-few b = record { each = λ k l. b .each k l .blocks }
+
+module _ {s : List ℕ} {size : ℕ} {w : List ℕ} {p n : ℕ} (b : AllFew s size w p n) (h : 0 < n) where
+  few-first : blocksAt s size w p ≤ 4294967295
+  few-first = rw (add-zero p) at (b .each 0 h)
+
+  few-rest : AllFew s size w (p + 8) (n - 1)
+  few-rest = record {
+      each = λ k l.
+        let e : p + 8 + 8 * k ≡ p + 8 * suc k = omega arith in
+        rw e (b .each (suc k) (omega arith))
+    }
+
 -- ---- past the blocks that make up columns: what is left of them
 structures-none : (s : List ℕ) (size : ℕ) (w : List ℕ) (p n a : ℕ) → n ≡ 0 → structuresIn s size w p n a ≡ a
 unfolding structuresIn
@@ -179,43 +193,42 @@ unfolding structuresIn
 structures-cons s size w p zero a h = absurd (omega arith)
 structures-cons s size w p (suc n) a h = rw sub-one
 
-pub record Structuring (s : List ℕ) (size : ℕ) (w f : List ℕ) (n₀ a₀ p n a : ℕ) : Type 0 where
+pub record Structuring (s : List ℕ) (size : ℕ) (w : List ℕ) (n₀ a₀ p n a : ℕ) : Type 0 where
   pub at : p + 8 * n ≤ 4096
   pub near : a + n * 34359738744 ≤ 1143492093079552
-  pub within : AllWithin s size w f p n
+  pub few : AllFew s size w p n
   pub rest : structuresIn s size w p n a ≡ structuresIn s size w 0 n₀ a₀
 
-pub structures-begin : (s : List ℕ) (size : ℕ) (w f : List ℕ) (n a : ℕ) → n ≤ 512 → a ≤ 1125899906842624 → AllWithin s size w f 0 n
-  → Structuring s size w f n a 0 n a
-structures-begin s size w f n a h k b = record { at = omega arith; near = omega arith; within = b; rest = refl }
+pub structures-begin : (s : List ℕ) (size : ℕ) (w : List ℕ) (n a : ℕ) → n ≤ 512 → a ≤ 1125899906842624 → AllFew s size w 0 n
+  → Structuring s size w n a 0 n a
+structures-begin s size w n a h k b = record { at = omega arith; near = omega arith; few = b; rest = refl }
 
-module _ {s : List ℕ} {size : ℕ} {w f : List ℕ} {n₀ a₀ p n a : ℕ} (u : Structuring s size w f n₀ a₀ p n a) where
+module _ {s : List ℕ} {size : ℕ} {w : List ℕ} {n₀ a₀ p n a : ℕ} (u : Structuring s size w n₀ a₀ p n a) where
   pub structures-end : n ≡ 0 → a ≡ structuresIn s size w 0 n₀ a₀
   structures-end e = sym (structures-none s size w p n a e) ∙ u .rest
 
   module _ (h : 0 < n) where
-    pub structure-within : Within s size w f p
-    structure-within = within-first (u .within) h
+    pub structure-few : blocksAt s size w p ≤ 4294967295
+    structure-few = few-first (u .few) h
 
     module _ {x : ℕ} (e : x ≡ structureAt s size w p) where
       pub structures-room : a + x + (n - 1) * 34359738744 ≤ 1143492093079552
-      structures-room = omega (arith, u .near, structure-near s size w p (structure-within .blocks))
+      structures-room = omega (arith, u .near, structure-near s size w p structure-few)
 
-      pub structures-next : Structuring s size w f n₀ a₀ (p + 8) (n - 1) (a + x)
+      pub structures-next : Structuring s size w n₀ a₀ (p + 8) (n - 1) (a + x)
       structures-next =
           record {
             at = omega (arith, u .at);
             near = structures-room;
-            within = within-rest (u .within) h;
+            few = few-rest (u .few) h;
             rest = rw e (sym (structures-cons s size w p n a h) ∙ u .rest) }
 
-pub structures-near : (s : List ℕ) (size : ℕ) (w f : List ℕ) (p n a : ℕ) → AllWithin s size w f p n → structuresIn s size w p n a ≤ a + n * 34359738744
+pub structures-near : (s : List ℕ) (size : ℕ) (w : List ℕ) (p n a : ℕ) → AllFew s size w p n → structuresIn s size w p n a ≤ a + n * 34359738744
 unfolding structuresIn
-structures-near s size w f p zero a b = omega arith
-structures-near s size w f p (suc n) a b =
-    let c = within-first b (omega arith) in
-    let r : AllWithin s size w f (p + 8) n = rw (sub-one) at (within-rest b (omega arith)) in
-    omega (arith, structure-near s size w p (c .blocks), structures-near s size w f (p + 8) n (a + structureAt s size w p) r)
+structures-near s size w p zero a b = omega arith
+structures-near s size w p (suc n) a b =
+    let r : AllFew s size w (p + 8) n = rw (sub-one) at (few-rest b (omega arith)) in
+    omega (arith, structure-near s size w p (few-first b (omega arith)), structures-near s size w (p + 8) n (a + structureAt s size w p) r)
 
 -- ---- places of columns and the end of their data: what is left of them
 data-none : (s : List ℕ) (size : ℕ) (w f : List ℕ) (p n d : ℕ) → n ≡ 0 → dataIn s size w f p n d ≡ d
@@ -307,15 +320,15 @@ data-near s size w f p (suc n) d b =
       data-near s size w f (p + 8) n (signalEndAt w f p (blocksEndAt s size w p d)) r)
 
 -- ---- copies for columns: what is left of them
-ofs-none : (s w : List ℕ) (p n : ℕ) (m : Copies) → n ≡ 0 → copiesOf s w p n m ≡ ok m
+copying-none : (s w : List ℕ) (p n : ℕ) (m : Copies) → n ≡ 0 → copiesOf s w p n m ≡ ok m
 unfolding copiesOf
-ofs-none s w p n m e = rw e
+copying-none s w p n m e = rw e
 
-ofs-cons : (s w : List ℕ) (p n : ℕ) (m : Copies) → 0 < n
+copying-cons : (s w : List ℕ) (p n : ℕ) (m : Copies) → 0 < n
   → copiesOf s w p n m ≡ andThen (copyRoots s (rootsAt s w p) m) (λ m'. copiesOf s w (p + 8) (n - 1) m')
 unfolding copiesOf
-ofs-cons s w p zero m h = absurd (omega arith)
-ofs-cons s w p (suc n) m h = rw sub-one
+copying-cons s w p zero m h = absurd (omega arith)
+copying-cons s w p (suc n) m h = rw sub-one
 
 pub record CopyingOf (s w : List ℕ) (n₀ : ℕ) (m₀ : List ℕ) (st₀ : Copying) (m : List ℕ) (p n : ℕ) (st : Copying) : Type 0 where
   pub at : p + 8 * n ≤ 4096
@@ -323,29 +336,29 @@ pub record CopyingOf (s w : List ℕ) (n₀ : ℕ) (m₀ : List ℕ) (st₀ : Co
   pub held : Held m₀ st₀ m st
   pub rest : copiesOf s w p n (standing m st) ≡ copiesOf s w 0 n₀ (standing m₀ st₀)
 
-pub ofs-begin : (s w : List ℕ) (n : ℕ) (m : List ℕ) (st : Copying) → n ≤ 512 → 8192 ≤ length m → Room (st .used) (st .next) → CopyingOf s w n m st m 0 n st
-ofs-begin s w n m st h l r = record { at = omega arith; long = l; held = held-begin m st r; rest = refl }
+pub copying-begin : (s w : List ℕ) (n : ℕ) (m : List ℕ) (st : Copying) → n ≤ 512 → 8192 ≤ length m → Room (st .used) (st .next) → CopyingOf s w n m st m 0 n st
+copying-begin s w n m st h l r = record { at = omega arith; long = l; held = held-begin m st r; rest = refl }
 
 roots-by : (s w : List ℕ) (p : ℕ) {d g c : ℕ} → d ≡ getD w (p + 2) 0 → g ≡ getD w (p + 1) 0 → c ≡ getD w p 0 → roots s d g c ≡ rootsAt s w p
 unfolding rootsAt
 roots-by s w p d g c = rw (d, g, c)
 
 module _ {s w : List ℕ} {n₀ : ℕ} {m₀ : List ℕ} {st₀ : Copying} {m : List ℕ} {p n : ℕ} {st : Copying} (u : CopyingOf s w n₀ m₀ st₀ m p n st) where
-  pub ofs-end : n ≡ 0 → Copied m₀ m (got.At st) (copiesOf s w 0 n₀ (standing m₀ st₀))
-  ofs-end e = record { is = sym (ofs-none s w p n (standing m st) e) ∙ u .rest; past = u .held .past }
+  pub copying-end : n ≡ 0 → Copied m₀ m (got.At st) (copiesOf s w 0 n₀ (standing m₀ st₀))
+  copying-end e = record { is = sym (copying-none s w p n (standing m st) e) ∙ u .rest; past = u .held .past }
 
   module _ (h : 0 < n) {d g c : ℕ} (i : d ≡ getD w (p + 2) 0) (j : g ≡ getD w (p + 1) 0) (k : c ≡ getD w p 0)
     {m' : List ℕ} {r : Got} (x : Copied m m' r (copyRoots s (roots s d g c) (standing m st))) where
-    pub ofs-refused : {a b : ℕ} → r ≡ got.Refused a b → Copied m₀ m' (got.Refused a b) (copiesOf s w 0 n₀ (standing m₀ st₀))
-    ofs-refused {a} {b} e =
+    pub copying-refused : {a b : ℕ} → r ≡ got.Refused a b → Copied m₀ m' (got.Refused a b) (copiesOf s w 0 n₀ (standing m₀ st₀))
+    copying-refused {a} {b} e =
         let v : copyRoots s (rootsAt s w p) (standing m st) ≡ refused a b = rw (roots-by s w p i j k) at (sym (copied-refused x e)) in
-        record { is = rw (ofs-cons s w p n (standing m st) h, v) at (u .rest); past = tt }
+        record { is = rw (copying-cons s w p n (standing m st) h, v) at (u .rest); past = tt }
 
-    pub ofs-next : {t : Copying} → AfterGot r st → r ≡ got.At t → length m' ≡ length m → CopyingOf s w n₀ m₀ st₀ m' (p + 8) (n - 1) t
-    ofs-next {t} f e l =
+    pub copying-next : {t : Copying} → AfterGot r st → r ≡ got.At t → length m' ≡ length m → CopyingOf s w n₀ m₀ st₀ m' (p + 8) (n - 1) t
+    copying-next {t} f e l =
         let v : copyRoots s (rootsAt s w p) (standing m st) ≡ ok (standing m' t) = rw (roots-by s w p i j k) at (sym (copied-at x e .0)) in
         record {
           at = omega (arith, u .at);
           long = omega (arith, l, u .long);
           held = held-next (u .held) x f e l;
-          rest = rw (ofs-cons s w p n (standing m st) h, v) at (u .rest) }
+          rest = rw (copying-cons s w p n (standing m st) h, v) at (u .rest) }

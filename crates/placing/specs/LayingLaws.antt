@@ -32,7 +32,7 @@ use Rattle.placing.specs.Attaching.{Moves}
 use Rattle.placing.specs.AttachingLaws.{past-blit, copies-blit}
 use Rattle.placing.specs.WordsLaws.{all-placed}
 use Rattle.placing.specs.InWords.{structuresIn, dataIn, placedIn, copiesOf, AllWithin, Columns}
-use Rattle.placing.specs.InWordsLaws.{structures-near, data-near}
+use Rattle.placing.specs.InWordsLaws.{all-few, structures-near, data-near}
 use Rattle.placing.specs.ColumnsLaws.{structures-of, data-of, placed-of, copies-of}
 use Rattle.placing.specs.Laying.{start, FirstCopies, Begins, metadataEndIn, attachedIn, Rested, Rests, Numbered, LaysOut}
 
@@ -133,7 +133,7 @@ pub rest-near : (s : List ℕ) (size : ℕ) (w f : List ℕ) (n : ℕ) (st : Cop
   → (a ≤ 562949953421319) × (e ≤ 1125899906842624) × (d ≤ 576460752303423488)
 rest-near s size w f n st {a} {e} {d} i j k h l b =
     let x = align-near (st .next) in
-    let y = structures-near s size w f 0 n a b in
+    let y = structures-near s size w 0 n a (all-few b) in
     let z = data-near s size w f 0 n e b in
     (omega arith, omega arith, omega arith)
 

@@ -12,7 +12,7 @@ ghost use Rattle.plan.specs.Layout.{dlSize};
 ghost use Rattle.placing.specs.Standing.{standing, Room};
 ghost use Rattle.placing.specs.Got.{Copied, AfterGot};
 ghost use Rattle.placing.specs.InWords.{blocksAt, payloadAt, cgBytes, structureAt, blocksEndAt, sizesIn, signalAt, signalEndAt};
-ghost use Rattle.placing.specs.InWords.{structuresIn, dataIn, placedIn, copiesOf, Within, AllWithin};
+ghost use Rattle.placing.specs.InWords.{structuresIn, dataIn, placedIn, copiesOf, AllWithin, AllFew};
 
 // Word i, 0 past the end.
 pub fn word(w: &[u64], i: u64) -> u64
@@ -108,8 +108,8 @@ fn signal_end(fragments: &[u64], columns: &[u64], p: u64, d: u64) -> u64
 }
 
 // Past the DG, CG, CN and DL of n columns, which begin at a.
-pub(crate) fn structure_end(image: &[u8], size: u64, fragments: &[u64], columns: &[u64], n: u64, a: u64) -> u64
-    requires { ⌜ (n ≤ 512) × (a ≤ 1125899906842624) × AllWithin (now image) size (now columns) (now fragments) 0 n ⌝ }
+pub(crate) fn structure_end(image: &[u8], size: u64, columns: &[u64], n: u64, a: u64) -> u64
+    requires { ⌜ (n ≤ 512) × (a ≤ 1125899906842624) × AllFew (now image) size (now columns) 0 n ⌝ }
     ensures { λ r. ⌜ r ≡ structuresIn (now (image .entry)) size (now (columns .entry)) 0 n a ⌝ }
 {
     let mut p: u64 = 0;

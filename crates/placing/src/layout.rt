@@ -69,7 +69,7 @@ fn place_rest(image: &[u8], size: u64, fragments: &[u64], columns: &[u64], n: u6
     ensures { λ r. ⌜ Rests (now (image .entry)) size (now (columns .entry)) (now (fragments .entry)) n (now (memo .entry)) (now (memo .exit)) state r ⌝ }
 {
     let a = aligned(state.next);
-    let end = structure_end(image, size, fragments, columns, n, a);
+    let end = structure_end(image, size, columns, n, a);
     let data = place_columns(image, size, fragments, columns, n, memo, a, end);
     let moved = attachments(image, memo, link_at(image, 64, 3), Copying { used: state.used, next: data });
     match moved {

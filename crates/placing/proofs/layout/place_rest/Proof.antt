@@ -1,4 +1,5 @@
 -- Places of columns, then attachments.
+use Rattle.placing.specs.InWordsLaws.{all-few}
 use Rattle.placing.specs.LayingLaws.{rest-moved, rest-refused, rest-near}
 use mathlib.Core.Path.{refl}
 use native.Mathlib.Omega.{arith}
@@ -10,7 +11,7 @@ aligned-requires : tie.Need-aligned-requires
 aligned-requires c κs = search needs
 
 structure-end-requires : tie.Need-structure-end-requires
-structure-end-requires c κs = let x = rest-near (c .before .before .before .before .before .args .image .now) (c .before .before .before .before .before .args .size) (c .before .before .before .before .before .args .columns .now) (c .before .before .before .before .before .args .fragments .now) (c .before .before .before .before .before .args .n) (c .before .before .before .before .before .args .state) (c .aligned .ensures) refl refl (c .before .before .before .before .before .pre .0) (c .before .before .before .before .before .pre .4) (c .before .before .before .before .before .pre .5) in (c .before .before .before .before .before .pre .0, omega arith, c .before .before .before .before .before .pre .5)
+structure-end-requires c κs = let x = rest-near (c .before .before .before .before .before .args .image .now) (c .before .before .before .before .before .args .size) (c .before .before .before .before .before .args .columns .now) (c .before .before .before .before .before .args .fragments .now) (c .before .before .before .before .before .args .n) (c .before .before .before .before .before .args .state) (c .aligned .ensures) refl refl (c .before .before .before .before .before .pre .0) (c .before .before .before .before .before .pre .4) (c .before .before .before .before .before .pre .5) in (c .before .before .before .before .before .pre .0, omega arith, all-few (c .before .before .before .before .before .pre .5))
 
 place-columns-requires : tie.Need-place-columns-requires
 place-columns-requires c κs = let x = rest-near (c .before .before .before .before .before .before .before .args .image .now) (c .before .before .before .before .before .before .before .args .size) (c .before .before .before .before .before .before .before .args .columns .now) (c .before .before .before .before .before .before .before .args .fragments .now) (c .before .before .before .before .before .before .before .args .n) (c .before .before .before .before .before .before .before .args .state) (c .before .before .aligned .ensures) (c .before .structure-end .ensures) refl (c .before .before .before .before .before .before .before .pre .0) (c .before .before .before .before .before .before .before .pre .4) (c .before .before .before .before .before .before .before .pre .5) in (c .before .before .before .before .before .before .before .pre .0, omega arith, omega arith, c .before .before .before .before .before .before .before .pre .1, c .before .before .before .before .before .before .before .pre .5)
