@@ -52,7 +52,7 @@ module _ (w : List ℕ) (p k a : ℕ) {b : Bool} where
   attached-miss i h e = rw (attached-cons w p k a h, ne-eqb _ _ e) at i
 
 -- ---- the words of attachments
-getD-before : (bs : List ℕ) (j i : ℕ) (l : List ℕ) → i < j → getD (blit j bs l) i 0 ≡ getD l i 0
+pub getD-before : (bs : List ℕ) (j i : ℕ) (l : List ℕ) → i < j → getD (blit j bs l) i 0 ≡ getD l i 0
 unfolding blit
 getD-before [] j i l h = refl
 getD-before (b ∷ bs) j i l h = getD-before bs (suc j) i (set l j b) (omega arith) ∙ getD-set-other l j i b 0 (λ e. omega arith)
@@ -97,7 +97,7 @@ unfolding blit
 past-blit [] j h p = p
 past-blit (b ∷ bs) j h p = past-blit bs (suc j) (omega arith) (past-both j b h p)
 
-copies-blit : (bs w : List ℕ) (k j : ℕ) → 2 * k ≤ j → copiesFrom (blit j bs w) 0 k ≡ copiesFrom w 0 k
+pub copies-blit : (bs w : List ℕ) (k j : ℕ) → 2 * k ≤ j → copiesFrom (blit j bs w) 0 k ≡ copiesFrom w 0 k
 unfolding blit
 copies-blit [] w k j h = refl
 copies-blit (b ∷ bs) w k j h = copies-blit bs (set w j b) k (suc j) (omega arith) ∙ copies-set w 0 k j b (omega arith)

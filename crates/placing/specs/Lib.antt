@@ -12,3 +12,9 @@ pub mod HistoryLaws
 pub mod Attaching
 pub mod AttachingLaws
 pub mod WordsLaws
+pub mod InWords
+pub mod InWordsLaws
+pub mod ColumnsLaws
+pub mod Laying
+pub mod LayingLaws
+pub mod BoundedLaws

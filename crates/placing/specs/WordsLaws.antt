@@ -1,4 +1,4 @@
--- The words at the end of placing: copies, attachments and the history chain laid over the words at entry.
+-- The words at the end of placing: copies, attachments, the history chain and the places of columns laid over the words at entry.
 use Prim.Native.Nat.{ℕ, zero, suc, _+_, _*_, _≤_}
 use mathlib.Core.List.{List, _++_}
 use mathlib.Core.Path.{_≡_, refl, sym, ap, _∙_}
@@ -9,7 +9,7 @@ use lib.Seq.{drop-cons, length-take-le}
 use Rattle.base.specs.Blit.{blit}
 use Rattle.base.specs.BlitLaws.{blit-is, blit-comm, length-blit}
 use Rattle.plan.specs.Copies.{Attachment}
-use Rattle.plan.specs.CopyWords.{copyWords, attachmentWords, attachmentsAt, historyAt}
+use Rattle.plan.specs.CopyWords.{copyWords, attachmentWords, attachmentsAt, historyAt, placedAt}
 use Rattle.placing.specs.Standing.{copiesFrom, copiesIn, Past}
 use Rattle.placing.specs.AttachingLaws.{length-words}
 
@@ -47,3 +47,19 @@ all-laid w w' k chain ts l h u t p =
     ∙ blit-comm (copyWords (copiesIn w' k)) 0 4096 (attachmentWords ts) (blit historyAt chain w) (omega arith)
     ∙ ap (blit attachmentsAt (attachmentWords ts)) (blit-comm (copyWords (copiesIn w' k)) 0 4352 chain w (omega arith))
     ∙ blit-comm (attachmentWords ts) 4096 4352 chain (blit 0 (copyWords (copiesIn w' k)) w) (omega arith)
+
+-- with the places of columns
+pub all-placed : (w w' : List ℕ) (k : ℕ) (chain : List ℕ) (ts : List Attachment) (ps : List ℕ) → length w' ≡ length w → 4096 ≤ length w → k ≤ 2048
+  → length ts ≤ 64 → length chain ≤ 2304
+  → Past (2 * k) (blit attachmentsAt (attachmentWords ts) (blit placedAt ps (blit historyAt chain w))) w'
+  → w' ≡ blit placedAt ps (blit historyAt chain (blit attachmentsAt (attachmentWords ts) (blit 0 (copyWords (copiesIn w' k)) w)))
+all-placed w w' k chain ts ps l h u t c p =
+    let n = length-words-copies w' k (omega arith) in
+    let m = length-words ts in
+    let x = length-blit placedAt ps w in
+    let q : Past (2 * k) (blit attachmentsAt (attachmentWords ts) (blit historyAt chain (blit placedAt ps w))) w' =
+          rw (blit-comm chain 4352 6656 ps w (omega arith)) p in
+    all-laid (blit placedAt ps w) w' k chain ts (omega arith) (omega arith) u t q
+    ∙ ap (λ (v : List ℕ). blit historyAt chain (blit attachmentsAt (attachmentWords ts) v)) (blit-comm (copyWords (copiesIn w' k)) 0 6656 ps w (omega arith))
+    ∙ ap (blit historyAt chain) (blit-comm (attachmentWords ts) 4096 6656 ps (blit 0 (copyWords (copiesIn w' k)) w) (omega arith))
+    ∙ blit-comm chain 4352 6656 ps (blit attachmentsAt (attachmentWords ts) (blit 0 (copyWords (copiesIn w' k)) w)) (omega arith)

@@ -1,0 +1,47 @@
+-- The four sizes, by the words.
+use Rattle.placing.specs.InWordsLaws.{cg-least, dl-least, structure-by}
+use native.Mathlib.Omega.{arith}
+use borrow.Author.Needs.{needs}
+use Rattle.placing.proofs.columns.structure_at.Statement.{statement}
+use Rattle.placing.proofs.columns.structure_at.Tie as tie
+
+add-word : tie.Need-add-word
+add-word c = search needs
+
+word-requires : tie.Need-word-requires
+word-requires c κs = search needs
+
+cg-bytes-requires : tie.Need-cg-bytes-requires
+cg-bytes-requires c κs = search needs
+
+blocks-at-requires : tie.Need-blocks-at-requires
+blocks-at-requires c κs = search needs
+
+dl-bytes-requires : tie.Need-dl-bytes-requires
+dl-bytes-requires c κs = search needs
+
+add-result : tie.Need-add-result
+add-result c = let x = cg-least _ (c .before .before .cg-bytes .ensures) in let y = dl-least _ (c .dl-bytes .ensures) in let z = c .before .blocks-at .ensures in omega arith
+
+add-result-2 : tie.Need-add-result-2
+add-result-2 c = let x = cg-least _ (c .before .before .cg-bytes .ensures) in let y = dl-least _ (c .dl-bytes .ensures) in let z = c .before .blocks-at .ensures in omega arith
+
+add-result-3 : tie.Need-add-result-3
+add-result-3 c = let x = cg-least _ (c .before .before .cg-bytes .ensures) in let y = dl-least _ (c .dl-bytes .ensures) in let z = c .before .blocks-at .ensures in omega arith
+
+returns : tie.Need-returns
+returns c = structure-by _ _ _ _ (c .before .before .before .word .ensures) (c .before .before .cg-bytes .ensures) (c .before .blocks-at .ensures) (c .dl-bytes .ensures)
+
+pub structure-at-spec : {M : Type 1} → statement M
+structure-at-spec =
+    tie.close
+    (tie.spec
+    add-word
+    word-requires
+    cg-bytes-requires
+    blocks-at-requires
+    dl-bytes-requires
+    add-result
+    add-result-2
+    add-result-3
+    returns)

@@ -1,0 +1,58 @@
+-- What planning and the data stage give: bounds of columns, and the words that planning leaves.
+use Prim.Native.Nat.{ℕ, _+_, _≤_}
+use mathlib.Core.List.{List, _++_}
+use mathlib.Core.Path.{_≡_}
+use native.Mathlib.Omega.{arith}
+use lib.ListN.{length}
+use Rattle.base.specs.Checked.{fine}
+use Rattle.base.specs.Blit.{blit}
+use Rattle.mdf.specs.Chain.{Fragment}
+use Rattle.mdf.specs.Words.{fragmentWords}
+use Rattle.plan.specs.Columns.{Column, Signal, unsigned, signalData, sizeOfSignal, Plan}
+use Rattle.plan.specs.PlanWords.{signalFragments, laidPlan}
+use Rattle.plan.specs.Data.{signalIn, blocksIn}
+use Rattle.plan.specs.Layout.{layout}
+use Rattle.result.specs.Guarantee.{In}
+use Rattle.payload_laws.specs.ColumnLaws.{Ready}
+use Rattle.payload_laws.specs.BoundLaws.{fragments-small, payload-small, blocks-small}
+use Rattle.placing.specs.declared.layout.Laid.{Laid}
+use Rattle.placing.specs.Laying.{Lays, LaysOut}
+use Rattle.placing.specs.InWords.{AllWithin, signalBytesOf, AllBounded}
+use Rattle.placing.specs.ColumnsLaws.{all-within, columns-stand}
+
+-- a column whose data was read
+pub record Known (s : List ℕ) (c : Column) : Type 0 where
+  pub ready : Ready s c
+  pub signals : signalIn s (c .signalOf) ≡ fine
+  pub few : length (c .group .dataGroup .fragments) ≤ 1024
+  pub fewSignals : sizeOfSignal (c .signalOf) ≤ 1024
+
+signal-small : (s : List ℕ) (g : Signal) → signalIn s g ≡ fine → length s ≤ 4294967296 → sizeOfSignal g ≤ 1024 → signalBytesOf g ≤ 4398046511104
+signal-small s unsigned e h k = omega arith
+signal-small s (signalData fs) e h k = fragments-small s fs e h k
+
+pub all-bounded : (s : List ℕ) (size : ℕ) (cs : List Column) → length s ≤ 4294967296 → blocksIn s size cs ≡ fine
+  → ((c : Column) → In c cs → Known s c) → AllBounded s size cs
+all-bounded s size cs h b z = record {
+    each = λ c i.
+      let k = z c i in
+      record {
+        blocks = blocks-small s size cs c b i;
+        payload = payload-small s c (k .ready) h (k .few);
+        signal = signal-small s (c .signalOf) (k .signals) h (k .fewSignals) }
+  }
+
+-- the columns of a plan, in the words that planning leaves, are within the bounds
+pub plan-within : (s : List ℕ) (size : ℕ) (p : Plan) (fs : List Fragment) (w f : List ℕ) → length (p .columns) ≤ 512 → 4096 ≤ length w
+  → length fs + length (signalFragments (p .columns)) ≤ 1024 → 3072 ≤ length f → AllBounded s size (p .columns)
+  → AllWithin s size (laidPlan (length fs) p w) (blit 0 (fragmentWords (fs ++ signalFragments (p .columns))) f) 0 (length (p .columns))
+plan-within s size p fs w f a b c d e =
+    all-within s size (laidPlan (length fs) p w) (blit 0 (fragmentWords (fs ++ signalFragments (p .columns))) f) (length fs) 0 (p .columns)
+    (columns-stand p fs w f a b c d) c e
+
+-- and what is laid out over those words is the plan's layout
+pub plan-laid : (s : List ℕ) (size text : ℕ) (p : Plan) (fs : List Fragment) (w f : List ℕ) (n : ℕ) {m m' : List ℕ} {r : Laid}
+  → length (p .columns) ≤ 512 → 4096 ≤ length w → length fs + length (signalFragments (p .columns)) ≤ 1024 → 3072 ≤ length f → length (p .columns) ≡ n
+  → LaysOut s size text (laidPlan (length fs) p w) (blit 0 (fragmentWords (fs ++ signalFragments (p .columns))) f) n m m' r
+  → Lays m m' r (layout s size text (p .columns))
+plan-laid s size text p fs w f n a b c d l h = h .is (length fs) (p .columns) (columns-stand p fs w f a b c d) l

@@ -1,0 +1,115 @@
+-- What layout takes of the columns, out of their words: eight words for a column from p on, three for a fragment.
+use Prim.Native.Nat.{ℕ, zero, suc, _+_, _*_, _-_, _≤_, _<_}
+use mathlib.Core.List.{List, [], _∷_, _++_}
+use mathlib.Core.Path.{_≡_}
+use lib.ListN.{length, getD}
+use Rattle.base.specs.Choice.{ifEq}
+use Rattle.base.specs.Checked.{Checked, ok, andThen}
+use Rattle.mdf.specs.Words.{fragmentWords}
+use Rattle.mdf.specs.Records.{sizeOf}
+use Rattle.plan.specs.Channel.{width}
+use Rattle.plan.specs.Columns.{Column, Signal, unsigned, signalData}
+use Rattle.plan.specs.PlanWords.{columnsWords, signalFragments}
+use Rattle.plan.specs.Geometry.{align8, blockCount}
+use Rattle.plan.specs.Copies.{Copies, copyRoots}
+use Rattle.plan.specs.Layout.{dlSize, columnBlocks, payloadSize}
+use Rattle.result.specs.Guarantee.{In}
+use Rattle.placing.specs.Roots.{roots}
+
+-- ---- one column
+
+-- bytes of a record, number of data blocks, all bytes of its records
+unfoldable pub widthAt : List ℕ → List ℕ → ℕ → ℕ
+widthAt s w p = width s (getD w (p + 1) 0) (getD w p 0)
+
+unfoldable pub blocksAt : List ℕ → ℕ → List ℕ → ℕ → ℕ
+blocksAt s size w p = blockCount size (widthAt s w p) (getD w (p + 3) 0)
+
+unfoldable pub payloadAt : List ℕ → List ℕ → ℕ → ℕ
+payloadAt s w p = widthAt s w p * getD w (p + 3) 0
+
+-- of a CG, by the word of its master
+unfoldable pub cgBytes : ℕ → ℕ
+cgBytes m = ifEq m 0 104 112
+
+-- DG, CG, CN and DL
+unfoldable pub structureAt : List ℕ → ℕ → List ℕ → ℕ → ℕ
+structureAt s size w p = 64 + cgBytes (getD w (p + 5) 0) + 160 + dlSize (blocksAt s size w p)
+
+-- past its data blocks, which begin at d
+unfoldable pub blocksEndAt : List ℕ → ℕ → List ℕ → ℕ → ℕ → ℕ
+blocksEndAt s size w p d = align8 (d + (24 * blocksAt s size w p + payloadAt s w p))
+
+-- the sizes of so many fragments, with words from q on
+unfoldable pub sizesIn : List ℕ → ℕ → ℕ → ℕ
+sizesIn f q zero = 0
+sizesIn f q (suc n) = getD f (q + 1) 0 + sizesIn f (q + 3) n
+
+-- the bytes of its signal data
+unfoldable pub signalAt : List ℕ → List ℕ → ℕ → ℕ
+signalAt w f p = sizesIn f (3 * (getD w (p + 6) 0 - 1)) (getD w (p + 7) 0)
+
+-- past its SD, which begins at d
+unfoldable pub signalEndAt : List ℕ → List ℕ → ℕ → ℕ → ℕ
+signalEndAt w f p d = ifEq (getD w (p + 6) 0) 0 d (align8 (d + (24 + signalAt w f p)))
+
+-- ---- so many columns
+
+-- past the blocks that make up columns
+unfoldable pub structuresIn : List ℕ → ℕ → List ℕ → ℕ → ℕ → ℕ → ℕ
+structuresIn s size w p zero a = a
+structuresIn s size w p (suc n) a = structuresIn s size w (p + 8) n (a + structureAt s size w p)
+
+-- past the data of columns
+unfoldable pub dataIn : List ℕ → ℕ → List ℕ → List ℕ → ℕ → ℕ → ℕ → ℕ
+dataIn s size w f p zero d = d
+dataIn s size w f p (suc n) d = dataIn s size w f (p + 8) n (signalEndAt w f p (blocksEndAt s size w p d))
+
+-- three words for each: the places of its DG, of its first data block and of its SD
+unfoldable pub placedIn : List ℕ → ℕ → List ℕ → List ℕ → ℕ → ℕ → ℕ → ℕ → List ℕ
+placedIn s size w f p zero a d = []
+placedIn s size w f p (suc n) a d =
+    (a ∷ d ∷ blocksEndAt s size w p d ∷ [])
+    ++ placedIn s size w f (p + 8) n (a + structureAt s size w p) (signalEndAt w f p (blocksEndAt s size w p d))
+
+-- the blocks that columns refer to
+unfoldable pub rootsAt : List ℕ → List ℕ → ℕ → List ℕ
+rootsAt s w p = roots s (getD w (p + 2) 0) (getD w (p + 1) 0) (getD w p 0)
+
+unfoldable pub copiesOf : List ℕ → List ℕ → ℕ → ℕ → Copies → Checked Copies
+copiesOf s w p zero m = ok m
+copiesOf s w p (suc n) m = andThen (copyRoots s (rootsAt s w p) m) (λ m'. copiesOf s w (p + 8) n m')
+
+-- ---- bounds: no sum of layout passes 64 bits
+pub record Within (s : List ℕ) (size : ℕ) (w f : List ℕ) (p : ℕ) : Type 0 where
+  pub blocks : blocksAt s size w p ≤ 4294967295
+  pub payload : payloadAt s w p ≤ 4398046511104
+  pub fragments : getD w (p + 6) 0 + getD w (p + 7) 0 ≤ 1025
+  pub signal : signalAt w f p ≤ 4398046511104
+
+pub record AllWithin (s : List ℕ) (size : ℕ) (w f : List ℕ) (p n : ℕ) : Type 0 where
+  pub each : (k : ℕ) → k < n → Within s size w f (p + 8 * k)
+
+-- of the number of blocks alone
+pub record AllFew (s : List ℕ) (size : ℕ) (w : List ℕ) (p n : ℕ) : Type 0 where
+  pub each : (k : ℕ) → k < n → blocksAt s size w (p + 8 * k) ≤ 4294967295
+
+-- ---- columns that stand in words
+
+-- from p on, and their signal data's fragments from number m on
+pub record Columns (w f : List ℕ) (m p : ℕ) (cs : List Column) : Type 0 where
+  pub at : (j : ℕ) → j < 8 * length cs → getD w (p + j) 0 ≡ getD (columnsWords m cs) j 0
+  pub fragmentsAt : (j : ℕ) → j < 3 * length (signalFragments cs) → getD f (3 * m + j) 0 ≡ getD (fragmentWords (signalFragments cs)) j 0
+
+-- what planning and the data stage give of a column
+abbrev pub signalBytesOf : Signal → ℕ
+signalBytesOf unsigned = 0
+signalBytesOf (signalData fs) = sizeOf fs
+
+pub record Bounded (s : List ℕ) (size : ℕ) (c : Column) : Type 0 where
+  pub blocks : columnBlocks s size c ≤ 4294967295
+  pub payload : payloadSize s c ≤ 4398046511104
+  pub signal : signalBytesOf (c .signalOf) ≤ 4398046511104
+
+pub record AllBounded (s : List ℕ) (size : ℕ) (cs : List Column) : Type 0 where
+  pub each : (c : Column) → In c cs → Bounded s size c

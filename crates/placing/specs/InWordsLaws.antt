@@ -1,0 +1,364 @@
+-- The laws of columns out of words: what is left of them gives what all give, and columns that stand in words give their own.
+use Prim.{tt}
+use Prim.Native.Nat.{ℕ, zero, suc, _+_, _*_, _-_, _≤_, _<_}
+use mathlib.Core.List.{List, [], _∷_, _++_}
+use mathlib.Core.Path.{_≡_, refl, sym, ap, _∙_}
+use mathlib.Core.Bool.{Bool, true, false}
+use native.Mathlib.Nat.{add-zero}
+use native.Mathlib.Numerals.{sub-one}
+use native.Mathlib.Omega.{arith}
+use lib.Dec.{eqb}
+use lib.ListN.{length, getD, List·getD-eq-default}
+use Rattle.base.specs.Choice.{pick, ifEq}
+use Rattle.base.specs.ChoiceLaws.{eq-yes, eq-no}
+use Rattle.base.specs.Checked.{ok, refused, andThen}
+use Rattle.base.specs.Blit.{blit}
+use Rattle.base.specs.BlitLaws.{blit-append, length-blit}
+use Rattle.plan.specs.Geometry.{align8, blockCount}
+use Rattle.plan.specs.Channel.{width}
+use Rattle.plan.specs.Layout.{dlSize}
+use Rattle.plan.specs.Copies.{Copies, copyRoots}
+use Rattle.placing.specs.declared.memo.Copying.{Copying}
+use Rattle.placing.specs.declared.copier.Got.{Got}
+use Rattle.placing.specs.declared.copier.Got.the-variants as got
+use Rattle.placing.specs.Standing.{standing, Room}
+use Rattle.placing.specs.StandingLaws.{align-near}
+use Rattle.placing.specs.Roots.{roots}
+use Rattle.placing.specs.Got.{Copied, AfterGot}
+use Rattle.placing.specs.TurnLaws.{Held, held-begin, held-next, copied-at, copied-refused}
+use Rattle.placing.specs.InWords.{widthAt, blocksAt, payloadAt, cgBytes, structureAt, blocksEndAt, sizesIn, signalAt, signalEndAt,
+  structuresIn, dataIn, placedIn, rootsAt, copiesOf, Within, AllWithin, AllFew}
+
+-- ---- a word
+pub past-end : (w : List ℕ) (i : ℕ) → length w ≤ i → 0 ≡ getD w i 0
+past-end w i h = sym (List·getD-eq-default w 0 h)
+
+-- ---- one column, by the answers of the code
+pub cg-yes : (m : ℕ) → m ≡ 0 → 104 ≡ cgBytes m
+unfolding cgBytes
+cg-yes m e = eq-yes _ _ _ _ e refl
+
+pub cg-no : (m : ℕ) → (m ≡ 0 → ⊥) → 112 ≡ cgBytes m
+unfolding cgBytes
+cg-no m e = eq-no _ _ _ _ e refl
+
+pub dl-none : (n : ℕ) → n ≡ 0 → 0 ≡ dlSize n
+unfolding dlSize
+dl-none n e = eq-yes _ _ _ _ e refl
+
+pub dl-some : (n : ℕ) → (n ≡ 0 → ⊥) → 24 + 8 * (n + 1) + 16 ≡ dlSize n
+unfolding dlSize
+dl-some n e = eq-no _ _ _ _ e refl
+
+pub payload-by : (s w : List ℕ) (p : ℕ) {c g n x : ℕ} → g ≡ getD w (p + 1) 0 → c ≡ getD w p 0 → x ≡ width s g c → n ≡ getD w (p + 3) 0
+  → x * n ≡ payloadAt s w p
+unfolding payloadAt widthAt
+payload-by s w p g c x n = rw (x, g, c, n)
+
+module _ (s : List ℕ) (size : ℕ) (w : List ℕ) (p : ℕ) where
+  pub blocks-by : {c g n x r : ℕ} → g ≡ getD w (p + 1) 0 → c ≡ getD w p 0 → x ≡ width s g c → n ≡ getD w (p + 3) 0
+    → r ≡ blockCount size x n → r ≡ blocksAt s size w p
+  unfolding blocksAt widthAt
+  blocks-by g c x n r = r ∙ rw (x, g, c, n)
+
+  pub structure-by : {m cg n dl : ℕ} → m ≡ getD w (p + 5) 0 → cg ≡ cgBytes m → n ≡ blocksAt s size w p → dl ≡ dlSize n
+    → 64 + cg + 160 + dl ≡ structureAt s size w p
+  unfolding structureAt
+  structure-by m cg n dl = rw (cg, m, dl, n)
+
+  pub blocks-end-by : (d : ℕ) {n b r : ℕ} → n ≡ blocksAt s size w p → b ≡ payloadAt s w p → r ≡ align8 (d + (24 * n + b)) → r ≡ blocksEndAt s size w p d
+  unfolding blocksEndAt
+  blocks-end-by d n b r = r ∙ rw (n, b)
+
+cg-near : (m : ℕ) → cgBytes m ≤ 112
+unfolding cgBytes ifEq
+cg-near m = go (eqb m 0)
+  where
+    go : (b : Bool) → pick b 104 112 ≤ 112
+    go true = omega arith
+    go false = omega arith
+
+dl-near : (n : ℕ) → dlSize n ≤ 48 + 8 * n
+unfolding dlSize ifEq
+dl-near n = go (eqb n 0)
+  where
+    go : (b : Bool) → pick b 0 (24 + 8 * (n + 1) + 16) ≤ 48 + 8 * n
+    go true = omega arith
+    go false = omega arith
+
+pub cg-least : (m : ℕ) {cg : ℕ} → cg ≡ cgBytes m → cg ≤ 112
+cg-least m e = omega (arith, cg-near m)
+
+pub dl-least : (n : ℕ) {dl : ℕ} → dl ≡ dlSize n → dl ≤ 48 + 8 * n
+dl-least n e = omega (arith, dl-near n)
+
+pub structure-near : (s : List ℕ) (size : ℕ) (w : List ℕ) (p : ℕ) → blocksAt s size w p ≤ 4294967295 → structureAt s size w p ≤ 34359738744
+unfolding structureAt
+structure-near s size w p h = omega (arith, cg-near (getD w (p + 5) 0), dl-near (blocksAt s size w p))
+
+-- ---- sizes of fragments: what is left of them
+sizes-none : (f : List ℕ) (q n : ℕ) → n ≡ 0 → sizesIn f q n ≡ 0
+unfolding sizesIn
+sizes-none f q n e = rw e
+
+sizes-cons : (f : List ℕ) (q n : ℕ) → 0 < n → sizesIn f q n ≡ getD f (q + 1) 0 + sizesIn f (q + 3) (n - 1)
+unfolding sizesIn
+sizes-cons f q zero h = absurd (omega arith)
+sizes-cons f q (suc n) h = rw sub-one
+
+pub record Summing (f : List ℕ) (q₀ n₀ q n sum : ℕ) : Type 0 where
+  pub room : q + 3 * n ≤ 1152921504606846976
+  pub whole : sizesIn f q₀ n₀ ≤ 4398046511104
+  pub rest : sum + sizesIn f q n ≡ sizesIn f q₀ n₀
+
+pub sum-begin : (f : List ℕ) (q n : ℕ) → q + 3 * n ≤ 1152921504606846976 → sizesIn f q n ≤ 4398046511104 → Summing f q n q n 0
+sum-begin f q n h k = record { room = h; whole = k; rest = omega arith }
+
+module _ {f : List ℕ} {q₀ n₀ q n sum : ℕ} (u : Summing f q₀ n₀ q n sum) where
+  pub sum-end : n ≡ 0 → sum ≡ sizesIn f q₀ n₀
+  sum-end e = omega (arith, u .rest, sizes-none f q n e)
+
+  module _ (h : 0 < n) {x : ℕ} (e : x ≡ getD f (q + 1) 0) where
+    pub sum-small : sum + x ≤ 4398046511104
+    sum-small = omega (arith, u .rest, u .whole, sizes-cons f q n h)
+
+    pub sum-next : Summing f q₀ n₀ (q + 3) (n - 1) (sum + x)
+    sum-next = record { room = omega (arith, u .room); whole = u .whole; rest = omega (arith, u .rest, sizes-cons f q n h) }
+
+-- ---- signal data
+module _ (w f : List ℕ) (p d : ℕ) {a : ℕ} (e : a ≡ getD w (p + 6) 0) where
+  pub signal-none : a ≡ 0 → d ≡ signalEndAt w f p d
+  unfolding signalEndAt
+  signal-none z = eq-yes _ _ _ _ (sym e ∙ z) refl
+
+  -- its fragments, by the code's answers
+  signal-by : {n : ℕ} → n ≡ getD w (p + 7) 0 → sizesIn f (3 * (a - 1)) n ≡ signalAt w f p
+  unfolding signalAt
+  signal-by q = rw (e, q)
+
+  pub signal-fits : {n : ℕ} → n ≡ getD w (p + 7) 0 → signalAt w f p ≤ 4398046511104 → sizesIn f (3 * (a - 1)) n ≤ 4398046511104
+  signal-fits q h = omega (arith, signal-by q)
+
+  pub signal-some : {n x r : ℕ} → (a ≡ 0 → ⊥) → n ≡ getD w (p + 7) 0 → x ≡ sizesIn f (3 * (a - 1)) n → r ≡ align8 (d + (24 + x)) → r ≡ signalEndAt w f p d
+  unfolding signalEndAt
+  signal-some z q x r = eq-no _ _ _ _ (λ y. z (e ∙ y)) (r ∙ rw (x, signal-by q))
+
+signal-near : (w f : List ℕ) (p d : ℕ) → signalAt w f p ≤ 4398046511104 → signalEndAt w f p d ≤ d + 4398046511136
+unfolding signalEndAt ifEq
+signal-near w f p d h = go (eqb (getD w (p + 6) 0) 0)
+  where
+    go : (b : Bool) → pick b d (align8 (d + (24 + signalAt w f p))) ≤ d + 4398046511136
+    go true = omega arith
+    go false = omega (arith, align-near (d + (24 + signalAt w f p)))
+
+ends-near : (s : List ℕ) (size : ℕ) (w : List ℕ) (p d : ℕ) → blocksAt s size w p ≤ 4294967295 → payloadAt s w p ≤ 4398046511104
+  → blocksEndAt s size w p d ≤ d + 4501125726192
+unfolding blocksEndAt
+ends-near s size w p d h k = omega (arith, align-near (d + (24 * blocksAt s size w p + payloadAt s w p)))
+
+-- ---- bounds of the first column, and of the rest
+module _ {s : List ℕ} {size : ℕ} {w f : List ℕ} {p n : ℕ} (b : AllWithin s size w f p n) (h : 0 < n) where
+  pub within-first : Within s size w f p
+  within-first = rw (add-zero p) at (b .each 0 h)
+
+  pub within-rest : AllWithin s size w f (p + 8) (n - 1)
+  within-rest = record {
+      each = λ k l.
+        let e : p + 8 + 8 * k ≡ p + 8 * suc k = omega arith in
+        rw e (b .each (suc k) (omega arith))
+    }
+
+pub all-few : {s : List ℕ} {size : ℕ} {w f : List ℕ} {p n : ℕ} → AllWithin s size w f p n → AllFew s size w p n
+all-few b = record { each = λ k l. b .each k l .blocks }
+
+module _ {s : List ℕ} {size : ℕ} {w : List ℕ} {p n : ℕ} (b : AllFew s size w p n) (h : 0 < n) where
+  few-first : blocksAt s size w p ≤ 4294967295
+  few-first = rw (add-zero p) at (b .each 0 h)
+
+  few-rest : AllFew s size w (p + 8) (n - 1)
+  few-rest = record {
+      each = λ k l.
+        let e : p + 8 + 8 * k ≡ p + 8 * suc k = omega arith in
+        rw e (b .each (suc k) (omega arith))
+    }
+
+-- ---- past the blocks that make up columns: what is left of them
+structures-none : (s : List ℕ) (size : ℕ) (w : List ℕ) (p n a : ℕ) → n ≡ 0 → structuresIn s size w p n a ≡ a
+unfolding structuresIn
+structures-none s size w p n a e = rw e
+
+structures-cons : (s : List ℕ) (size : ℕ) (w : List ℕ) (p n a : ℕ) → 0 < n
+  → structuresIn s size w p n a ≡ structuresIn s size w (p + 8) (n - 1) (a + structureAt s size w p)
+unfolding structuresIn
+structures-cons s size w p zero a h = absurd (omega arith)
+structures-cons s size w p (suc n) a h = rw sub-one
+
+pub record Structuring (s : List ℕ) (size : ℕ) (w : List ℕ) (n₀ a₀ p n a : ℕ) : Type 0 where
+  pub at : p + 8 * n ≤ 4096
+  pub near : a + n * 34359738744 ≤ 1143492093079552
+  pub few : AllFew s size w p n
+  pub rest : structuresIn s size w p n a ≡ structuresIn s size w 0 n₀ a₀
+
+pub structures-begin : (s : List ℕ) (size : ℕ) (w : List ℕ) (n a : ℕ) → n ≤ 512 → a ≤ 1125899906842624 → AllFew s size w 0 n
+  → Structuring s size w n a 0 n a
+structures-begin s size w n a h k b = record { at = omega arith; near = omega arith; few = b; rest = refl }
+
+module _ {s : List ℕ} {size : ℕ} {w : List ℕ} {n₀ a₀ p n a : ℕ} (u : Structuring s size w n₀ a₀ p n a) where
+  pub structures-end : n ≡ 0 → a ≡ structuresIn s size w 0 n₀ a₀
+  structures-end e = sym (structures-none s size w p n a e) ∙ u .rest
+
+  module _ (h : 0 < n) where
+    pub structure-few : blocksAt s size w p ≤ 4294967295
+    structure-few = few-first (u .few) h
+
+    module _ {x : ℕ} (e : x ≡ structureAt s size w p) where
+      pub structures-room : a + x + (n - 1) * 34359738744 ≤ 1143492093079552
+      structures-room = omega (arith, u .near, structure-near s size w p structure-few)
+
+      pub structures-next : Structuring s size w n₀ a₀ (p + 8) (n - 1) (a + x)
+      structures-next =
+          record {
+            at = omega (arith, u .at);
+            near = structures-room;
+            few = few-rest (u .few) h;
+            rest = rw e (sym (structures-cons s size w p n a h) ∙ u .rest) }
+
+pub structures-near : (s : List ℕ) (size : ℕ) (w : List ℕ) (p n a : ℕ) → AllFew s size w p n → structuresIn s size w p n a ≤ a + n * 34359738744
+unfolding structuresIn
+structures-near s size w p zero a b = omega arith
+structures-near s size w p (suc n) a b =
+    let r : AllFew s size w (p + 8) n = rw (sub-one) at (few-rest b (omega arith)) in
+    omega (arith, structure-near s size w p (few-first b (omega arith)), structures-near s size w (p + 8) n (a + structureAt s size w p) r)
+
+-- ---- places of columns and the end of their data: what is left of them
+data-none : (s : List ℕ) (size : ℕ) (w f : List ℕ) (p n d : ℕ) → n ≡ 0 → dataIn s size w f p n d ≡ d
+unfolding dataIn
+data-none s size w f p n d e = rw e
+
+data-cons : (s : List ℕ) (size : ℕ) (w f : List ℕ) (p n d : ℕ) → 0 < n
+  → dataIn s size w f p n d ≡ dataIn s size w f (p + 8) (n - 1) (signalEndAt w f p (blocksEndAt s size w p d))
+unfolding dataIn
+data-cons s size w f p zero d h = absurd (omega arith)
+data-cons s size w f p (suc n) d h = rw sub-one
+
+placed-none : (s : List ℕ) (size : ℕ) (w f : List ℕ) (p n a d : ℕ) → n ≡ 0 → placedIn s size w f p n a d ≡ []
+unfolding placedIn
+placed-none s size w f p n a d e = rw e
+
+placed-cons : (s : List ℕ) (size : ℕ) (w f : List ℕ) (p n a d : ℕ) → 0 < n
+  → placedIn s size w f p n a d
+  ≡ (a ∷ d ∷ blocksEndAt s size w p d ∷ [])
+    ++ placedIn s size w f (p + 8) (n - 1) (a + structureAt s size w p) (signalEndAt w f p (blocksEndAt s size w p d))
+unfolding placedIn
+placed-cons s size w f p zero a d h = absurd (omega arith)
+placed-cons s size w f p (suc n) a d h = rw sub-one
+
+pub record Placing (s : List ℕ) (size : ℕ) (w f : List ℕ) (n₀ a₀ d₀ : ℕ) (m₀ m : List ℕ) (p q n a d : ℕ) : Type 0 where
+  pub at : p + 8 * n ≤ 4096
+  pub to : q + 3 * n ≤ 8192
+  pub same : length m ≡ length m₀
+  pub long : 8192 ≤ length m
+  pub near : a + n * 34359738744 ≤ 1143492093079552
+  pub nearData : d + n * 10000000000000 ≤ 6245899906842624
+  pub within : AllWithin s size w f p n
+  pub ends : dataIn s size w f p n d ≡ dataIn s size w f 0 n₀ d₀
+  pub words : blit q (placedIn s size w f p n a d) m ≡ blit 6656 (placedIn s size w f 0 n₀ a₀ d₀) m₀
+
+pub place-begin : (s : List ℕ) (size : ℕ) (w f : List ℕ) (n a d : ℕ) (m : List ℕ) → n ≤ 512 → a ≤ 1125899906842624 → d ≤ 1125899906842624
+  → 8192 ≤ length m → AllWithin s size w f 0 n → Placing s size w f n a d m m 0 6656 n a d
+place-begin s size w f n a d m h i j l b =
+    record { at = omega arith; to = omega arith; same = refl; long = l; near = omega arith; nearData = omega arith; within = b; ends = refl; words = refl }
+
+module _ {s : List ℕ} {size : ℕ} {w f : List ℕ} {n₀ a₀ d₀ : ℕ} {m₀ m : List ℕ} {p q n a d : ℕ} (u : Placing s size w f n₀ a₀ d₀ m₀ m p q n a d) where
+  pub place-ends : n ≡ 0 → d ≡ dataIn s size w f 0 n₀ d₀
+  place-ends e = sym (data-none s size w f p n d e) ∙ u .ends
+
+  pub place-words : n ≡ 0 → m ≡ blit 6656 (placedIn s size w f 0 n₀ a₀ d₀) m₀
+  unfolding blit
+  place-words e = rw (placed-none s size w f p n a d e) at (u .words)
+
+  module _ (h : 0 < n) where
+    pub place-within : Within s size w f p
+    place-within = within-first (u .within) h
+
+    module _ {z : ℕ} (e : z ≡ blocksEndAt s size w p d) where
+      pub place-data : z ≤ d + 4501125726192
+      place-data = omega (arith, ends-near s size w p d (place-within .blocks) (place-within .payload))
+
+      module _ {x : ℕ} (i : x ≡ structureAt s size w p) where
+        pub place-room : a + x + (n - 1) * 34359738744 ≤ 1143492093079552
+        place-room = omega (arith, u .near, structure-near s size w p (place-within .blocks))
+
+        pub place-next : {y : ℕ} {m' : List ℕ} → m' ≡ blit q (a ∷ d ∷ z ∷ []) m → y ≡ signalEndAt w f p z
+          → Placing s size w f n₀ a₀ d₀ m₀ m' (p + 8) (q + 3) (n - 1) (a + x) y
+        place-next {y} {m'} k j =
+            let l : length m' ≡ length m = ap length k ∙ length-blit q (a ∷ d ∷ z ∷ []) m in
+            let g : y ≡ signalEndAt w f p (blocksEndAt s size w p d) = rw e at j in
+            let t : blit q (placedIn s size w f p n a d) m
+                  ≡ blit (q + 3) (placedIn s size w f (p + 8) (n - 1) (a + structureAt s size w p) (signalEndAt w f p (blocksEndAt s size w p d)))
+                    (blit q (a ∷ d ∷ blocksEndAt s size w p d ∷ []) m) =
+                  ap (λ (v : List ℕ). blit q v m) (placed-cons s size w f p n a d h) ∙ blit-append (a ∷ d ∷ blocksEndAt s size w p d ∷ []) q _ m in
+            record {
+              at = omega (arith, u .at);
+              to = omega (arith, u .to);
+              same = l ∙ u .same;
+              long = omega (arith, l, u .long);
+              near = place-room;
+              nearData = omega (arith, u .nearData, place-data, j, signal-near w f p z (place-within .signal));
+              within = within-rest (u .within) h;
+              ends = rw g (sym (data-cons s size w f p n d h) ∙ u .ends);
+              words = rw (g, i, k, e) (sym t ∙ u .words) }
+
+pub data-near : (s : List ℕ) (size : ℕ) (w f : List ℕ) (p n d : ℕ) → AllWithin s size w f p n → dataIn s size w f p n d ≤ d + n * 10000000000000
+unfolding dataIn
+data-near s size w f p zero d b = omega arith
+data-near s size w f p (suc n) d b =
+    let c = within-first b (omega arith) in
+    let r : AllWithin s size w f (p + 8) n = rw (sub-one) at (within-rest b (omega arith)) in
+    let e : ℕ = blocksEndAt s size w p d in
+    omega (arith, ends-near s size w p d (c .blocks) (c .payload), signal-near w f p (blocksEndAt s size w p d) (c .signal),
+      data-near s size w f (p + 8) n (signalEndAt w f p (blocksEndAt s size w p d)) r)
+
+-- ---- copies for columns: what is left of them
+copying-none : (s w : List ℕ) (p n : ℕ) (m : Copies) → n ≡ 0 → copiesOf s w p n m ≡ ok m
+unfolding copiesOf
+copying-none s w p n m e = rw e
+
+copying-cons : (s w : List ℕ) (p n : ℕ) (m : Copies) → 0 < n
+  → copiesOf s w p n m ≡ andThen (copyRoots s (rootsAt s w p) m) (λ m'. copiesOf s w (p + 8) (n - 1) m')
+unfolding copiesOf
+copying-cons s w p zero m h = absurd (omega arith)
+copying-cons s w p (suc n) m h = rw sub-one
+
+pub record CopyingOf (s w : List ℕ) (n₀ : ℕ) (m₀ : List ℕ) (st₀ : Copying) (m : List ℕ) (p n : ℕ) (st : Copying) : Type 0 where
+  pub at : p + 8 * n ≤ 4096
+  pub long : 8192 ≤ length m
+  pub held : Held m₀ st₀ m st
+  pub rest : copiesOf s w p n (standing m st) ≡ copiesOf s w 0 n₀ (standing m₀ st₀)
+
+pub copying-begin : (s w : List ℕ) (n : ℕ) (m : List ℕ) (st : Copying) → n ≤ 512 → 8192 ≤ length m → Room (st .used) (st .next) → CopyingOf s w n m st m 0 n st
+copying-begin s w n m st h l r = record { at = omega arith; long = l; held = held-begin m st r; rest = refl }
+
+roots-by : (s w : List ℕ) (p : ℕ) {d g c : ℕ} → d ≡ getD w (p + 2) 0 → g ≡ getD w (p + 1) 0 → c ≡ getD w p 0 → roots s d g c ≡ rootsAt s w p
+unfolding rootsAt
+roots-by s w p d g c = rw (d, g, c)
+
+module _ {s w : List ℕ} {n₀ : ℕ} {m₀ : List ℕ} {st₀ : Copying} {m : List ℕ} {p n : ℕ} {st : Copying} (u : CopyingOf s w n₀ m₀ st₀ m p n st) where
+  pub copying-end : n ≡ 0 → Copied m₀ m (got.At st) (copiesOf s w 0 n₀ (standing m₀ st₀))
+  copying-end e = record { is = sym (copying-none s w p n (standing m st) e) ∙ u .rest; past = u .held .past }
+
+  module _ (h : 0 < n) {d g c : ℕ} (i : d ≡ getD w (p + 2) 0) (j : g ≡ getD w (p + 1) 0) (k : c ≡ getD w p 0)
+    {m' : List ℕ} {r : Got} (x : Copied m m' r (copyRoots s (roots s d g c) (standing m st))) where
+    pub copying-refused : {a b : ℕ} → r ≡ got.Refused a b → Copied m₀ m' (got.Refused a b) (copiesOf s w 0 n₀ (standing m₀ st₀))
+    copying-refused {a} {b} e =
+        let v : copyRoots s (rootsAt s w p) (standing m st) ≡ refused a b = rw (roots-by s w p i j k) at (sym (copied-refused x e)) in
+        record { is = rw (copying-cons s w p n (standing m st) h, v) at (u .rest); past = tt }
+
+    pub copying-next : {t : Copying} → AfterGot r st → r ≡ got.At t → length m' ≡ length m → CopyingOf s w n₀ m₀ st₀ m' (p + 8) (n - 1) t
+    copying-next {t} f e l =
+        let v : copyRoots s (rootsAt s w p) (standing m st) ≡ ok (standing m' t) = rw (roots-by s w p i j k) at (sym (copied-at x e .0)) in
+        record {
+          at = omega (arith, u .at);
+          long = omega (arith, l, u .long);
+          held = held-next (u .held) x f e l;
+          rest = rw (copying-cons s w p n (standing m st) h, v) at (u .rest) }

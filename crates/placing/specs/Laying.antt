@@ -1,0 +1,99 @@
+-- The whole layout, in words: what the code answers at each stage.
+use Prim.Native.Nat.{ℕ, _*_, _≤_}
+use mathlib.Core.List.{List, []}
+use mathlib.Core.Path.{_≡_}
+use lib.ListN.{length}
+use Rattle.base.specs.Checked.{Checked, ok, refused, andThen}
+use Rattle.base.specs.Blit.{blit}
+use Rattle.mdf.specs.Block.{linkAt}
+use Rattle.plan.specs.Columns.{Column}
+use Rattle.plan.specs.Geometry.{align8}
+use Rattle.plan.specs.Copies.{Copies, copies, copyRoot, history, historyOf, Attached, attachmentsOf}
+use Rattle.plan.specs.CopyWords.{attachmentWords, attachmentsAt, historyAt, placedAt, laidCopies}
+use Rattle.plan.specs.Layout.{Layout, layout}
+use Rattle.placing.specs.declared.memo.Copying.{Copying}
+use Rattle.placing.specs.declared.history.Chain.{Chain}
+use Rattle.placing.specs.declared.history.Chain.the-variants as chain
+use Rattle.placing.specs.declared.layout.Numbers.{Numbers}
+use Rattle.placing.specs.declared.layout.Rest.{Rest}
+use Rattle.placing.specs.declared.layout.Rest.the-variants as rest
+use Rattle.placing.specs.declared.layout.Laid.{Laid}
+use Rattle.placing.specs.declared.layout.Laid.the-variants as laid
+use Rattle.placing.specs.Standing.{copiesIn, standing, Past}
+use Rattle.placing.specs.Got.{After}
+use Rattle.placing.specs.History.{chainIn}
+use Rattle.placing.specs.InWords.{structuresIn, dataIn, placedIn, Columns}
+
+-- ---- the HD comment and the history chain
+
+-- nothing is copied, and what is placed ends at 168
+abbrev pub start : Copying
+start = record { used = 0; next = 168 }
+
+pub record FirstCopies (count : ℕ) (s m m' : List ℕ) (t : Copying) : Type 0 where
+  pub comment : Copies
+  pub isComment : copyRoot s (linkAt s 64 5) (copies [] 168) ≡ ok comment
+  pub isPast : historyOf s (linkAt s 64 1) comment ≡ ok (history (chainIn m' count) (standing m' t))
+  pub few : count ≤ 2049
+  pub after : After 0 start t
+  pub past : Past (2 * t .used) (blit historyAt (chainIn m' count) m) m'
+
+abbrev pub Begins : List ℕ → List ℕ → List ℕ → Chain → Type 0
+Begins s m m' (chain.At count t) = FirstCopies count s m m' t
+Begins s m m' (chain.Refused number place) =
+    andThen (copyRoot s (linkAt s 64 5) (copies [] 168)) (λ x. historyOf s (linkAt s 64 1) x) ≡ refused number place
+
+-- ---- places of columns, and attachments
+
+-- past the columns' DG, CG, CN and DL, and past their data, after copies
+abbrev pub metadataEndIn : List ℕ → ℕ → List ℕ → ℕ → Copying → ℕ
+metadataEndIn s size w n st = structuresIn s size w 0 n (align8 (st .next))
+
+abbrev pub attachedIn : List ℕ → ℕ → List ℕ → List ℕ → ℕ → List ℕ → Copying → Checked Attached
+attachedIn s size w f n m st =
+    attachmentsOf s (linkAt s 64 3) (copies (copiesIn m (st .used)) (dataIn s size w f 0 n (metadataEndIn s size w n st)))
+
+pub record Rested (s : List ℕ) (size : ℕ) (w f : List ℕ) (n : ℕ) (m m' : List ℕ) (st : Copying) (count end : ℕ) (t : Copying) : Type 0 where
+  pub told : Attached
+  pub is : attachedIn s size w f n m st ≡ ok told
+  pub made : told .made ≡ standing m' t
+  pub counted : length (told .attachments) ≡ count
+  pub ends : end ≡ metadataEndIn s size w n st
+  pub few : count ≤ 64
+  pub more : st .used ≤ t .used
+  pub most : t .used ≤ 2048
+  pub past : Past (2 * t .used) (blit attachmentsAt (attachmentWords (told .attachments))
+    (blit placedAt (placedIn s size w f 0 n (align8 (st .next)) (metadataEndIn s size w n st)) m)) m'
+
+abbrev pub Rests : List ℕ → ℕ → List ℕ → List ℕ → ℕ → List ℕ → List ℕ → Copying → Rest → Type 0
+Rests s size w f n m m' st (rest.At count end t) = Rested s size w f n m m' st count end t
+Rests s size w f n m m' st (rest.Refused number place) = attachedIn s size w f n m st ≡ refused number place
+
+-- ---- the whole
+
+-- the numbers are those of the layout, and the words at exit are those at entry with the layout laid over them
+pub record Numbered (l : Layout) (m m' : List ℕ) (r : Numbers) : Type 0 where
+  pub history : r .history ≡ length (l .past .made .memo)
+  pub chain : r .chain ≡ length (l .past .chain)
+  pub md : r .md ≡ l .md
+  pub fh : r .fh ≡ l .fh
+  pub metadata : r .metadata ≡ length (l .metadata .memo)
+  pub copies : r .copies ≡ length (l .attached .made .memo)
+  pub attachments : r .attachments ≡ length (l .attached .attachments)
+  pub metadataEnd : r .«metadata_end» ≡ l .metadataEnd
+  pub fileSize : r .«file_size» ≡ l .fileSize
+  pub words : m' ≡ laidCopies l m
+
+pub record LaidOut (m m' : List ℕ) (r : Numbers) (v : Checked Layout) : Type 0 where
+  pub told : Layout
+  pub is : v ≡ ok told
+  pub numbered : Numbered told m m' r
+
+-- after a refusal the words are not said
+abbrev pub Lays : List ℕ → List ℕ → Laid → Checked Layout → Type 0
+Lays m m' (laid.Done r) v = LaidOut m m' r v
+Lays m m' (laid.Refused number place) v = v ≡ refused number place
+
+-- of all columns that stand in the words
+pub record LaysOut (s : List ℕ) (size text : ℕ) (w f : List ℕ) (n : ℕ) (m m' : List ℕ) (r : Laid) : Type 0 where
+  pub is : (k : ℕ) (cs : List Column) → Columns w f k 0 cs → length cs ≡ n → Lays m m' r (layout s size text cs)

@@ -1,0 +1,279 @@
+-- The stages of the whole layout, one law for each way of the code.
+use Prim.Native.Nat.{ℕ, _+_, _*_, _≤_}
+use mathlib.Core.List.{List, []}
+use mathlib.Core.Path.{_≡_, refl, sym, ap, _∙_, subst}
+use native.Mathlib.Omega.{arith}
+use lib.ListN.{length}
+use Rattle.base.specs.Checked.{Checked, ok, refused, andThen}
+use Rattle.base.specs.Blit.{blit}
+use Rattle.mdf.specs.Block.{linkAt}
+use Rattle.plan.specs.Columns.{Column}
+use Rattle.plan.specs.Geometry.{align8}
+use Rattle.plan.specs.Copies.{Copies, copies, copyRoot, History, history, historyOf, columnCopies, Attached, attachmentsOf}
+use Rattle.plan.specs.CopyWords.{copyWords, attachmentWords, attachmentsAt, historyAt, placedAt, placedWords, laidCopies}
+use Rattle.plan.specs.Layout.{Layout, layout, mdSize, mdPlace, fhPlace, structurePlace, structureEnd, dataEnd, placedFrom}
+use Rattle.placing.specs.declared.memo.Copying.{Copying}
+use Rattle.placing.specs.declared.copier.Got.{Got}
+use Rattle.placing.specs.declared.copier.Got.the-variants as got
+use Rattle.placing.specs.declared.history.Chain.{Chain}
+use Rattle.placing.specs.declared.history.Chain.the-variants as chain
+use Rattle.placing.specs.declared.attachments.Moved.{Moved}
+use Rattle.placing.specs.declared.attachments.Moved.the-variants as moved
+use Rattle.placing.specs.declared.layout.Rest.{Rest}
+use Rattle.placing.specs.declared.layout.Rest.the-variants as rest
+use Rattle.placing.specs.declared.layout.Laid.the-variants as laid
+use Rattle.placing.specs.Standing.{copiesFrom, copiesIn, standing, Room, Past}
+use Rattle.placing.specs.StandingLaws.{length-copies, align-near, past-more, past-then}
+use Rattle.placing.specs.Got.{Copied, AfterGot}
+use Rattle.placing.specs.TurnLaws.{copied-at, copied-refused, after-at, after-then}
+use Rattle.placing.specs.History.{chainIn, Chained}
+use Rattle.placing.specs.HistoryLaws.{length-part}
+use Rattle.placing.specs.Attaching.{Moves}
+use Rattle.placing.specs.AttachingLaws.{past-blit, copies-blit}
+use Rattle.placing.specs.WordsLaws.{all-placed}
+use Rattle.placing.specs.InWords.{structuresIn, dataIn, placedIn, copiesOf, AllWithin, Columns}
+use Rattle.placing.specs.InWordsLaws.{all-few, structures-near, data-near}
+use Rattle.placing.specs.ColumnsLaws.{structures-of, data-of, placed-of, copies-of}
+use Rattle.placing.specs.Laying.{start, FirstCopies, Begins, metadataEndIn, attachedIn, Rested, Rests, Numbered, LaysOut}
+
+pub md-bytes : (n : ℕ) {r : ℕ} → r ≡ align8 (24 + n + 1) → r ≡ mdSize n
+unfolding mdSize
+md-bytes n e = e
+
+md-near : (n : ℕ) → mdSize n ≤ n + 32
+unfolding mdSize
+md-near n = omega (arith, align-near (24 + n + 1))
+
+-- ---- the HD comment, then the history chain
+start-standing : (m : List ℕ) → standing m start ≡ copies [] 168
+unfolding copiesFrom
+start-standing m = refl
+
+module _ (s m : List ℕ) {a : ℕ} (i : a ≡ linkAt s 64 5) {m₁ : List ℕ} {g : Got} (c : Copied m m₁ g (copyRoot s a (standing m start))) where
+  comment-is : copyRoot s a (standing m start) ≡ copyRoot s (linkAt s 64 5) (copies [] 168)
+  comment-is = rw (i, start-standing m)
+
+  pub first-refused : {n p : ℕ} → g ≡ got.Refused n p
+    → andThen (copyRoot s (linkAt s 64 5) (copies [] 168)) (λ x. historyOf s (linkAt s 64 1) x) ≡ refused n p
+  first-refused e = rw (← comment-is, ← copied-refused c e)
+
+  module _ {t : Copying} (e : g ≡ got.At t) (f : AfterGot g start) {b : ℕ} (j : b ≡ linkAt s 64 1) where
+    pub first-chain : {m' : List ℕ} (r : Chain) → Chained m₁ m' t r (historyOf s b (standing m₁ t)) → Begins s m m' r
+    first-chain {m'} (chain.At count u) h =
+        let d = copied-at c e in
+        let l = h .laid in
+        let k = after-at f e in
+        record {
+          comment = standing m₁ t;
+          isComment = sym (d .0 ∙ comment-is);
+          isPast = rw (← j) (sym (h .is));
+          few = l .few;
+          after = after-then k (l .after);
+          past = past-then (past-more _ (omega (arith, l .after .more)) (past-blit (chainIn m' count) 4352 (omega (arith, k .most)) (d .1))) (l .past) }
+    first-chain {m'} (chain.Refused n p) h = rw (← comment-is, ← d .0, ← j) (sym (h .is))
+      where
+        d : (ok (standing m₁ t) ≡ copyRoot s a (standing m start)) × Past (2 * t .used) m m₁
+        d = copied-at c e
+
+pub begins-at : (s m m' : List ℕ) (g : Chain) {count : ℕ} {t : Copying} → Begins s m m' g → g ≡ chain.At count t → FirstCopies count s m m' t
+begins-at s m m' g h e = subst (Begins s m m') e h
+
+pub record FirstNear (used md x : ℕ) : Type 0 where
+  pub md-near : md ≤ 1099511627951
+  pub near : md + x + 56 ≤ 1099511632143
+  pub room : Room used (md + x + 56)
+
+pub first-near : {count : ℕ} {s m m' : List ℕ} {st : Copying} → FirstCopies count s m m' st → {md : ℕ} → md ≡ align8 (st .next) → (text : ℕ)
+  → {x : ℕ} → x ≡ mdSize text → text ≤ 4096 → FirstNear (st .used) md x
+first-near {count} {s} {m} {m'} {st} o i text j h =
+    let a = align-near (st .next) in
+    let b = md-near text in
+    let k = o .after in
+    record { md-near = omega arith; near = omega arith; room = record { few = omega arith; near = omega arith } }
+
+-- ---- places of columns, then attachments
+module _ (s : List ℕ) (size : ℕ) (w f : List ℕ) (n : ℕ) (m : List ℕ) (st : Copying) {a e d l : ℕ} {m₁ : List ℕ}
+  (i : a ≡ align8 (st .next)) (j : e ≡ structuresIn s size w 0 n a) (k : d ≡ dataIn s size w f 0 n e)
+  (x : m₁ ≡ blit 6656 (placedIn s size w f 0 n a e) m) (y : l ≡ linkAt s 64 3) (few : st .used ≤ 2048) where
+  rest-is : attachmentsOf s l (standing m₁ (record { used = st .used; next = d })) ≡ attachedIn s size w f n m st
+  rest-is =
+      let z : copiesIn m₁ (st .used) ≡ copiesIn m (st .used) =
+            ap (λ (v : List ℕ). copiesIn v (st .used)) x ∙ copies-blit (placedIn s size w f 0 n a e) m (st .used) 6656 (omega arith) in
+      rw (z, y, k, j, i)
+
+  pub rest-moved : {m' : List ℕ} (r : Moved)
+    → Moves m₁ m' (record { used = st .used; next = d }) r (attachmentsOf s l (standing m₁ (record { used = st .used; next = d })))
+    → {count : ℕ} {t : Copying} → r ≡ moved.At count t → Rests s size w f n m m' st (rest.At count e t)
+  rest-moved {m'} r h {count} {t} q =
+      let g = subst (λ (v : Moved). Moves m₁ m' (record { used = st .used; next = d }) v (attachmentsOf s l (standing m₁ (record { used = st .used; next = d })))) q h in
+      let o = g .moving in
+      record {
+        told = o .told;
+        is = sym rest-is ∙ g .is;
+        made = o .made;
+        counted = o .counted;
+        ends = rw (← i) j;
+        few = o .few;
+        more = o .more;
+        most = o .most;
+        past = rw (← i, ← j, ← x) (o .past) }
+
+  pub rest-refused : (m' : List ℕ) (r : Moved)
+    → Moves m₁ m' (record { used = st .used; next = d }) r (attachmentsOf s l (standing m₁ (record { used = st .used; next = d })))
+    → {b p : ℕ} → r ≡ moved.Refused b p → Rests s size w f n m m' st (rest.Refused b p)
+  rest-refused m' r h q =
+      sym rest-is ∙ subst (λ (v : Moved). Moves m₁ m' (record { used = st .used; next = d }) v (attachmentsOf s l (standing m₁ (record { used = st .used; next = d })))) q h
+
+pub rests-at : (s : List ℕ) (size : ℕ) (w f : List ℕ) (n : ℕ) (m m' : List ℕ) (st : Copying) (r : Rest) {count end : ℕ} {t : Copying}
+  → Rests s size w f n m m' st r → r ≡ rest.At count end t → Rested s size w f n m m' st count end t
+rests-at s size w f n m m' st r h e = subst (Rests s size w f n m m' st) e h
+
+pub rest-near : (s : List ℕ) (size : ℕ) (w f : List ℕ) (n : ℕ) (st : Copying) {a e d : ℕ} → a ≡ align8 (st .next) → e ≡ structuresIn s size w 0 n a
+  → d ≡ dataIn s size w f 0 n e → n ≤ 512 → st .next ≤ 562949953421312 → AllWithin s size w f 0 n
+  → (a ≤ 562949953421319) × (e ≤ 1125899906842624) × (d ≤ 576460752303423488)
+rest-near s size w f n st {a} {e} {d} i j k h l b =
+    let x = align-near (st .next) in
+    let y = structures-near s size w 0 n a (all-few b) in
+    let z = data-near s size w f 0 n e b in
+    (omega arith, omega arith, omega arith)
+
+-- ---- the whole, from its stages
+then-through : {A B C : Type 0} (x : Checked A) (f : A → Checked B) (g : A → B → Checked C) {a b : ℕ} → andThen x f ≡ refused a b
+  → andThen x (λ v. andThen (f v) (g v)) ≡ refused a b
+then-through (ok v) f g e = rw e
+then-through {A} {B} {C} (refused n p) f g e = ap (λ (v : Checked B). andThen {B = C} v (λ _. refused 0 0)) e
+
+layout-first : (s : List ℕ) (size text : ℕ) (cs : List Column) {a b : ℕ}
+  → andThen (copyRoot s (linkAt s 64 5) (copies [] 168)) (λ x. historyOf s (linkAt s 64 1) x) ≡ refused a b → layout s size text cs ≡ refused a b
+unfolding layout
+layout-first s size text cs e = then-through (copyRoot s (linkAt s 64 5) (copies [] 168)) (λ x. historyOf s (linkAt s 64 1) x) _ e
+
+layoutOf : List ℕ → ℕ → ℕ → List Column → Copies → History → Copies → Attached → Layout
+layoutOf s size text cs m0 h m2 t =
+    record {
+      comment = m0;
+      past = h;
+      md = mdPlace (h .made);
+      fh = fhPlace (h .made) text;
+      metadata = m2;
+      placed = placedFrom s size (structurePlace m2) (structureEnd s size (structurePlace m2) cs) cs;
+      metadataEnd = structureEnd s size (structurePlace m2) cs;
+      attached = t;
+      fileSize = t .made .next }
+
+layoutRest : List ℕ → ℕ → ℕ → List Column → Copies → History → Copies → Checked Layout
+layoutRest s size text cs m0 h m2 =
+    andThen (attachmentsOf s (linkAt s 64 3) (copies (m2 .memo) (dataEnd s size (structureEnd s size (structurePlace m2) cs) cs)))
+    (λ t. ok (layoutOf s size text cs m0 h m2 t))
+
+layout-next : (s : List ℕ) (size text : ℕ) (cs : List Column) {m0 : Copies} {h : History} → copyRoot s (linkAt s 64 5) (copies [] 168) ≡ ok m0
+  → historyOf s (linkAt s 64 1) m0 ≡ ok h
+  → layout s size text cs ≡ andThen (columnCopies s cs (copies (h .made .memo) (fhPlace (h .made) text + 56))) (λ m2. layoutRest s size text cs m0 h m2)
+unfolding layout layoutRest layoutOf
+layout-next s size text cs a b = rw (a, b)
+
+module _ (s : List ℕ) (size text : ℕ) (w f : List ℕ) (n : ℕ) (m : List ℕ) where
+  pub whole-first : (m' : List ℕ) {m'' : List ℕ} (g : Chain) {a b : ℕ} → Begins s m m' g → g ≡ chain.Refused a b → LaysOut s size text w f n m m'' (laid.Refused a b)
+  whole-first m' g h e = record { is = λ k cs x l. layout-first s size text cs (subst (Begins s m m') e h) }
+
+  module _ {count : ℕ} {m₁ : List ℕ} {st : Copying} (o : FirstCopies count s m m₁ st) {md x : ℕ} (i : md ≡ align8 (st .next)) (j : x ≡ mdSize text)
+    {m₂ : List ℕ} {g : Got} (c : Copied m₁ m₂ g (copiesOf s w 0 n (standing m₁ (record { used = st .used; next = md + x + 56 })))) where
+    module _ (k : ℕ) (cs : List Column) (z : Columns w f k 0 cs) (l : length cs ≡ n) where
+      columns-is : copiesOf s w 0 n (standing m₁ (record { used = st .used; next = md + x + 56 }))
+        ≡ columnCopies s cs (copies (copiesIn m₁ (st .used)) (fhPlace (standing m₁ st) text + 56))
+      unfolding fhPlace mdPlace
+      columns-is = rw (← l, i, j) (copies-of s size w f k 0 cs (copies (copiesIn m₁ (st .used)) (align8 (st .next) + mdSize text + 56)) z)
+
+      columns-next : {v : Checked Copies} → v ≡ copiesOf s w 0 n (standing m₁ (record { used = st .used; next = md + x + 56 }))
+        → layout s size text cs ≡ andThen v (λ m2. layoutRest s size text cs (o .comment) (history (chainIn m₁ count) (standing m₁ st)) m2)
+      columns-next e =
+          layout-next s size text cs (o .isComment) (o .isPast)
+          ∙ ap (λ (v : Checked Copies). andThen v (λ m2. layoutRest s size text cs (o .comment) (history (chainIn m₁ count) (standing m₁ st)) m2)) (sym (e ∙ columns-is))
+
+    pub whole-columns : {m' : List ℕ} {a b : ℕ} → g ≡ got.Refused a b → LaysOut s size text w f n m m' (laid.Refused a b)
+    whole-columns e = record { is = λ k cs z l. columns-next k cs z l (copied-refused c e) }
+
+    module _ {t : Copying} (e : g ≡ got.At t) where
+      ends-is : (k : ℕ) (cs : List Column) → Columns w f k 0 cs → length cs ≡ n → metadataEndIn s size w n t ≡ structureEnd s size (structurePlace (standing m₂ t)) cs
+      unfolding structurePlace
+      ends-is k cs z l = rw (← l) (structures-of s size w f k 0 (align8 (t .next)) cs z)
+
+      rest-of : (k : ℕ) (cs : List Column) → Columns w f k 0 cs → length cs ≡ n
+        → attachedIn s size w f n m₂ t
+        ≡ attachmentsOf s (linkAt s 64 3) (copies (copiesIn m₂ (t .used)) (dataEnd s size (structureEnd s size (structurePlace (standing m₂ t)) cs) cs))
+      rest-of k cs z l =
+          let d : dataIn s size w f 0 n (metadataEndIn s size w n t) ≡ dataEnd s size (structureEnd s size (structurePlace (standing m₂ t)) cs) cs =
+                ap (dataIn s size w f 0 n) (ends-is k cs z l) ∙ rw (← l) (data-of s size w f k 0 (structureEnd s size (structurePlace (standing m₂ t)) cs) cs z) in
+          rw d
+
+      pub whole-rest : {m' : List ℕ} (r : Rest) {a b : ℕ} → Rests s size w f n m₂ m' t r → r ≡ rest.Refused a b → LaysOut s size text w f n m m' (laid.Refused a b)
+      unfolding layoutRest
+      whole-rest {m'} r h q = record {
+          is = λ k cs z l.
+            let v = subst (Rests s size w f n m₂ m' t) q h in
+            columns-next k cs z l (copied-at c e .0) ∙ rw (← rest-of k cs z l, v)
+        }
+
+      module _ {m₃ : List ℕ} {ats end : ℕ} {u : Copying} (q : Rested s size w f n m₂ m₃ t ats end u)
+        (same₁ : length m₁ ≡ length m) (same₂ : length m₂ ≡ length m₁) (same₃ : length m₃ ≡ length m₂) (long : 8192 ≤ length m)
+        (after : AfterGot g (record { used = st .used; next = md + x + 56 })) where
+        past-all : Past (2 * u .used) (blit attachmentsAt (attachmentWords (q .told .attachments))
+          (blit placedAt (placedIn s size w f 0 n (align8 (t .next)) (metadataEndIn s size w n t)) (blit historyAt (chainIn m₁ count) m))) m₃
+        past-all =
+            let y = after-at after e in
+            let p : Past (2 * t .used) (blit historyAt (chainIn m₁ count) m) m₂ =
+                  past-then (past-more _ (omega (arith, y .more)) (o .past)) (copied-at c e .1) in
+            past-then
+            (past-blit (attachmentWords (q .told .attachments)) 4096 (omega (arith, q .most))
+            (past-blit (placedIn s size w f 0 n (align8 (t .next)) (metadataEndIn s size w n t)) 6656 (omega (arith, q .most))
+            (past-more _ (omega (arith, q .more)) p)))
+            (q .past)
+
+        chain-long : length (chainIn m₁ count) ≡ count
+        chain-long = length-part 4352 count m₁ (omega (arith, o .few))
+
+        words-all : m₃ ≡ blit placedAt (placedIn s size w f 0 n (align8 (t .next)) (metadataEndIn s size w n t))
+          (blit historyAt (chainIn m₁ count) (blit attachmentsAt (attachmentWords (q .told .attachments)) (blit 0 (copyWords (q .told .made .memo)) m)))
+        words-all =
+            rw (q .made) (all-placed m m₃ (u .used) (chainIn m₁ count) (q .told .attachments)
+              (placedIn s size w f 0 n (align8 (t .next)) (metadataEndIn s size w n t)) (omega arith) (omega arith) (q .most)
+              (omega (arith, q .counted, q .few)) (omega (arith, chain-long, o .few)) past-all)
+
+        placed-is : (k : ℕ) (cs : List Column) → Columns w f k 0 cs → length cs ≡ n
+          → placedIn s size w f 0 n (align8 (t .next)) (metadataEndIn s size w n t)
+          ≡ placedWords (placedFrom s size (structurePlace (standing m₂ t)) (structureEnd s size (structurePlace (standing m₂ t)) cs) cs)
+        unfolding structurePlace
+        placed-is k cs z l =
+            ap (placedIn s size w f 0 n (align8 (t .next))) (ends-is k cs z l)
+            ∙ rw (← l) (placed-of s size w f k 0 (align8 (t .next)) (structureEnd s size (align8 (t .next)) cs) cs z)
+
+        numbers-all : (k : ℕ) (cs : List Column) → Columns w f k 0 cs → length cs ≡ n
+          → Numbered (layoutOf s size text cs (o .comment) (history (chainIn m₁ count) (standing m₁ st)) (standing m₂ t) (q .told)) m m₃
+            (record {
+              history = st .used; chain = count; md = md; fh = md + x; metadata = t .used; copies = u .used; attachments = ats;
+              «metadata_end» = end; «file_size» = u .next })
+        unfolding layoutOf laidCopies mdPlace fhPlace
+        numbers-all k cs z l =
+            record {
+              history = sym (length-copies m₁ 0 (st .used));
+              chain = sym chain-long;
+              md = i;
+              fh = rw (i, j);
+              metadata = sym (length-copies m₂ 0 (t .used));
+              copies = sym (ap (λ (y : Copies). length (y .memo)) (q .made) ∙ length-copies m₃ 0 (u .used));
+              attachments = sym (q .counted);
+              metadataEnd = q .ends ∙ ends-is k cs z l;
+              fileSize = sym (ap (λ (y : Copies). y .next) (q .made));
+              words = words-all ∙ ap (λ (y : List ℕ). blit placedAt y (blit historyAt (chainIn m₁ count)
+                (blit attachmentsAt (attachmentWords (q .told .attachments)) (blit 0 (copyWords (q .told .made .memo)) m)))) (placed-is k cs z l) }
+
+        pub whole-done : LaysOut s size text w f n m m₃ (laid.Done (record {
+            history = st .used; chain = count; md = md; fh = md + x; metadata = t .used; copies = u .used; attachments = ats;
+            «metadata_end» = end; «file_size» = u .next }))
+        unfolding layoutRest
+        whole-done = record {
+            is = λ k cs z l. record {
+              told = layoutOf s size text cs (o .comment) (history (chainIn m₁ count) (standing m₁ st)) (standing m₂ t) (q .told);
+              is = columns-next k cs z l (copied-at c e .0) ∙ rw (← rest-of k cs z l, q .is);
+              numbered = numbers-all k cs z l }
+          }

@@ -1,0 +1,187 @@
+// The columns, out of the words in which planning keeps them: sizes, places and copies.
+use channels::{width_of, block_count};
+use crate::memo::{Copying, aligned};
+use crate::copier::Got;
+use crate::roots::column_roots;
+ghost use mathlib.Core.Path.{_≡_};
+ghost use mathlib.Core.List.{[], _∷_};
+ghost use Prim.Native.Nat.{_+_, _*_, _≤_, _<_};
+ghost use lib.ListN.{length, getD};
+ghost use Rattle.base.specs.Blit.{blit};
+ghost use Rattle.plan.specs.Layout.{dlSize};
+ghost use Rattle.placing.specs.Standing.{standing, Room};
+ghost use Rattle.placing.specs.Got.{Copied, AfterGot};
+ghost use Rattle.placing.specs.InWords.{blocksAt, payloadAt, cgBytes, structureAt, blocksEndAt, sizesIn, signalAt, signalEndAt};
+ghost use Rattle.placing.specs.InWords.{structuresIn, dataIn, placedIn, copiesOf, AllWithin, AllFew};
+
+// Word i, 0 past the end.
+pub fn word(w: &[u64], i: u64) -> u64
+    ensures { λ r. ⌜ r ≡ getD (now (w .entry)) i 0 ⌝ }
+{
+    let k = i as usize;
+    if k < w.len() {
+        return w[k];
+    }
+    0
+}
+
+// Bytes of a CG, by the word of its master.
+pub fn cg_bytes(master: u64) -> u64
+    ensures { λ r. ⌜ r ≡ cgBytes master ⌝ }
+{
+    if master == 0 {
+        return 104;
+    }
+    112
+}
+
+// Bytes of a DL of n blocks: none without blocks.
+fn dl_bytes(n: u64) -> u64
+    requires { ⌜ n ≤ 4294967295 ⌝ }
+    ensures { λ r. ⌜ r ≡ dlSize n ⌝ }
+{
+    if n == 0 {
+        return 0;
+    }
+    24 + 8 * (n + 1) + 16
+}
+
+// Data blocks of the column with words from p on.
+fn blocks_at(image: &[u8], size: u64, columns: &[u64], p: u64) -> u64
+    requires { ⌜ p ≤ 4096 ⌝ }
+    ensures { λ r. ⌜ r ≡ blocksAt (now (image .entry)) size (now (columns .entry)) p ⌝ }
+{
+    let width = width_of(image, word(columns, p + 1), word(columns, p));
+    block_count(size, width, word(columns, p + 3))
+}
+
+// Its DG, CG, CN and DL.
+fn structure_at(image: &[u8], size: u64, columns: &[u64], p: u64) -> u64
+    requires { ⌜ (p ≤ 4096) × (blocksAt (now image) size (now columns) p ≤ 4294967295) ⌝ }
+    ensures { λ r. ⌜ r ≡ structureAt (now (image .entry)) size (now (columns .entry)) p ⌝ }
+{
+    let cg = cg_bytes(word(columns, p + 5));
+    let dl = dl_bytes(blocks_at(image, size, columns, p));
+    64 + cg + 160 + dl
+}
+
+// Past its data blocks, which begin at d.
+fn blocks_end(image: &[u8], size: u64, columns: &[u64], p: u64, d: u64) -> u64
+    requires { ⌜ (p ≤ 4096) × (d ≤ 1152921504606846976) × (blocksAt (now image) size (now columns) p ≤ 4294967295)
+        × (payloadAt (now image) (now columns) p ≤ 4398046511104) ⌝ }
+    ensures { λ r. ⌜ r ≡ blocksEndAt (now (image .entry)) size (now (columns .entry)) p d ⌝ }
+{
+    let blocks = blocks_at(image, size, columns, p);
+    let width = width_of(image, word(columns, p + 1), word(columns, p));
+    let payload = width * word(columns, p + 3);
+    aligned(d + (24 * blocks + payload))
+}
+
+// The sizes of n fragments, with words from q on.
+fn sizes_in(fragments: &[u64], q: u64, n: u64) -> u64
+    requires { ⌜ (q + 3 * n ≤ 1152921504606846976) × (sizesIn (now fragments) q n ≤ 4398046511104) ⌝ }
+    ensures { λ r. ⌜ r ≡ sizesIn (now (fragments .entry)) q n ⌝ }
+{
+    let mut at = q;
+    let mut left = n;
+    let mut sum: u64 = 0;
+    while 0 < left {
+        sum += word(fragments, at + 1);
+        at += 3;
+        left -= 1;
+    }
+    sum
+}
+
+// Past its SD, which begins at d.
+fn signal_end(fragments: &[u64], columns: &[u64], p: u64, d: u64) -> u64
+    requires { ⌜ (p ≤ 4096) × (d ≤ 1152921504606846976) × (getD (now columns) (p + 6) 0 + getD (now columns) (p + 7) 0 ≤ 1025)
+        × (signalAt (now columns) (now fragments) p ≤ 4398046511104) ⌝ }
+    ensures { λ r. ⌜ r ≡ signalEndAt (now (columns .entry)) (now (fragments .entry)) p d ⌝ }
+{
+    let first = word(columns, p + 6);
+    if first == 0 {
+        return d;
+    }
+    let bytes = sizes_in(fragments, 3 * (first - 1), word(columns, p + 7));
+    aligned(d + (24 + bytes))
+}
+
+// Past the DG, CG, CN and DL of n columns, which begin at a.
+pub(crate) fn structure_end(image: &[u8], size: u64, columns: &[u64], n: u64, a: u64) -> u64
+    requires { ⌜ (n ≤ 512) × (a ≤ 1125899906842624) × AllFew (now image) size (now columns) 0 n ⌝ }
+    ensures { λ r. ⌜ r ≡ structuresIn (now (image .entry)) size (now (columns .entry)) 0 n a ⌝ }
+{
+    let mut p: u64 = 0;
+    let mut left = n;
+    let mut end = a;
+    while 0 < left {
+        end += structure_at(image, size, columns, p);
+        p += 8;
+        left -= 1;
+    }
+    end
+}
+
+// The three words of a placed column, from word q on.
+fn put_place(memo: &mut [u64], q: usize, dg: u64, first: u64, sd: u64)
+    requires { ⌜ q + 3 ≤ length (now memo) ⌝ }
+    ensures { λ _. ⌜ now (memo .exit) ≡ blit q (dg ∷ first ∷ sd ∷ []) (now (memo .entry)) ⌝ }
+{
+    memo[q] = dg;
+    memo[q + 1] = first;
+    memo[q + 2] = sd;
+}
+
+// The places of n columns, whose DG begin at a and whose data begin at d, in the words from 6656 on; past their data.
+pub(crate) fn place_columns(image: &[u8], size: u64, fragments: &[u64], columns: &[u64], n: u64, memo: &mut [u64], a: u64, d: u64) -> u64
+    requires { ⌜ (n ≤ 512) × (a ≤ 1125899906842624) × (d ≤ 1125899906842624) × (8192 ≤ length (now memo))
+        × AllWithin (now image) size (now columns) (now fragments) 0 n ⌝ }
+    ensures end { λ r. ⌜ r ≡ dataIn (now (image .entry)) size (now (columns .entry)) (now (fragments .entry)) 0 n d ⌝ }
+    ensures words { λ r. ⌜ now (memo .exit) ≡ blit 6656 (placedIn (now (image .entry)) size (now (columns .entry)) (now (fragments .entry)) 0 n a d) (now (memo .entry)) ⌝ }
+{
+    let mut p: u64 = 0;
+    let mut q: usize = 6656;
+    let mut left = n;
+    let mut dg = a;
+    let mut first = d;
+    while 0 < left {
+        let sd = blocks_end(image, size, columns, p, first);
+        put_place(memo, q, dg, first, sd);
+        dg += structure_at(image, size, columns, p);
+        first = signal_end(fragments, columns, p, sd);
+        q += 3;
+        p += 8;
+        left -= 1;
+    }
+    first
+}
+
+// The blocks that n columns refer to, and all that they link to, in order.
+pub(crate) fn copy_columns(image: &[u8], columns: &[u64], n: u64, memo: &mut [u64], state: Copying) -> Got
+    requires { ⌜ (n ≤ 512) × (8192 ≤ length (now memo)) × Room (state .used) (state .next) ⌝ }
+    ensures { λ r. ⌜ Copied (now (memo .entry)) (now (memo .exit)) r
+        (copiesOf (now (image .entry)) (now (columns .entry)) 0 n (standing (now (memo .entry)) state)) ⌝ }
+    ensures after { λ r. ⌜ AfterGot r state ⌝ }
+{
+    let mut p: u64 = 0;
+    let mut left = n;
+    let mut st = state;
+    while 0 < left {
+        let dg = word(columns, p + 2);
+        let cg = word(columns, p + 1);
+        let cn = word(columns, p);
+        let got = column_roots(image, memo, dg, cg, cn, st);
+        match got {
+            Got::At(t) => {
+                st = t;
+            }
+            Got::Refused { number, place } => {
+                return Got::Refused { number, place };
+            }
+        }
+        p += 8;
+        left -= 1;
+    }
+    Got::At(st)
+}
