@@ -8,3 +8,6 @@ pub mod Sorted
 pub mod SortedSteps
 pub mod Wrote
 pub mod WroteLaws
+pub mod PlacedIn
+pub mod Structure
+pub mod StructureLaws
