@@ -21,16 +21,17 @@ use Rattle.base.specs.BlitLaws.{length-part, length-blit}
 use Rattle.mdf.specs.Block.{linkAt, dataAt}
 use Rattle.plan.specs.Channel.{channelBytes, keepsInval, width}
 use Rattle.plan.specs.Columns.{Signal, unsigned, signalData}
-use Rattle.plan.specs.Copies.{Copy}
+use Rattle.plan.specs.Copies.{Copy, copyOf}
 use Rattle.plan.specs.CopyWords.{placedAt}
 use Rattle.plan.specs.Geometry.{powerIn, stepOf, perBlock, perFull, blockCount, blockPayload}
 use Rattle.plan.specs.Layout.{columnWidth, columnBlocks, cgSize, dlSize, Placed, cgOf, cnOf, dlOf}
-use Rattle.result.specs.Fill.{Block, block, header, newLink, sdLink, nextDG, cgAt, dgBytes, cgBytes, cnBytes, dlBytes, dlBlocks, columnPayload, structureBlocks}
+use Rattle.result.specs.Fill.{Block, block, header, orZero, newLink, sdLink, nextDG, cgAt, dgBytes, cgBytes, cnBytes, dlBytes, dlBlocks, columnPayload, structureBlocks}
 use Rattle.result.specs.Ordered.{Ordered}
 use Rattle.copies_laws.specs.AnswerLaws.{on-eq}
 use Rattle.copies_laws.specs.LengthLaws.{InImage, length-header, length-blockLinks}
 use Rattle.filling.specs.Blocks.{dgFrom, cgHeader, cgFront, cgCounts, cgDataFrom, cgFrom, cnLinks, cnTypes, cnRest, cnFrom, dlFrom}
 use Rattle.filling.specs.FillLaws.{hasMaster, masterCG, dg-from, cg-from, cn-from, dl-from}
+use Rattle.placing.specs.Answer.{linkOf}
 use Rattle.placing.specs.Standing.{copiesIn}
 use Rattle.puts.specs.PutLaws.{lent-is}
 use Rattle.writing.specs.declared.placed.PlacedColumn.{PlacedColumn}
@@ -125,8 +126,62 @@ per-near size w h k =
       rw q (omega (arith, fit-near size w (stepOf w))))
     (lt-or-le (size / w / stepOf w * stepOf w) (stepOf w))
 
-pub payload-near : (size w n : ℕ) → size < 2 ^ 64 → w < 256 ^ 5 → perFull size w n * w < 2 ^ 64
-payload-near size w n h k = omega (arith, per-near size w h k, mul-le-mul-right w (full-le size w n))
+pub payload-near : (size w n : ℕ) {m : ℕ} → m ≡ perFull size w n → size < 2 ^ 64 → w < 256 ^ 5 → m * w < 2 ^ 64
+payload-near size w n e h k = rw e (omega (arith, per-near size w h k, mul-le-mul-right w (full-le size w n)))
+
+pub payload-is : (size w n x : ℕ) {m : ℕ} → m ≡ perFull size w n → w ≡ x → m * w ≡ blockPayload size x n
+unfolding blockPayload
+payload-is size w n x e q = rw (e, q)
+
+-- ---- a column's numbers
+pub size-near : (m : Option ℕ) → cgSize m ≤ 112
+size-near none = omega arith
+size-near (some m) = le-refl 112
+
+module _ (s : List ℕ) (size : ℕ) (columns memo : List ℕ) (n k : ℕ) where
+  pub column-made : {remote : Bool} {master x sd blocks payload : ℕ} → remote ≡ hasMaster (masterIn (getD columns (8 * k + 5) 0))
+    → master ≡ masterPlace memo n (getD columns (8 * k + 5) 0) → x ≡ cgSize (masterIn (getD columns (8 * k + 5) 0))
+    → sd ≡ sdLink (signalIn (getD columns (8 * k + 6) 0)) (getD memo (placedAt + 3 * k + 2) 0)
+    → blocks ≡ blockCount size (width s (getD columns (8 * k + 1) 0) (getD columns (8 * k) 0)) (getD columns (8 * k + 3) 0)
+    → payload ≡ blockPayload size (width s (getD columns (8 * k + 1) 0) (getD columns (8 * k) 0)) (getD columns (8 * k + 3) 0)
+    → record {
+        channel = getD columns (8 * k) 0; group = getD columns (8 * k + 1) 0; parent = getD columns (8 * k + 2) 0;
+        records = getD columns (8 * k + 3) 0; remote = remote; master = master; dg = getD memo (placedAt + 3 * k) 0;
+        cn = getD memo (placedAt + 3 * k) 0 + 64 + x; first = getD memo (placedAt + 3 * k + 1) 0; sd = sd; blocks = blocks; payload = payload }
+      ≡ columnOf s size columns memo n k
+  unfolding columnOf
+  column-made a b c d e f = rw (a, b, c, d, e, f)
+
+-- ---- links
+link-or : (o : Option ℕ) → linkOf o ≡ orZero o
+link-or none = refl
+link-or (some a) = refl
+
+pub link-new : (m : List Copy) (a b : ℕ) {r : ℕ} → r ≡ linkOf (copyOf b m) → b ≡ a → r ≡ newLink m a
+unfolding newLink
+link-new m a b e q = e ∙ link-or (copyOf b m) ∙ rw q
+
+-- ---- the blocks' bytes over what was laid
+module _ (s : List ℕ) (m : List Copy) (h : PlacedColumn) (d e : List ℕ) where
+  pub filled-dg : (next : ℕ) {dl comment : ℕ} → e ≡ blit 0 (dgFrom next (h .dg + 64) dl comment) d → dl ≡ ifEq (h .blocks) 0 0 (h .cn + 160)
+    → comment ≡ newLink m (linkAt s (h .parent) 3) → e ≡ blit 0 (columnDG s m h next) d
+  unfolding columnDG
+  filled-dg next i a b = i ∙ rw (a, b)
+
+  pub filled-cg : {name source comment bytes : ℕ} {inval : Bool}
+    → e ≡ blit 0 (cgFrom s (h .group) (h .cn) name source comment (h .remote) (h .master) (h .records) bytes inval) d
+    → name ≡ newLink m (linkAt s (h .group) 2) → source ≡ newLink m (linkAt s (h .group) 3) → comment ≡ newLink m (linkAt s (h .group) 5)
+    → bytes ≡ channelBytes s (h .channel) → inval ≡ keepsInval s (h .group) (h .channel) → e ≡ blit 0 (columnCG s m h) d
+  unfolding columnCG
+  filled-cg i a b c x y = i ∙ rw (a, b, c, x, y)
+
+  pub filled-cn : {name source conversion unit comment : ℕ} {keeps : Bool}
+    → e ≡ blit 0 (cnFrom s (h .channel) keeps name source conversion (h .sd) unit comment) d
+    → name ≡ newLink m (linkAt s (h .channel) 2) → source ≡ newLink m (linkAt s (h .channel) 3) → conversion ≡ newLink m (linkAt s (h .channel) 4)
+    → unit ≡ newLink m (linkAt s (h .channel) 6) → comment ≡ newLink m (linkAt s (h .channel) 7) → keeps ≡ keepsInval s (h .group) (h .channel)
+    → e ≡ blit 0 (columnCN s m h) d
+  unfolding columnCN
+  filled-cn i a b c x y z = i ∙ rw (a, b, c, x, y, z)
 
 -- ---- lengths
 pub length-columnDG : (s : List ℕ) (memo : List Copy) (h : PlacedColumn) (next : ℕ) → length (columnDG s memo h next) ≡ 64
@@ -163,16 +218,37 @@ unfolding dlSize
 dl-some n h = sym (eq-no n 0 _ _ h (omega arith))
 
 -- ---- one block: zeros up to its place, then what was laid over the rest
-pub wrote-at : (a to r : ℕ) (bs out mid ys : List ℕ) → a ≤ to → r ≡ to + length bs → mid ≡ blit a (replicate (to - a) 0) out
+wrote-at : (a to r : ℕ) (bs out mid ys : List ℕ) → a ≤ to → r ≡ to + length bs → mid ≡ blit a (replicate (to - a) 0) out
   → ys ≡ blit 0 bs (midOf to (length mid - to) mid) → Wrote a (block to bs ∷ []) r out (putMid to (length mid - to) mid ys)
 wrote-at a to r bs out mid ys h l g e =
     rw l (wrote-block (block to bs) h (lent-is to bs mid ys e ∙ ap (blit to bs) g))
 
-pub wrote-dl : {a r : ℕ} (h : PlacedColumn) {out last : List ℕ} → (h .blocks ≡ 0 → ⊥)
-  → Wrote a (block (h .cn + 160) (columnDL h) ∷ []) r out last → Wrote a (columnDLs h) r out last
-unfolding columnDLs
-wrote-dl {a} {r} h {out} {last} z w =
-    subst (λ (bs : List Block). Wrote a bs r out last) (eq-no (h .blocks) 0 _ _ z refl) w
+module _ (s : List ℕ) (m : List Copy) (h : PlacedColumn) (a : ℕ) (out mid ys : List ℕ) where
+  pub wrote-dg : (next : ℕ) → mid ≡ blit a (replicate (h .dg - a) 0) out
+    → ys ≡ blit 0 (columnDG s m h next) (midOf (h .dg) (length mid - h .dg) mid) → a ≤ h .dg
+    → Wrote a (block (h .dg) (columnDG s m h next) ∷ []) (h .dg + 64) out (putMid (h .dg) (length mid - h .dg) mid ys)
+  wrote-dg next g e l = wrote-at a (h .dg) (h .dg + 64) (columnDG s m h next) out mid ys l (rw (length-columnDG s m h next)) g e
+
+  pub wrote-cg : mid ≡ blit a (replicate (h .dg + 64 - a) 0) out
+    → ys ≡ blit 0 (columnCG s m h) (midOf (h .dg + 64) (length mid - (h .dg + 64)) mid) → a ≤ h .dg + 64
+    → h .cn ≡ h .dg + 64 + cgLength (h .remote) → dataAt s (h .group) + 32 ≤ length s
+    → Wrote a (block (h .dg + 64) (columnCG s m h) ∷ []) (h .cn) out (putMid (h .dg + 64) (length mid - (h .dg + 64)) mid ys)
+  wrote-cg g e l q i = wrote-at a (h .dg + 64) (h .cn) (columnCG s m h) out mid ys l (q ∙ rw (length-columnCG s m h i)) g e
+
+  pub wrote-cn : mid ≡ blit a (replicate (h .cn - a) 0) out
+    → ys ≡ blit 0 (columnCN s m h) (midOf (h .cn) (length mid - h .cn) mid) → a ≤ h .cn → dataAt s (h .channel) + 72 ≤ length s
+    → Wrote a (block (h .cn) (columnCN s m h) ∷ []) (h .cn + 160) out (putMid (h .cn) (length mid - h .cn) mid ys)
+  wrote-cn g e l i = wrote-at a (h .cn) (h .cn + 160) (columnCN s m h) out mid ys l (rw (length-columnCN s m h i)) g e
+
+pub wrote-dl : (h : PlacedColumn) (a : ℕ) (out mid ys : List ℕ) → mid ≡ blit a (replicate (h .cn + 160 - a) 0) out
+  → ys ≡ blit 0 (dlFrom (h .payload) (h .blocks) (h .first)) (midOf (h .cn + 160) (length mid - (h .cn + 160)) mid) → a ≤ h .cn + 160
+  → (h .blocks ≡ 0 → ⊥)
+  → Wrote a (columnDLs h) (h .cn + 160 + (48 + 8 * h .blocks)) out (putMid (h .cn + 160) (length mid - (h .cn + 160)) mid ys)
+unfolding columnDLs columnDL
+wrote-dl h a out mid ys g e l z =
+    subst (λ (bs : List Block). Wrote a bs (h .cn + 160 + (48 + 8 * h .blocks)) out (putMid (h .cn + 160) (length mid - (h .cn + 160)) mid ys))
+    (eq-no (h .blocks) 0 _ _ z refl)
+    (wrote-at a (h .cn + 160) _ (columnDL h) out mid ys l (rw (length-columnDL h)) g e)
 
 pub wrote-no-dl : (a : ℕ) (h : PlacedColumn) (out : List ℕ) → h .blocks ≡ 0 → Wrote a (columnDLs h) a out out
 unfolding columnDLs
@@ -382,10 +458,12 @@ module _ {s : List ℕ} {size : ℕ} {columns memo : List ℕ} {n used a : ℕ} 
       let e : n - k ≡ suc (n - (k + 1)) = omega arith in
       room-of s size (copiesIn memo used) columns memo n k (n - (k + 1)) to (length out) (omega arith) (q .seen k h) (rw e at (t .ordered))
 
-  pub structures-turn : {k to r : ℕ} {out last : List ℕ} → Structures s size columns memo n used a out₀ k to out → k < n
-    → Wrote to (columnParts s (copiesIn memo used) (columnOf s size columns memo n k) (nextPlace memo n k)) r out last → length last ≡ length out
+  pub structures-turn : {k to r next : ℕ} {h : PlacedColumn} {out last : List ℕ} → Structures s size columns memo n used a out₀ k to out → k < n
+    → h ≡ columnOf s size columns memo n k → next ≡ nextPlace memo n k
+    → Wrote to (columnParts s (copiesIn memo used) h next) r out last → length last ≡ length out
     → Structures s size columns memo n used a out₀ (k + 1) r last
-  structures-turn {k} {to} {r} {out} {last} t h w l =
+  structures-turn {k} {to} {r} {out = out} {last = last} t h c x v l =
+      let w : Wrote to (columnParts s (copiesIn memo used) (columnOf s size columns memo n k) (nextPlace memo n k)) r out last = rw (c, x) at v in
       let m : List Copy = copiesIn memo used in
       let all : List Placed = placedIn columns memo 0 n in
       let e : n - k ≡ suc (n - (k + 1)) = omega arith in
@@ -398,4 +476,4 @@ module _ {s : List ℕ} {size : ℕ} {columns memo : List ℕ} {n used a : ℕ} 
         few = omega arith;
         same = l ∙ t .same;
         ordered = rw (w .end, l) (ordered-back to parts later (length out) o);
-        rest = λ x fin v. t .rest x fin (rw whole (wrote-append (length out) w v o)) }
+        rest = λ y fin u. t .rest y fin (rw whole (wrote-append (length out) w u o)) }

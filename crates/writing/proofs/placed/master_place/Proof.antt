@@ -1,46 +1,37 @@
+-- The master's DG, 64 bytes before its CG.
+use Rattle.writing.specs.StructureLaws.{place-no, place-past, place-yes}
 use native.Mathlib.Omega.{arith}
 use lib.ListN.{length, length-set}
 use borrow.Author.Needs.{needs}
 use Rattle.writing.proofs.placed.master_place.Statement.{statement}
 use Rattle.writing.proofs.placed.master_place.Tie as tie
-use Rattle.writing.proofs.placed.master_place.Reads as reads
-use Rattle.writing.proofs.placed.master_place.Lts as lts
 
--- src/placed.rt:67:9
 returns : tie.Need-returns
-returns c = search needs
+returns c = place-no _ _ _ (omega arith)
 
--- src/placed.rt:69:13
 sub-m : tie.Need-sub-m
 sub-m c = search needs
 
--- src/placed.rt:71:9
 returns-2 : tie.Need-returns-2
-returns-2 c = search needs
+returns-2 c = place-past _ _ _ (omega arith) (omega arith)
 
--- src/placed.rt:73:18
 mul-result : tie.Need-mul-result
 mul-result c = search needs
 
--- src/placed.rt:73:11
 add-result : tie.Need-add-result
 add-result c = search needs
 
--- src/placed.rt:73:5
 mul-result-2 : tie.Need-mul-result-2
 mul-result-2 c = search needs
 
--- src/placed.rt:73:5
 shared-slice-read-result : tie.Need-shared-slice-read-result
 shared-slice-read-result c = search needs
 
--- src/placed.rt:73:5
 add-result-2 : tie.Need-add-result-2
-add-result-2 c = search needs
+add-result-2 c = omega (arith, c .before .before .before .pre .below (c .before .before .before .args .word - 1) (omega arith))
 
--- src/placed.rt:62:1
 returns-3 : tie.Need-returns-3
-returns-3 c = search needs
+returns-3 c = place-yes _ _ _ (omega arith) (omega arith)
 
 pub master-place-spec : {M : Type 1} → statement M
 master-place-spec =

@@ -1,38 +1,28 @@
+-- DG, CG, CN and DL, each where the one before ends.
+use Rattle.writing.specs.StructureLaws.{length-columnDG, length-columnCG, length-columnCN, past-one, wrote-column}
 use native.Mathlib.Omega.{arith}
 use lib.ListN.{length, length-set}
 use borrow.Author.Needs.{needs}
 use Rattle.writing.proofs.structure.write_column.Statement.{statement}
 use Rattle.writing.proofs.structure.write_column.Tie as tie
-use Rattle.writing.proofs.structure.write_column.Reads as reads
-use Rattle.writing.proofs.structure.write_column.Lts as lts
-use Rattle.writing.proofs.structure.write_cg.Reads as write-cg-reads
-use Rattle.writing.proofs.structure.write_cn.Reads as write-cn-reads
-use Rattle.writing.proofs.structure.write_dg.Reads as write-dg-reads
-use Rattle.writing.proofs.structure.write_dl.Reads as write-dl-reads
 
--- src/structure.rt:134:9
 write-dg-requires : tie.Need-write-dg-requires
-write-dg-requires c κs = search needs
+write-dg-requires c κs = ?
 
--- src/structure.rt:135:9
 write-cg-requires : tie.Need-write-cg-requires
-write-cg-requires c κs = search needs
+write-cg-requires c κs = (omega (arith, past-one _ 64 (c .before .before .before .write-dg .ensures) (length-columnDG _ _ _ _)), c .before .before .before .before .before .before .before .before .pre .cn, omega (arith, c .before .before .before .before .before .before .before .before .pre .ends, c .before .before .before .write-dg .kept), c .before .before .before .before .before .before .before .before .pre .group)
 
--- src/structure.rt:136:9
 write-cn-requires : tie.Need-write-cn-requires
-write-cn-requires c κs = search needs
+write-cn-requires c κs = (omega (arith, c .before .before .before .before .before .before .before .before .before .before .before .before .pre .cn, past-one _ _ (c .before .before .before .write-cg .ensures) (length-columnCG _ _ _ (c .before .before .before .before .before .before .before .before .before .before .before .before .pre .group))), omega (arith, c .before .before .before .before .before .before .before .before .before .before .before .before .pre .ends, c .before .before .before .before .before .before .before .write-dg .kept, c .before .before .before .write-cg .kept), c .before .before .before .before .before .before .before .before .before .before .before .before .pre .channel)
 
--- src/structure.rt:137:5
 write-dl-requires : tie.Need-write-dl-requires
-write-dl-requires c κs = search needs
+write-dl-requires c κs = (omega (arith, past-one _ 160 (c .before .before .before .write-cn .ensures) (length-columnCN _ _ _ (c .before .before .before .before .before .before .before .before .before .before .before .before .before .before .before .before .pre .channel))), omega (arith, c .before .before .before .before .before .before .before .before .before .before .before .before .before .before .before .before .pre .ends, c .before .before .before .before .before .before .before .before .before .before .before .write-dg .kept, c .before .before .before .before .before .before .before .write-cg .kept, c .before .before .before .write-cn .kept))
 
--- src/structure.rt:129:1
 same-length : tie.Need-same-length
-same-length c = search needs
+same-length c = ?
 
--- src/structure.rt:129:1
 returns : tie.Need-returns
-returns c = search needs
+returns c = wrote-column _ _ (c .before .before .before .before .before .before .before .before .before .before .before .before .before .before .before .before .before .before .before .pre) (c .before .before .before .before .before .before .before .before .before .before .before .before .before .before .write-dg .ensures) (c .before .before .before .before .before .before .before .before .before .before .write-cg .ensures) (c .before .before .before .before .before .before .write-cn .ensures) (c .before .before .write-dl .ensures)
 
 pub write-column-spec : {M : Type 1} → statement M
 write-column-spec =

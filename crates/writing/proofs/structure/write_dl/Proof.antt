@@ -1,60 +1,46 @@
+-- Zeros, then the DL; nothing without data blocks.
+use Rattle.writing.specs.StructureLaws.{dl-some, wrote-dl, wrote-no-dl}
 use native.Mathlib.Omega.{arith}
 use lib.ListN.{length, length-set}
 use borrow.Author.Needs.{needs}
 use Rattle.writing.proofs.structure.write_dl.Statement.{statement}
 use Rattle.writing.proofs.structure.write_dl.Tie as tie
-use Rattle.writing.proofs.structure.write_dl.Reads as reads
-use Rattle.writing.proofs.structure.write_dl.Lts as lts
-use Rattle.filling.proofs.put_dl.Reads as put-dl-reads
-use Rattle.writing.proofs.gap.gap.Reads as gap-reads
 
--- src/structure.rt:120:9
 returns : tie.Need-returns
-returns c = search needs
+returns c = wrote-no-dl _ _ _ (omega arith)
 
--- src/structure.rt:122:15
 add-to : tie.Need-add-to
 add-to c = search needs
 
--- src/structure.rt:123:5
 gap-requires : tie.Need-gap-requires
 gap-requires c κs = search needs
 
--- src/structure.rt:124:12
 sub-put-dl : tie.Need-sub-put-dl
 sub-put-dl c = search needs
 
--- src/structure.rt:124:12
 part-put-dl-start : tie.Need-part-put-dl-start
 part-put-dl-start c = search needs
 
--- src/structure.rt:124:12
 part-put-dl-end : tie.Need-part-put-dl-end
 part-put-dl-end c = search needs
 
--- src/structure.rt:124:5
 put-dl-requires : tie.Need-put-dl-requires
 put-dl-requires c κs = search needs
 
--- src/structure.rt:125:16
 mul-result : tie.Need-mul-result
-mul-result c = search needs
+mul-result c = omega (arith, c .before .before .before .before .before .before .before .before .before .before .before .pre .1, dl-some (c .before .before .before .before .before .before .before .before .before .before .before .args .h .blocks) (omega arith))
 
--- src/structure.rt:125:11
 add-result : tie.Need-add-result
-add-result c = search needs
+add-result c = omega (arith, c .before .before .before .before .before .before .before .before .before .before .before .pre .1, dl-some (c .before .before .before .before .before .before .before .before .before .before .before .args .h .blocks) (omega arith))
 
--- src/structure.rt:125:5
 add-result-2 : tie.Need-add-result-2
-add-result-2 c = search needs
+add-result-2 c = omega (arith, c .before .before .before .before .before .before .before .before .before .before .before .pre .1, dl-some (c .before .before .before .before .before .before .before .before .before .before .before .args .h .blocks) (omega arith))
 
--- src/structure.rt:114:1
 same-length : tie.Need-same-length
 same-length c = search needs
 
--- src/structure.rt:114:1
 returns-2 : tie.Need-returns-2
-returns-2 c = search needs
+returns-2 c = wrote-dl _ _ _ _ _ (c .before .before .before .before .before .before .gap .ensures) (c .before .before .put-dl .ensures) (omega arith) (omega arith)
 
 pub write-dl-spec : {M : Type 1} → statement M
 write-dl-spec =
