@@ -345,19 +345,24 @@ module _ (s : List ℕ) (size : ℕ) (m : List Copy) (columns memo : List ℕ) (
   unfolding dlBlocks columnDLs columnDL columnOf columnBlocks columnWidth columnPayload placedOne columnIn
   dl-same = rw (dl-from s size m (placedOne columns memo k))
 
+  parts-open : (next : ℕ) (bs : List Block)
+    → block (placedOne columns memo k .dg) (columnDG s m (columnOf s size columns memo n k) next)
+      ∷ block (cgOf (placedOne columns memo k)) (columnCG s m (columnOf s size columns memo n k))
+      ∷ block (cnOf (placedOne columns memo k)) (columnCN s m (columnOf s size columns memo n k)) ∷ (columnDLs (columnOf s size columns memo n k) ++ bs)
+    ≡ columnParts s m (columnOf s size columns memo n k) next ++ bs
+  unfolding columnParts columnOf placedOne columnIn
+  parts-open next bs = refl
+
 -- one column's blocks, then the others'
 pub structure-cons : (s : List ℕ) (size : ℕ) (m : List Copy) (columns memo : List ℕ) (n k j : ℕ) → k + suc j ≡ n
   → structureBlocks s size m (placedIn columns memo 0 n) (placedIn columns memo k (suc j))
   ≡ columnParts s m (columnOf s size columns memo n k) (nextPlace memo n k)
     ++ structureBlocks s size m (placedIn columns memo 0 n) (placedIn columns memo (k + 1) j)
-unfolding structureBlocks columnParts
+unfolding structureBlocks
 structure-cons s size m columns memo n k j e =
-    cons-open ∙ rw (dg-same s size m columns memo n k (next-in columns memo n k j e), cg-same s size m columns memo n k, cn-same s size m columns memo n k,
-      dl-same s size m columns memo n k)
-  where
-    cons-open : structureBlocks s size m (placedIn columns memo 0 n) (placedIn columns memo k (suc j))
-      ≡ structureBlocks s size m (placedIn columns memo 0 n) (placedOne columns memo k ∷ placedIn columns memo (k + 1) j)
-    cons-open = ap (structureBlocks s size m (placedIn columns memo 0 n)) (placed-cons columns memo k j)
+    ap (structureBlocks s size m (placedIn columns memo 0 n)) (placed-cons columns memo k j)
+    ∙ rw (dg-same s size m columns memo n k (next-in columns memo n k j e), cg-same s size m columns memo n k, cn-same s size m columns memo n k,
+      dl-same s size m columns memo n k) (parts-open s size m columns memo n k (nextPlace memo n k) _)
 
 -- ---- room, by the order of blocks
 dl-none : (n : ℕ) → n ≡ 0 → dlSize n ≡ 0
@@ -429,7 +434,10 @@ near-ready {s} {size} {columns} {memo} {n} {used} {a} {e} q h =
     record {
       few = q .few;
       long = q .placed;
-      below = λ i l. omega (arith, dg-in s size (copiesIn memo used) (placedIn columns memo 0 n) columns memo 0 n i a e (q .ordered) l) }
+      below = λ i l.
+        let x : getD memo (placedAt + 3 * i) 0 ≤ e =
+            rw zero-add at (dg-in s size (copiesIn memo used) (placedIn columns memo 0 n) columns memo 0 n i a e (q .ordered) l) in
+        omega (arith, x, h) }
 
 -- ---- all columns, the first of which is number k, are left to be written; written, they give what all give
 pub record Structures (s : List ℕ) (size : ℕ) (columns memo : List ℕ) (n used a : ℕ) (out₀ : List ℕ) (k to : ℕ) (out : List ℕ) : Type 0 where

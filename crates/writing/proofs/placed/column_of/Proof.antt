@@ -1,8 +1,10 @@
 -- Each number as the words give it.
+use Prim.Native.Nat.{_+_, _*_}
+use lib.ListN.{getD}
 use Rattle.writing.specs.PlacedIn.{masterIn}
 use Rattle.writing.specs.StructureLaws.{size-near, column-made}
 use native.Mathlib.Omega.{arith}
-use lib.ListN.{length, length-set}
+use lib.ListN.{length}
 use borrow.Author.Needs.{needs}
 use Rattle.writing.proofs.placed.column_of.Statement.{statement}
 use Rattle.writing.proofs.placed.column_of.Tie as tie
@@ -68,7 +70,7 @@ cg-size-requires : tie.Need-cg-size-requires
 cg-size-requires c κs = search needs
 
 add-cn-2 : tie.Need-add-cn-2
-add-cn-2 c = omega (arith, c .before .before .before .before .before .before .before .before .before .before .before .pre .0 .below (c .before .before .before .before .before .before .before .before .before .before .before .args .k) (c .before .before .before .before .before .before .before .before .before .before .before .pre .1), c .cg-size .ensures, size-near (masterIn (c@word)))
+add-cn-2 c = omega (arith, c .before .before .before .before .before .before .before .before .before .before .before .pre .0 .below (c .before .before .before .before .before .before .before .before .before .before .before .args .k) (c .before .before .before .before .before .before .before .before .before .before .before .pre .1), c .cg-size .ensures, size-near (masterIn (getD (c .before .before .before .before .before .before .before .before .before .before .before .args .columns .now) (8 * c .before .before .before .before .before .before .before .before .before .before .before .args .k + 5) 0)))
 
 add-sd-link : tie.Need-add-sd-link
 add-sd-link c = search needs

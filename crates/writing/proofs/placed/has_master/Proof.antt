@@ -2,7 +2,7 @@
 use Rattle.writing.specs.StructureLaws.{master-no, master-yes}
 use borrow.Author.Needs.{needs}
 use native.Mathlib.Omega.{arith}
-use lib.ListN.{length, length-set}
+use lib.ListN.{length}
 use Rattle.writing.proofs.placed.has_master.Statement.{statement}
 use Rattle.writing.proofs.placed.has_master.Tie as tie
 

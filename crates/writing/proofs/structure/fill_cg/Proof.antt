@@ -1,7 +1,7 @@
 -- A CG over the column's numbers.
 use Rattle.writing.specs.StructureLaws.{filled-cg}
 use native.Mathlib.Omega.{arith}
-use lib.ListN.{length, length-set}
+use lib.ListN.{length}
 use borrow.Author.Needs.{needs}
 use Rattle.writing.proofs.structure.fill_cg.Statement.{statement}
 use Rattle.writing.proofs.structure.fill_cg.Tie as tie

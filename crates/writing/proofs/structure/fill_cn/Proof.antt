@@ -1,7 +1,7 @@
 -- A CN over the column's numbers.
 use Rattle.writing.specs.StructureLaws.{filled-cn}
 use native.Mathlib.Omega.{arith}
-use lib.ListN.{length, length-set}
+use lib.ListN.{length}
 use borrow.Author.Needs.{needs}
 use Rattle.writing.proofs.structure.fill_cn.Statement.{statement}
 use Rattle.writing.proofs.structure.fill_cn.Tie as tie

@@ -1,7 +1,7 @@
 -- Zeros, then the CG.
 use Rattle.writing.specs.StructureLaws.{wrote-cg}
 use native.Mathlib.Omega.{arith}
-use lib.ListN.{length, length-set}
+use lib.ListN.{length}
 use borrow.Author.Needs.{needs}
 use Rattle.writing.proofs.structure.write_cg.Statement.{statement}
 use Rattle.writing.proofs.structure.write_cg.Tie as tie

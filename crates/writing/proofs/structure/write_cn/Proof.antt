@@ -1,7 +1,7 @@
 -- Zeros, then the CN.
 use Rattle.writing.specs.StructureLaws.{wrote-cn}
 use native.Mathlib.Omega.{arith}
-use lib.ListN.{length, length-set}
+use lib.ListN.{length}
 use borrow.Author.Needs.{needs}
 use Rattle.writing.proofs.structure.write_cn.Statement.{statement}
 use Rattle.writing.proofs.structure.write_cn.Tie as tie

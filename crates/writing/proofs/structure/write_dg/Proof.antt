@@ -1,7 +1,7 @@
 -- Zeros, then the DG.
 use Rattle.writing.specs.StructureLaws.{wrote-dg}
 use native.Mathlib.Omega.{arith}
-use lib.ListN.{length, length-set}
+use lib.ListN.{length}
 use borrow.Author.Needs.{needs}
 use Rattle.writing.proofs.structure.write_dg.Statement.{statement}
 use Rattle.writing.proofs.structure.write_dg.Tie as tie

@@ -1,7 +1,7 @@
 -- Zeros, then the DL; nothing without data blocks.
 use Rattle.writing.specs.StructureLaws.{dl-some, wrote-dl, wrote-no-dl}
 use native.Mathlib.Omega.{arith}
-use lib.ListN.{length, length-set}
+use lib.ListN.{length}
 use borrow.Author.Needs.{needs}
 use Rattle.writing.proofs.structure.write_dl.Statement.{statement}
 use Rattle.writing.proofs.structure.write_dl.Tie as tie
