@@ -11,3 +11,5 @@ pub mod WroteLaws
 pub mod PlacedIn
 pub mod Structure
 pub mod StructureLaws
+pub mod PlacedInLaws
+pub mod FrontLaws

@@ -218,7 +218,7 @@ unfolding dlSize
 dl-some n h = sym (eq-no n 0 _ _ h (omega arith))
 
 -- ---- one block: zeros up to its place, then what was laid over the rest
-wrote-at : (a to r : ℕ) (bs out mid ys : List ℕ) → a ≤ to → r ≡ to + length bs → mid ≡ blit a (replicate (to - a) 0) out
+pub wrote-at : (a to r : ℕ) (bs out mid ys : List ℕ) → a ≤ to → r ≡ to + length bs → mid ≡ blit a (replicate (to - a) 0) out
   → ys ≡ blit 0 bs (midOf to (length mid - to) mid) → Wrote a (block to bs ∷ []) r out (putMid to (length mid - to) mid ys)
 wrote-at a to r bs out mid ys h l g e =
     rw l (wrote-block (block to bs) h (lent-is to bs mid ys e ∙ ap (blit to bs) g))

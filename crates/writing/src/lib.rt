@@ -1,8 +1,9 @@
-// The data blocks of a column, from the records of its group; signal data; the DG, CG, CN and DL of every column.
+// The data blocks of a column, from the records of its group; signal data; the DG, CG, CN and DL of every column; identification, HD, MD and FH.
 mod cursor;
 mod cell;
 mod gap;
 mod placed;
+pub mod front;
 pub mod structure;
 pub mod sorted;
 pub mod signal;
