@@ -15,7 +15,7 @@ use Rattle.result.specs.Ordered.{Ordered}
 use Rattle.copies_laws.specs.LengthLaws.{length-md, length-fh, length-hd}
 use Rattle.writing.specs.Wrote.{Wrote}
 use Rattle.writing.specs.WroteLaws.{wrote-block, wrote-append}
-use Rattle.writing.specs.StructureLaws.{wrote-at}
+use Rattle.writing.specs.StructureLaws.{wrote-at, past-one}
 
 -- ---- the identification and the HD
 all-part : (bs : List ℕ) → length bs ≡ 64 → part 0 64 bs ≡ bs
@@ -25,7 +25,7 @@ all-part bs e = take-all 64 bs (omega arith)
 module _ (s ident : List ℕ) (dg fh attachment comment : ℕ) (e : length ident ≡ 64) where
   front-ordered : Ordered 0 (block 0 ident ∷ block 64 (hdBytes s dg fh attachment comment) ∷ []) 168
   unfolding Ordered
-  front-ordered = (le-refl 0, omega arith, omega (arith, length-hd s dg fh attachment comment))
+  front-ordered = (le-refl 0, (omega arith, omega (arith, length-hd s dg fh attachment comment)))
 
   pub wrote-front : (out mid ys : List ℕ) → mid ≡ blit 0 (part 0 64 ident) out
     → ys ≡ blit 0 (hdBytes s dg fh attachment comment) (midOf 64 (length mid - 64) mid)
@@ -48,9 +48,14 @@ module _ (text out mid ys : List ℕ) (a md : ℕ) where
   wrote-md g q h =
       wrote-at a md (md + (length text / 8 * 8 + 32)) (mdBytes text) out mid ys h (omega (arith, md-size (length text), length-md text)) g q
 
-  pub wrote-fh : (fh time : ℕ) → mid ≡ blit a (replicate (fh - a) 0) out → ys ≡ blit 0 (fhBytes md time) (midOf fh (length mid - fh) mid) → a ≤ fh
-    → Wrote a (block fh (fhBytes md time) ∷ []) (fh + 56) out (putMid fh (length mid - fh) mid ys)
-  wrote-fh fh time g q h = wrote-at a fh (fh + 56) (fhBytes md time) out mid ys h (rw (length-fh md time)) g q
+pub wrote-fh : (out mid ys : List ℕ) (a md fh time : ℕ) → mid ≡ blit a (replicate (fh - a) 0) out
+  → ys ≡ blit 0 (fhBytes md time) (midOf fh (length mid - fh) mid) → a ≤ fh
+  → Wrote a (block fh (fhBytes md time) ∷ []) (fh + 56) out (putMid fh (length mid - fh) mid ys)
+wrote-fh out mid ys a md fh time g q h = wrote-at a fh (fh + 56) (fhBytes md time) out mid ys h (rw (length-fh md time)) g q
+
+-- past the MD
+pub past-md : {a r : ℕ} {out last : List ℕ} (md : ℕ) (text : List ℕ) → Wrote a (block md (mdBytes text) ∷ []) r out last → r ≡ md + mdSize (length text)
+past-md md text w = past-one (block md (mdBytes text)) _ w (length-md text)
 
 pub record HistoryRoom (a md fh n e : ℕ) : Type 0 where
   pub begins : a ≤ md

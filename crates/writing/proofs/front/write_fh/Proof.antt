@@ -1,44 +1,34 @@
+-- Zeros, then the FH.
+use Rattle.writing.specs.FrontLaws.{wrote-fh}
 use native.Mathlib.Omega.{arith}
-use lib.ListN.{length, length-set}
+use lib.ListN.{length}
 use borrow.Author.Needs.{needs}
 use Rattle.writing.proofs.front.write_fh.Statement.{statement}
 use Rattle.writing.proofs.front.write_fh.Tie as tie
-use Rattle.writing.proofs.front.write_fh.Reads as reads
-use Rattle.writing.proofs.front.write_fh.Lts as lts
-use Rattle.filling.proofs.put_fh.Reads as put-fh-reads
-use Rattle.writing.proofs.gap.gap.Reads as gap-reads
 
--- src/front.rt:43:5
 gap-requires : tie.Need-gap-requires
 gap-requires c κs = search needs
 
--- src/front.rt:44:12
 sub-put-fh : tie.Need-sub-put-fh
 sub-put-fh c = search needs
 
--- src/front.rt:44:12
 part-put-fh-start : tie.Need-part-put-fh-start
 part-put-fh-start c = search needs
 
--- src/front.rt:44:12
 part-put-fh-end : tie.Need-part-put-fh-end
 part-put-fh-end c = search needs
 
--- src/front.rt:44:5
 put-fh-requires : tie.Need-put-fh-requires
 put-fh-requires c κs = search needs
 
--- src/front.rt:45:5
 add-result : tie.Need-add-result
 add-result c = search needs
 
--- src/front.rt:38:1
 same-length : tie.Need-same-length
 same-length c = search needs
 
--- src/front.rt:38:1
 returns : tie.Need-returns
-returns c = search needs
+returns c = wrote-fh _ _ _ _ _ _ _ (c .before .before .before .before .before .before .gap .ensures) (c .before .before .put-fh .ensures) (omega arith)
 
 pub write-fh-spec : {M : Type 1} → statement M
 write-fh-spec =
