@@ -13,3 +13,8 @@ pub mod SortedSteps
 pub mod SeveralSteps
 pub mod Wrote
 pub mod WroteLaws
+pub mod PlacedIn
+pub mod Structure
+pub mod StructureLaws
+pub mod PlacedInLaws
+pub mod FrontLaws

@@ -1,6 +1,10 @@
-// The data blocks of a column, from the records of its group; signal data.
+// The data blocks of a column, from the records of its group; signal data; the DG, CG, CN and DL of every column; identification, HD, MD and FH.
 mod cursor;
 mod cell;
+mod gap;
+mod placed;
+pub mod front;
+pub mod structure;
 pub mod sorted;
 pub mod several;
 pub mod signal;

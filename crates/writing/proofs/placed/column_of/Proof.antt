@@ -1,0 +1,163 @@
+-- Each number as the words give it.
+use Prim.Native.Nat.{_+_, _*_}
+use lib.ListN.{getD}
+use Rattle.writing.specs.PlacedIn.{masterIn}
+use Rattle.writing.specs.StructureLaws.{size-near, column-made}
+use native.Mathlib.Omega.{arith}
+use lib.ListN.{length}
+use borrow.Author.Needs.{needs}
+use Rattle.writing.proofs.placed.column_of.Statement.{statement}
+use Rattle.writing.proofs.placed.column_of.Tie as tie
+
+mul-i : tie.Need-mul-i
+mul-i c = search needs
+
+mul-j : tie.Need-mul-j
+mul-j c = search needs
+
+add-j : tie.Need-add-j
+add-j c = search needs
+
+mul-channel : tie.Need-mul-channel
+mul-channel c = search needs
+
+shared-slice-read-channel : tie.Need-shared-slice-read-channel
+shared-slice-read-channel c = search needs
+
+add-group : tie.Need-add-group
+add-group c = search needs
+
+mul-group : tie.Need-mul-group
+mul-group c = search needs
+
+shared-slice-read-group : tie.Need-shared-slice-read-group
+shared-slice-read-group c = search needs
+
+add-records : tie.Need-add-records
+add-records c = search needs
+
+mul-records : tie.Need-mul-records
+mul-records c = search needs
+
+shared-slice-read-records : tie.Need-shared-slice-read-records
+shared-slice-read-records c = search needs
+
+add-word : tie.Need-add-word
+add-word c = search needs
+
+mul-word : tie.Need-mul-word
+mul-word c = search needs
+
+shared-slice-read-word : tie.Need-shared-slice-read-word
+shared-slice-read-word c = search needs
+
+has-master-requires : tie.Need-has-master-requires
+has-master-requires c κs = search needs
+
+master-place-requires : tie.Need-master-place-requires
+master-place-requires c κs = search needs
+
+mul-dg : tie.Need-mul-dg
+mul-dg c = search needs
+
+shared-slice-read-dg : tie.Need-shared-slice-read-dg
+shared-slice-read-dg c = search needs
+
+add-cn : tie.Need-add-cn
+add-cn c = omega (arith, c .before .before .before .before .before .before .before .before .before .before .pre .0 .below (c .before .before .before .before .before .before .before .before .before .before .args .k) (c .before .before .before .before .before .before .before .before .before .before .pre .1))
+
+cg-size-requires : tie.Need-cg-size-requires
+cg-size-requires c κs = search needs
+
+add-cn-2 : tie.Need-add-cn-2
+add-cn-2 c = omega (arith, c .before .before .before .before .before .before .before .before .before .before .before .pre .0 .below (c .before .before .before .before .before .before .before .before .before .before .before .args .k) (c .before .before .before .before .before .before .before .before .before .before .before .pre .1), c .cg-size .ensures, size-near (masterIn (getD (c .before .before .before .before .before .before .before .before .before .before .before .args .columns .now) (8 * c .before .before .before .before .before .before .before .before .before .before .before .args .k + 5) 0)))
+
+add-sd-link : tie.Need-add-sd-link
+add-sd-link c = search needs
+
+mul-sd-link : tie.Need-mul-sd-link
+mul-sd-link c = search needs
+
+shared-slice-read-sd-link : tie.Need-shared-slice-read-sd-link
+shared-slice-read-sd-link c = search needs
+
+add-sd-link-2 : tie.Need-add-sd-link-2
+add-sd-link-2 c = search needs
+
+mul-sd-link-2 : tie.Need-mul-sd-link-2
+mul-sd-link-2 c = search needs
+
+shared-slice-read-sd-link-2 : tie.Need-shared-slice-read-sd-link-2
+shared-slice-read-sd-link-2 c = search needs
+
+sd-link-requires : tie.Need-sd-link-requires
+sd-link-requires c κs = search needs
+
+blocks-of-requires : tie.Need-blocks-of-requires
+blocks-of-requires c κs = search needs
+
+payload-of-requires : tie.Need-payload-of-requires
+payload-of-requires c κs = search needs
+
+add-t24 : tie.Need-add-t24
+add-t24 c = search needs
+
+mul-t22 : tie.Need-mul-t22
+mul-t22 c = search needs
+
+shared-slice-read-t21 : tie.Need-shared-slice-read-t21
+shared-slice-read-t21 c = search needs
+
+add-t30 : tie.Need-add-t30
+add-t30 c = search needs
+
+mul-t31 : tie.Need-mul-t31
+mul-t31 c = search needs
+
+shared-slice-read-t20 : tie.Need-shared-slice-read-t20
+shared-slice-read-t20 c = search needs
+
+returns : tie.Need-returns
+returns c = column-made _ _ _ _ _ _ (c .before .before .before .before .before .before .before .before .before .before .has-master .ensures) (c .before .before .before .before .before .before .before .before .before .master-place .ensures) (c .before .before .before .before .before .before .before .cg-size .ensures) (c .before .before .before .before .sd-link .ensures) (c .before .before .before .blocks-of .ensures) (c .before .before .payload-of .ensures)
+
+pub column-of-spec : {M : Type 1} → statement M
+column-of-spec =
+    tie.close
+    (tie.spec
+    mul-i
+    mul-j
+    add-j
+    mul-channel
+    shared-slice-read-channel
+    add-group
+    mul-group
+    shared-slice-read-group
+    add-records
+    mul-records
+    shared-slice-read-records
+    add-word
+    mul-word
+    shared-slice-read-word
+    has-master-requires
+    master-place-requires
+    mul-dg
+    shared-slice-read-dg
+    add-cn
+    cg-size-requires
+    add-cn-2
+    add-sd-link
+    mul-sd-link
+    shared-slice-read-sd-link
+    add-sd-link-2
+    mul-sd-link-2
+    shared-slice-read-sd-link-2
+    sd-link-requires
+    blocks-of-requires
+    payload-of-requires
+    add-t24
+    mul-t22
+    shared-slice-read-t21
+    add-t30
+    mul-t31
+    shared-slice-read-t20
+    returns)

@@ -1,0 +1,20 @@
+-- No DL without data blocks.
+use mathlib.Core.Path.{refl}
+use Rattle.base.specs.ChoiceLaws.{eq-yes, eq-no}
+use native.Mathlib.Omega.{arith}
+use lib.ListN.{length}
+use borrow.Author.Needs.{needs}
+use Rattle.writing.proofs.structure.dl_place.Statement.{statement}
+use Rattle.writing.proofs.structure.dl_place.Tie as tie
+
+returns : tie.Need-returns
+returns c = eq-yes _ _ _ _ (omega arith) refl
+
+add-result : tie.Need-add-result
+add-result c = search needs
+
+returns-2 : tie.Need-returns-2
+returns-2 c = eq-no _ _ _ _ (omega arith) refl
+
+pub dl-place-spec : {M : Type 1} → statement M
+dl-place-spec = tie.close (tie.spec returns add-result returns-2)

@@ -1,0 +1,19 @@
+-- The copy of what the link leads to.
+use Rattle.writing.specs.StructureLaws.{link-new}
+use native.Mathlib.Omega.{arith}
+use lib.ListN.{length}
+use borrow.Author.Needs.{needs}
+use Rattle.writing.proofs.structure.link.Statement.{statement}
+use Rattle.writing.proofs.structure.link.Tie as tie
+
+link-at-requires : tie.Need-link-at-requires
+link-at-requires c κs = search needs
+
+new-link-requires : tie.Need-new-link-requires
+new-link-requires c κs = search needs
+
+returns : tie.Need-returns
+returns c = link-new _ _ _ (c .new-link .ensures) (c .before .link-at .ensures)
+
+pub link-spec : {M : Type 1} → statement M
+link-spec = tie.close (tie.spec link-at-requires new-link-requires returns)

@@ -1,0 +1,57 @@
+-- Each turn writes a column.
+use Rattle.writing.specs.StructureLaws.{near-ready, Structures, structures-begin, structures-end, structures-room, structures-turn}
+use Prim.Native.Nat.{_-_}
+use borrow.Author.Needs.{needs}
+use native.Mathlib.Omega.{arith}
+use lib.ListN.{length}
+use Rattle.writing.proofs.structure.write_structure.Statement.{statement}
+use Rattle.writing.proofs.structure.write_structure.Tie as tie
+
+abbrev Inv-loop : tie.InvT-loop
+Inv-loop out₀ at image size columns memo n used k₀ to₀ out k to = Structures image size columns memo n used at out₀ k to out
+
+abbrev μ-loop : tie.MeasureT-loop
+μ-loop out₀ at image size columns memo n used k₀ to₀ out k to = n - k
+
+loop-holds : tie.Need-loop-holds Inv-loop μ-loop
+loop-holds c = structures-begin (c .before .before .before .before .pre)
+
+column-of-requires : tie.Need-column-of-requires Inv-loop μ-loop
+column-of-requires c κs = (near-ready (c .before .before .before .before .before .before .pre) (omega arith), c .loop-test .taken, c .before .before .before .before .before .before .pre .long)
+
+next-place-requires : tie.Need-next-place-requires Inv-loop μ-loop
+next-place-requires c κs = (near-ready (c .before .before .before .before .before .before .before .pre) (omega arith), c .before .loop-test .taken)
+
+write-column-requires : tie.Need-write-column-requires Inv-loop μ-loop
+write-column-requires c κs = rw (c .before .before .column-of .ensures) (structures-room (c .before .before .before .before .before .before .before .before .before .pre) (c .before .before .before .before .loop .inv) (c .before .before .before .loop-test .taken))
+
+add-k : tie.Need-add-k Inv-loop μ-loop
+add-k c = search needs
+
+loop-less : tie.Need-loop-less Inv-loop μ-loop
+loop-less c = search needs
+
+loop-again : tie.Need-loop-again Inv-loop μ-loop
+loop-again c = structures-turn (c .before .before .before .before .before .before .before .loop .inv) (c .before .before .before .before .before .before .loop-test .taken) (c .before .before .before .before .before .column-of .ensures) (c .before .before .before .before .next-place .ensures) (c .before .before .write-column .ensures) (omega (arith, c .before .before .write-column .kept))
+
+same-length : tie.Need-same-length Inv-loop μ-loop
+same-length c = search needs
+
+returns : tie.Need-returns Inv-loop μ-loop
+returns c = structures-end (c .before .loop .inv) (omega arith)
+
+pub write-structure-spec : {M : Type 1} → statement M
+write-structure-spec =
+    tie.close
+    (tie.spec
+    Inv-loop
+    μ-loop
+    loop-holds
+    column-of-requires
+    next-place-requires
+    write-column-requires
+    add-k
+    loop-less
+    loop-again
+    same-length
+    returns)

@@ -1,0 +1,48 @@
+-- Placed columns as the words of planning and of placing give them.
+use Prim.Native.Nat.{ℕ, zero, suc, _+_, _*_}
+use mathlib.Core.List.{List, [], _∷_}
+use mathlib.Core.Bool.{Bool, true, false}
+use mathlib.Core.Option.{Option, none, some}
+use lib.ListN.{getD}
+use Rattle.mdf.specs.Group.{DataGroup}
+use Rattle.plan.specs.Columns.{SrcGroup, Column, Signal, unsigned, signalData}
+use Rattle.plan.specs.Layout.{Placed}
+use Rattle.plan.specs.CopyWords.{placedAt}
+
+unfoldable pub timeIn : ℕ → Bool
+timeIn zero = false
+timeIn (suc n) = true
+
+-- 0 for none, else the master's column and 1
+unfoldable pub masterIn : ℕ → Option ℕ
+masterIn zero = none
+masterIn (suc m) = some m
+
+-- 0 for none; which fragments is left out
+unfoldable pub signalIn : ℕ → Signal
+signalIn zero = unsigned
+signalIn (suc n) = signalData []
+
+-- the column whose words begin at i: of its group's DG only the address
+unfoldable pub columnIn : List ℕ → ℕ → Column
+columnIn w i = record {
+    group = record {
+      dataGroup = record { at = getD w (i + 2) 0; fragments = []; groups = [] };
+      number = 0; at = getD w (i + 1) 0; channels = []; records = getD w (i + 3) 0 };
+    channel = getD w i 0;
+    isTime = timeIn (getD w (i + 4) 0);
+    master = masterIn (getD w (i + 5) 0);
+    signalOf = signalIn (getD w (i + 6) 0) }
+
+-- column number k
+unfoldable pub placedOne : List ℕ → List ℕ → ℕ → Placed
+placedOne columns memo k = record {
+    column = columnIn columns (8 * k);
+    dg = getD memo (placedAt + 3 * k) 0;
+    first = getD memo (placedAt + 3 * k + 1) 0;
+    sd = getD memo (placedAt + 3 * k + 2) 0 }
+
+-- n columns from number k on
+unfoldable pub placedIn : List ℕ → List ℕ → ℕ → ℕ → List Placed
+placedIn columns memo k zero = []
+placedIn columns memo k (suc n) = placedOne columns memo k ∷ placedIn columns memo (k + 1) n

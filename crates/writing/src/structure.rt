@@ -1,0 +1,158 @@
+// Every column's DG, CG, CN and DL, one after the other.
+use blocks::block::link_at;
+use channels::{channel_bytes, keeps_inval};
+use filling::{put_dg, put_cg, put_cn, put_dl};
+use placing::memo::new_link;
+use crate::gap::gap;
+use crate::placed::{PlacedColumn, column_of, next_place};
+ghost use mathlib.Core.Path.{_≡_};
+ghost use mathlib.Core.List.{[], _∷_};
+ghost use Prim.Native.Nat.{_+_, _*_, _-_, _≤_, _<_};
+ghost use lib.ListN.{length};
+ghost use Rattle.base.specs.Blit.{blit};
+ghost use Rattle.base.specs.Choice.{ifEq};
+ghost use Rattle.mdf.specs.Block.{linkAt, dataAt};
+ghost use Rattle.plan.specs.Layout.{dlSize};
+ghost use Rattle.placing.specs.Standing.{copiesIn};
+ghost use Rattle.result.specs.Fill.{block, newLink, structureBlocks};
+ghost use Rattle.writing.specs.PlacedIn.{placedIn};
+ghost use Rattle.writing.specs.Structure.{columnDG, columnCG, columnCN, columnDL, columnDLs, columnParts, cgLength, Room, StructureReady};
+ghost use Rattle.writing.specs.Wrote.{Wrote};
+
+// Link i of the block at a, led to its copy.
+fn link(image: &[u8], memo: &[u64], used: u64, a: u64, i: u64) -> u64
+    ensures { λ r. ⌜ r ≡ newLink (copiesIn (now (memo .entry)) used) (linkAt (now (image .entry)) a i) ⌝ }
+{
+    let to = link_at(image, a, i);
+    new_link(memo, used, to)
+}
+
+// The place of the DL, 0 without data blocks.
+fn dl_place(h: PlacedColumn) -> u64
+    requires { ⌜ h .cn + 160 < 18446744073709551616 ⌝ }
+    ensures { λ r. ⌜ r ≡ ifEq (h .blocks) 0 0 (h .cn + 160) ⌝ }
+{
+    if h.blocks == 0 {
+        return 0;
+    }
+    h.cn + 160
+}
+
+// The DG at the front of d.
+fn fill_dg(d: &mut [u8], image: &[u8], memo: &[u64], used: u64, h: PlacedColumn, next: u64)
+    requires { ⌜ (h .dg + 64 ≤ h .cn) × (h .cn + 160 < 18446744073709551616) ⌝ }
+    ensures { λ _. ⌜ now (d .exit) ≡ blit 0 (columnDG (now (image .entry)) (copiesIn (now (memo .entry)) used) h next) (now (d .entry)) ⌝ }
+{
+    let dl = dl_place(h);
+    let comment = link(image, memo, used, h.parent, 3);
+    put_dg(d, next, h.dg + 64, dl, comment);
+}
+
+// The CG.
+fn fill_cg(d: &mut [u8], image: &[u8], memo: &[u64], used: u64, h: PlacedColumn)
+    ensures { λ _. ⌜ now (d .exit) ≡ blit 0 (columnCG (now (image .entry)) (copiesIn (now (memo .entry)) used) h) (now (d .entry)) ⌝ }
+{
+    let name = link(image, memo, used, h.group, 2);
+    let source = link(image, memo, used, h.group, 3);
+    let comment = link(image, memo, used, h.group, 5);
+    let bytes = channel_bytes(image, h.channel);
+    let inval = keeps_inval(image, h.group, h.channel);
+    put_cg(d, image, h.group, h.cn, name, source, comment, h.remote, h.master, h.records, bytes, inval);
+}
+
+// The CN.
+fn fill_cn(d: &mut [u8], image: &[u8], memo: &[u64], used: u64, h: PlacedColumn)
+    ensures { λ _. ⌜ now (d .exit) ≡ blit 0 (columnCN (now (image .entry)) (copiesIn (now (memo .entry)) used) h) (now (d .entry)) ⌝ }
+{
+    let name = link(image, memo, used, h.channel, 2);
+    let source = link(image, memo, used, h.channel, 3);
+    let conversion = link(image, memo, used, h.channel, 4);
+    let unit = link(image, memo, used, h.channel, 6);
+    let comment = link(image, memo, used, h.channel, 7);
+    let keeps = keeps_inval(image, h.group, h.channel);
+    put_cn(d, image, h.channel, keeps, name, source, conversion, h.sd, unit, comment);
+}
+
+// The DG at its place, zeros before it; the index past it.
+fn write_dg(out: &mut [u8], at: usize, image: &[u8], memo: &[u64], used: u64, h: PlacedColumn, next: u64) -> usize
+    requires { ⌜ (at ≤ h .dg) × (h .dg + 64 ≤ h .cn) × (h .cn + 160 ≤ length (now out)) ⌝ }
+    ensures { λ r. ⌜ Wrote at (block (h .dg) (columnDG (now (image .entry)) (copiesIn (now (memo .entry)) used) h next) ∷ []) r
+        (now (out .entry)) (now (out .exit)) ⌝ }
+{
+    let to = h.dg as usize;
+    gap(out, at, to);
+    fill_dg(&mut out[to..], image, memo, used, h, next);
+    to + 64
+}
+
+// The CG.
+fn write_cg(out: &mut [u8], at: usize, image: &[u8], memo: &[u64], used: u64, h: PlacedColumn) -> usize
+    requires { ⌜ (at ≤ h .dg + 64) × (h .cn ≡ h .dg + 64 + cgLength (h .remote)) × (h .cn ≤ length (now out)) ×
+        (dataAt (now image) (h .group) + 32 ≤ length (now image)) ⌝ }
+    ensures { λ r. ⌜ Wrote at (block (h .dg + 64) (columnCG (now (image .entry)) (copiesIn (now (memo .entry)) used) h) ∷ []) r
+        (now (out .entry)) (now (out .exit)) ⌝ }
+{
+    let to = (h.dg + 64) as usize;
+    gap(out, at, to);
+    fill_cg(&mut out[to..], image, memo, used, h);
+    h.cn as usize
+}
+
+// The CN.
+fn write_cn(out: &mut [u8], at: usize, image: &[u8], memo: &[u64], used: u64, h: PlacedColumn) -> usize
+    requires { ⌜ (at ≤ h .cn) × (h .cn + 160 ≤ length (now out)) × (dataAt (now image) (h .channel) + 72 ≤ length (now image)) ⌝ }
+    ensures { λ r. ⌜ Wrote at (block (h .cn) (columnCN (now (image .entry)) (copiesIn (now (memo .entry)) used) h) ∷ []) r
+        (now (out .entry)) (now (out .exit)) ⌝ }
+{
+    let to = h.cn as usize;
+    gap(out, at, to);
+    fill_cn(&mut out[to..], image, memo, used, h);
+    to + 160
+}
+
+// The DL, if there are data blocks.
+fn write_dl(out: &mut [u8], at: usize, h: PlacedColumn) -> usize
+    requires { ⌜ (at ≤ h .cn + 160) × (h .cn + 160 + dlSize (h .blocks) ≤ length (now out)) ⌝ }
+    ensures { λ r. ⌜ Wrote at (columnDLs h) r (now (out .entry)) (now (out .exit)) ⌝ }
+{
+    let n = h.blocks;
+    if n == 0 {
+        return at;
+    }
+    let to = (h.cn + 160) as usize;
+    gap(out, at, to);
+    put_dl(&mut out[to..], h.payload, n, h.first);
+    to + (48 + 8 * n) as usize
+}
+
+// A column's blocks.
+fn write_column(out: &mut [u8], at: usize, image: &[u8], memo: &[u64], used: u64, h: PlacedColumn, next: u64) -> usize
+    requires { ⌜ Room (now image) h at (length (now out)) ⌝ }
+    ensures { λ r. ⌜ Wrote at (columnParts (now (image .entry)) (copiesIn (now (memo .entry)) used) h next) r
+        (now (out .entry)) (now (out .exit)) ⌝ }
+{
+    let a = write_dg(out, at, image, memo, used, h, next);
+    let b = write_cg(out, a, image, memo, used, h);
+    let c = write_cn(out, b, image, memo, used, h);
+    write_dl(out, c, h)
+}
+
+// The blocks of n columns, whose words columns and memo have, from index at on; the index past them.
+pub(crate) fn write_structure(
+    out: &mut [u8], at: usize, image: &[u8], size: u64, columns: &[u64], memo: &[u64], n: u64, used: u64,
+) -> usize
+    requires { ⌜ StructureReady (now image) size (now columns) (now memo) n used at (length (now out)) ⌝ }
+    ensures { λ r. ⌜ Wrote at (structureBlocks (now (image .entry)) size (copiesIn (now (memo .entry)) used)
+        (placedIn (now (columns .entry)) (now (memo .entry)) 0 n) (placedIn (now (columns .entry)) (now (memo .entry)) 0 n)) r
+        (now (out .entry)) (now (out .exit)) ⌝ }
+{
+    let mut k = 0;
+    let mut to = at;
+    while k < n {
+        let h = column_of(image, size, columns, memo, n, k);
+        let next = next_place(memo, n, k);
+        to = write_column(out, to, image, memo, used, h, next);
+        k += 1;
+    }
+    to
+}
