@@ -8,3 +8,7 @@ pub mod Sorted
 pub mod SortedSteps
 pub mod Wrote
 pub mod WroteLaws
+pub mod CopiesLaws
+pub mod Attachments
+pub mod AttachmentsLaws
+pub mod LaidWordsLaws
