@@ -45,7 +45,7 @@ shared-slice-read-place : tie.Need-shared-slice-read-place Inv-loop μ-loop
 shared-slice-read-place c = search needs
 
 add-end : tie.Need-add-end Inv-loop μ-loop
-add-end c = omega (arith, next-end (c .before .before .before .loop .inv) (c .before .before .loop-test .taken))
+add-end c = search needs
 
 mul-end : tie.Need-mul-end Inv-loop μ-loop
 mul-end c = search needs
@@ -54,7 +54,7 @@ shared-slice-read-end : tie.Need-shared-slice-read-end Inv-loop μ-loop
 shared-slice-read-end c = search needs
 
 add-end-2 : tie.Need-add-end-2 Inv-loop μ-loop
-add-end-2 c = search needs
+add-end-2 c = omega (arith, next-end (c .before .before .before .before .loop .inv) (c .before .before .before .loop-test .taken))
 
 add-next-place : tie.Need-add-next-place Inv-loop μ-loop
 add-next-place c = search needs
