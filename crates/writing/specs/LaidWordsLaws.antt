@@ -1,7 +1,8 @@
 -- Words laid out by placing, read back: the copies, the history chain and the attachments of a layout.
 use Prim.Native.Nat.{ℕ, zero, suc, _+_, _-_, _*_, _≤_, _<_}
 use mathlib.Core.List.{List, [], _∷_, _++_, append-assoc}
-use mathlib.Core.Path.{_≡_, refl, sym, ap, _∙_}
+use mathlib.Core.Path.{_≡_, refl, sym, ap, subst, _∙_}
+use native.Mathlib.Nat.{sub-zero}
 use native.Mathlib.Omega.{arith}
 use lib.ListN.{length, getD, take, drop, length-append, length-drop}
 use lib.Seq.{drop-cons, take-append-seam, drop-append-seam, drop-append-le}
@@ -13,12 +14,15 @@ use Rattle.mdf.specs.Chain.{isIn}
 use Rattle.plan.specs.Columns.{Column}
 use Rattle.plan.specs.Copies.{Copy, Copies, copies, isCopied, copyRoot, mostCopies, History, history, historyFrom, historyOf, Attachment}
 use Rattle.plan.specs.CopyWords.{copyWords, attachmentWords, attachmentsAt, historyAt, placedAt, placedWords, laidCopies}
-use Rattle.plan.specs.Layout.{Layout}
+use Rattle.plan.specs.Layout.{Layout, structurePlace, dataEnd}
 use Rattle.placing.specs.Standing.{copiesFrom, copiesIn}
 use Rattle.placing.specs.AttachingLaws.{length-words}
 use Rattle.copies_laws.specs.AnswerLaws.{refused≢ok, ok-same, then-ok, by-eq, by-pick, eq-back}
-use Rattle.copies_laws.specs.AttachLaws.{ownCopies}
-use Rattle.copies_laws.specs.LayoutLaws.{LaidOut, columns-after-history, attachments-laid, few-in-all}
+use Rattle.copies_laws.specs.Laid.{Laid, laid-to, align-past}
+use Rattle.result.specs.Fill.{copiedBlocks, attachmentBlocks}
+use Rattle.result.specs.Result.{memoOf}
+use Rattle.copies_laws.specs.AttachLaws.{ownCopies, LaidAt}
+use Rattle.copies_laws.specs.LayoutLaws.{LaidOut, history-laid, columns-laid, columns-after-history, attachments-laid, few-in-all}
 use Rattle.writing.specs.CopiesLaws.{copies-take, copies-drop}
 use Rattle.writing.specs.Attachments.{attachmentsFrom, attachmentsIn}
 
@@ -201,3 +205,81 @@ module _ {s : List ℕ} {size n : ℕ} {cs : List Column} {l : Layout} (o : Laid
         ap (λ (x : List Copy). take (length (l .metadata .memo) - length m) (drop (length m) x)) (copies-read ∙ t .memo)
         ∙ ap (take (length (l .metadata .memo) - length m)) d
         ∙ rw (← c) (take-append-seam (drop (length m) (l .metadata .memo)) own)
+
+-- ---- what the words give to those that write
+laidAt-to : (s : List ℕ) (a d e : ℕ) (ts : List Attachment) → LaidAt s a ts d → d ≤ e → LaidAt s a ts e
+unfolding LaidAt
+laidAt-to s a d e [] l h = omega arith
+laidAt-to s a d e (t ∷ ts) l h = (l .0, l .1, laidAt-to s _ d e ts (l .2) h)
+
+-- the numbers of all copies, of those of the HD comment and the history, of those and the columns', of the chain's blocks and of the attachments
+pub record Numbers (l : Layout) (used past metadata chain count : ℕ) : Type 0 where
+  pub all : used ≡ length (l .attached .made .memo)
+  pub first : past ≡ length (l .past .made .memo)
+  pub next : metadata ≡ length (l .metadata .memo)
+  pub blocks : chain ≡ length (l .past .chain)
+  pub moved : count ≡ length (l .attached .attachments)
+
+module _ {s : List ℕ} {size n : ℕ} {cs : List Column} {l : Layout} (o : LaidOut s size n cs l) {used past metadata chain count : ℕ}
+  (c : Numbers l used past metadata chain count) where
+  pub copies-order : (past ≤ metadata) × (metadata ≤ used) × (used ≤ 2048) × (chain ≤ 2049) × (count ≤ 64)
+  copies-order =
+      let t = attachments-laid o in
+      let g = columns-after-history o in
+      let x = ap length (g .memo) ∙ length-append (l .past .made .memo) (g .new) in
+      let y = ap length (t .memo) ∙ length-append (l .metadata .memo) (ownCopies (l .attached .attachments)) in
+      (omega (arith, c .first, c .next, x), omega (arith, c .next, c .all, y), omega (arith, c .all, few-in-all o), omega (arith, c .blocks, few-history o),
+        omega (arith, c .moved, t .most))
+
+  module _ (w w' : List ℕ) (long : 8192 ≤ length w) (e : w' ≡ laidCopies l w) where
+    chain-is : part historyAt chain w' ≡ l .past .chain
+    chain-is = rw (c .blocks) (chain-read o w w' long e)
+
+    all-is : copiesIn w' used ≡ l .attached .made .memo
+    all-is = rw (c .all) (copies-read o w w' long e)
+
+    first-is : part 0 (past - 0) (copiesIn w' used) ≡ l .past .made .memo
+    first-is = rw (sub-zero, c .first, c .all) (history-copies o w w' long e)
+
+    next-is : part past (metadata - past) (copiesIn w' used) ≡ drop (length (l .past .made .memo)) (l .metadata .memo)
+    next-is = rw (c .first, c .next, c .all) (columns-copies o w w' long e)
+
+    moved-is : attachmentsIn w' metadata count ≡ l .attached .attachments
+    moved-is = rw (c .next, c .moved) (attachments-read o w w' long e)
+
+    -- there is room for each copy and attachment, up to where the next blocks begin
+    pub history-room : (f : ℕ) → l .md ≤ f → Laid s 168 (part 0 (past - 0) (copiesIn w' used)) f
+    history-room f h =
+        subst (λ (m : List Copy). Laid s 168 m f) (sym first-is)
+        (laid-to s 168 _ f (l .past .made .memo) (history-laid o) (omega (arith, align-past (l .past .made .next), o .md)))
+
+    pub columns-room : (f : ℕ) → structurePlace (l .metadata) ≤ f → Laid s (l .fh + 56) (part past (metadata - past) (copiesIn w' used)) f
+    unfolding structurePlace
+    columns-room f h =
+        subst (λ (m : List Copy). Laid s (l .fh + 56) m f) (sym next-is)
+        (laid-to s (l .fh + 56) _ f (drop (length (l .past .made .memo)) (l .metadata .memo)) (columns-laid o) (omega (arith, align-past (l .metadata .next))))
+
+    pub attachments-room : (f : ℕ) → l .fileSize ≤ f → LaidAt s (dataEnd s size (l .metadataEnd) cs) (attachmentsIn w' metadata count) f
+    attachments-room f h =
+        subst (λ (ts : List Attachment). LaidAt s (dataEnd s size (l .metadataEnd) cs) ts f) (sym moved-is)
+        (laidAt-to s _ _ f (l .attached .attachments) (attachments-laid o .laid) (omega (arith, o .fileSize)))
+
+    pub attachments-few : metadata + length (ownCopies (attachmentsIn w' metadata count)) ≤ used
+    attachments-few =
+        let t = attachments-laid o in
+        let y = ap length (t .memo) ∙ length-append (l .metadata .memo) (ownCopies (l .attached .attachments)) in
+        rw moved-is (omega (arith, c .next, c .all, y))
+
+    -- the blocks are those of the result
+    module _ (fh : ℕ) where
+      pub history-blocks : copiedBlocks s (part historyAt chain w') (copiesIn w' used) fh (part 0 (past - 0) (copiesIn w' used))
+        ≡ copiedBlocks s (l .past .chain) (memoOf l) fh (l .past .made .memo)
+      history-blocks = rw (first-is, chain-is, all-is)
+
+      pub columns-blocks : copiedBlocks s (part historyAt chain w') (copiesIn w' used) fh (part past (metadata - past) (copiesIn w' used))
+        ≡ copiedBlocks s (l .past .chain) (memoOf l) fh (drop (length (l .past .made .memo)) (l .metadata .memo))
+      columns-blocks = rw (next-is, chain-is, all-is)
+
+      pub attachments-blocks : attachmentBlocks s (part historyAt chain w') (copiesIn w' used) fh (attachmentsIn w' metadata count)
+        ≡ attachmentBlocks s (l .past .chain) (memoOf l) fh (l .attached .attachments)
+      attachments-blocks = rw (moved-is, chain-is, all-is)
