@@ -18,3 +18,7 @@ pub mod Structure
 pub mod StructureLaws
 pub mod PlacedInLaws
 pub mod FrontLaws
+pub mod CopiesLaws
+pub mod Attachments
+pub mod AttachmentsLaws
+pub mod LaidWordsLaws

@@ -1,4 +1,5 @@
 // The data blocks of a column, from the records of its group; signal data; the DG, CG, CN and DL of every column; identification, HD, MD and FH.
+// The data blocks of a column, from the records of its group; signal data; copies and attachments.
 mod cursor;
 mod cell;
 mod gap;
@@ -8,3 +9,6 @@ pub mod structure;
 pub mod sorted;
 pub mod several;
 pub mod signal;
+mod gap;
+mod copies;
+mod attached;

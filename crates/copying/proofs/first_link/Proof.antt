@@ -1,0 +1,88 @@
+-- What is left of the history chain gives what all of it gives.
+use Rattle.copying.specs.CopyingLaws.{Chain, chain-begin, history-last, history-next, history-miss, history-end}
+use Rattle.result.specs.Fill.{historyLink, firstNew}
+use Rattle.placing.specs.Standing.{copiesIn}
+use Rattle.plan.specs.CopyWords.{historyAt}
+use Rattle.base.specs.Blit.{part}
+use Prim.Native.Nat.{_-_}
+use borrow.Author.Needs.{needs}
+use native.Mathlib.Omega.{arith}
+use Rattle.copying.proofs.first_link.Statement.{statement}
+use Rattle.copying.proofs.first_link.Tie as tie
+
+abbrev Inv-loop : tie.InvT-loop
+Inv-loop image memo used chain fh a end i₀ i = Chain image memo (copiesIn memo used) fh a i end (firstNew image (copiesIn memo used) a (historyLink a (part historyAt chain memo) (copiesIn memo used) fh))
+
+abbrev μ-loop : tie.MeasureT-loop
+μ-loop image memo used chain fh a end i₀ i = end - i
+
+chain-end-requires : tie.Need-chain-end-requires Inv-loop μ-loop
+chain-end-requires c κs = search needs
+
+loop-holds : tie.Need-loop-holds Inv-loop μ-loop
+loop-holds c = chain-begin _ _ _ _ _ _ (c .chain-end .ensures)
+
+mul-if1 : tie.Need-mul-if1 Inv-loop μ-loop
+mul-if1 c = search needs
+
+shared-slice-read-if1 : tie.Need-shared-slice-read-if1 Inv-loop μ-loop
+shared-slice-read-if1 c = search needs
+
+sub-if2 : tie.Need-sub-if2 Inv-loop μ-loop
+sub-if2 c = search needs
+
+returns : tie.Need-returns Inv-loop μ-loop
+returns c = history-last (c .before .before .before .before .loop .inv) (c .before .before .before .loop-test .taken) (omega arith) (omega arith)
+
+add-new-link : tie.Need-add-new-link Inv-loop μ-loop
+add-new-link c = search needs
+
+mul-new-link : tie.Need-mul-new-link Inv-loop μ-loop
+mul-new-link c = search needs
+
+shared-slice-read-new-link : tie.Need-shared-slice-read-new-link Inv-loop μ-loop
+shared-slice-read-new-link c = search needs
+
+new-link-requires : tie.Need-new-link-requires Inv-loop μ-loop
+new-link-requires c κs = search needs
+
+returns-2 : tie.Need-returns-2 Inv-loop μ-loop
+returns-2 c = history-next (c .before .before .before .before .before .before .loop .inv) (omega arith) (omega arith) (c .new-link .ensures)
+
+add-i : tie.Need-add-i Inv-loop μ-loop
+add-i c = search needs
+
+loop-less : tie.Need-loop-less Inv-loop μ-loop
+loop-less c = search needs
+
+loop-again : tie.Need-loop-again Inv-loop μ-loop
+loop-again c = history-miss (c .before .before .before .loop .inv) (c .before .before .loop-test .taken) (λ e. omega arith)
+
+own-link-requires : tie.Need-own-link-requires Inv-loop μ-loop
+own-link-requires c κs = search needs
+
+returns-3 : tie.Need-returns-3 Inv-loop μ-loop
+returns-3 c = history-end (c .before .before .loop .inv) (omega arith) (c .own-link .ensures)
+
+pub first-link-spec : {M : Type 1} → statement M
+first-link-spec =
+    tie.close
+    (tie.spec
+    Inv-loop
+    μ-loop
+    chain-end-requires
+    loop-holds
+    mul-if1
+    shared-slice-read-if1
+    sub-if2
+    returns
+    add-new-link
+    mul-new-link
+    shared-slice-read-new-link
+    new-link-requires
+    returns-2
+    add-i
+    loop-less
+    loop-again
+    own-link-requires
+    returns-3)

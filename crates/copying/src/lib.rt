@@ -1,0 +1,181 @@
+// A copied block, laid over a slice that begins at the block's place. What would lie past the slice's end is lost.
+use blocks::block::{kind_at, size_at, links_at, link_at, data_at};
+use placing::memo::new_link;
+use puts::{put_u64, least, copy, header};
+ghost use mathlib.Core.Path.{_≡_};
+ghost use Prim.Native.Nat.{_+_, _*_, _-_, _≤_, min};
+ghost use mathlib.Core.Option.{none};
+ghost use lib.ListN.{length};
+ghost use Rattle.base.specs.Blit.{blit, part};
+ghost use Rattle.mdf.specs.Block.{sizeAt, linksAt};
+ghost use Rattle.plan.specs.CopyWords.{historyAt};
+ghost use Rattle.placing.specs.Standing.{copiesIn};
+ghost use Rattle.result.specs.Fill.{newLink, newLinks, historyLink, firstNew, copiedLinks, dataOf, copiedBytes, atBytes};
+
+const FH: u64 = 1212556067;
+
+// A link to a, led to its copy; zero is where a link of 0 leads.
+fn led(memo: &[u64], used: u64, zero: u64, a: u64) -> u64
+    requires { ⌜ zero ≡ newLink (copiesIn (now memo) used) 0 ⌝ }
+    ensures { λ r. ⌜ r ≡ newLink (copiesIn (now (memo .entry)) used) a ⌝ }
+{
+    if a == 0 {
+        return zero;
+    }
+    new_link(memo, used, a)
+}
+
+// k links of the block at a, from the second on, led to the copies, at index at.
+fn put_links(d: &mut [u8], at: usize, image: &[u8], memo: &[u64], used: u64, a: u64, k: u64)
+    requires { ⌜ at ≤ 32 ⌝ }
+    ensures { λ _. ⌜ now (d .exit) ≡ blit at (newLinks (now (image .entry)) (copiesIn (now (memo .entry)) used) k (a + 32)) (now (d .entry)) ⌝ }
+{
+    if d.len() <= at {
+        return;
+    }
+    let zero = new_link(memo, used, 0);
+    let mut left = k;
+    let mut i: u64 = 1;
+    let mut p = at;
+    while 0 < left {
+        let old = link_at(image, a, i);
+        let new = led(memo, used, zero, old);
+        put_u64(d, p, new);
+        if d.len() - p <= 8 {
+            return;
+        }
+        p += 8;
+        i += 1;
+        left -= 1;
+    }
+}
+
+// The index past the words of the history chain, as many as there are.
+fn chain_end(memo: &[u64], chain: u64) -> usize
+    ensures { λ r. ⌜ r ≡ historyAt + min chain (length (now (memo .entry)) - historyAt) ⌝ }
+{
+    let all = memo.len();
+    if all <= 4352 {
+        return 4352;
+    }
+    let n = least(chain, (all - 4352) as u64);
+    4352 + n as usize
+}
+
+// The first link of a block that isn't one of the history chain.
+fn own_link(image: &[u8], memo: &[u64], used: u64, a: u64) -> u64
+    ensures { λ r. ⌜ r ≡ firstNew (now (image .entry)) (copiesIn (now (memo .entry)) used) a none ⌝ }
+{
+    if kind_at(image, a) == FH {
+        return 0;
+    }
+    new_link(memo, used, link_at(image, a, 0))
+}
+
+// The first link of the copy of the block at a: a block of the history chain leads to the copy of the next, the last to the new FH.
+fn first_link(image: &[u8], memo: &[u64], used: u64, chain: u64, fh: u64, a: u64) -> u64
+    ensures { λ r. ⌜ r ≡ firstNew (now (image .entry)) (copiesIn (now (memo .entry)) used) a
+        (historyLink a (part historyAt chain (now (memo .entry))) (copiesIn (now (memo .entry)) used) fh) ⌝ }
+{
+    let end = chain_end(memo, chain);
+    let mut i = 4352;
+    while i < end {
+        if memo[i] == a {
+            if end - i == 1 {
+                return fh;
+            }
+            return new_link(memo, used, memo[i + 1]);
+        }
+        i += 1;
+    }
+    own_link(image, memo, used, a)
+}
+
+// The links of the copy of the block at a, n of them.
+fn put_copied_links(d: &mut [u8], image: &[u8], memo: &[u64], used: u64, chain: u64, fh: u64, a: u64, n: u64)
+    ensures { λ _. ⌜ now (d .exit) ≡ blit 24 (copiedLinks (now (image .entry)) (part historyAt chain (now (memo .entry)))
+        (copiesIn (now (memo .entry)) used) fh a n) (now (d .entry)) ⌝ }
+{
+    if n == 0 {
+        return;
+    }
+    put_u64(d, 24, first_link(image, memo, used, chain, fh, a));
+    put_links(d, 32, image, memo, used, a, n - 1);
+}
+
+// How many bytes of data the block at a has.
+fn data_size(image: &[u8], a: u64) -> u64
+    ensures { λ r. ⌜ r ≡ sizeAt (now (image .entry)) a - (24 + 8 * linksAt (now (image .entry)) a) ⌝ }
+{
+    let size = size_at(image, a);
+    let links = links_at(image, a);
+    if size < 24 {
+        return 0;
+    }
+    if (size - 24) / 8 < links {
+        return 0;
+    }
+    size - 24 - 8 * links
+}
+
+// The data of the block at a, past n links that stand at index at.
+fn put_data(d: &mut [u8], at: usize, n: u64, image: &[u8], a: u64)
+    requires { ⌜ at ≤ 32 ⌝ }
+    ensures { λ _. ⌜ now (d .exit) ≡ blit (at + 8 * n) (dataOf (now (image .entry)) a) (now (d .entry)) ⌝ }
+{
+    let room = d.len();
+    if room <= at {
+        return;
+    }
+    if ((room - at) as u64) / 8 < n {
+        return;
+    }
+    let size = data_size(image, a);
+    let from = data_at(image, a);
+    copy(d, at + 8 * n as usize, image, from, size);
+}
+
+// The copy of the block at a, with its links led to the copies; chain words of the history and the new FH's place.
+pub fn put_copied(d: &mut [u8], image: &[u8], memo: &[u64], used: u64, chain: u64, fh: u64, a: u64)
+    ensures { λ _. ⌜ now (d .exit) ≡ blit 0 (copiedBytes (now (image .entry)) (part historyAt chain (now (memo .entry)))
+        (copiesIn (now (memo .entry)) used) fh a) (now (d .entry)) ⌝ }
+{
+    let links = links_at(image, a);
+    header(d, kind_at(image, a), size_at(image, a), links);
+    put_copied_links(d, image, memo, used, chain, fh, a, links);
+    put_data(d, 24, links, image, a);
+}
+
+// How many bytes of the header of the block at a lie in the image.
+fn header_size(image: &[u8], a: u64) -> usize
+    ensures { λ r. ⌜ r ≡ min 24 (length (now (image .entry)) - a) ⌝ }
+{
+    let all = image.len() as u64;
+    if all <= a {
+        return 0;
+    }
+    least(24, all - a) as usize
+}
+
+// The number of links of the block at a past the first.
+fn more_links(image: &[u8], a: u64) -> u64
+    ensures { λ r. ⌜ r ≡ linksAt (now (image .entry)) a - 1 ⌝ }
+{
+    let links = links_at(image, a);
+    if links == 0 {
+        return 0;
+    }
+    links - 1
+}
+
+// The AT at a with its links led to the copies, the first to the next AT.
+pub fn put_at(d: &mut [u8], image: &[u8], memo: &[u64], used: u64, a: u64, next: u64)
+    ensures { λ _. ⌜ now (d .exit) ≡ blit 0 (atBytes (now (image .entry)) (copiesIn (now (memo .entry)) used) a next) (now (d .entry)) ⌝ }
+{
+    let n = header_size(image, a);
+    let links = more_links(image, a);
+    copy(d, 0, image, a, 24);
+    put_u64(d, n, next);
+    put_links(d, n + 8, image, memo, used, a, links);
+    put_data(d, n + 8, links, image, a);
+}
