@@ -1,5 +1,4 @@
 // Zeros up to the place of the next block.
-// Zeros between blocks.
 use puts::zero;
 ghost use mathlib.Core.Path.{_≡_};
 ghost use Prim.Native.Nat.{_-_, _≤_};
@@ -7,7 +6,6 @@ ghost use lib.ListN.{length, replicate};
 ghost use Rattle.base.specs.Blit.{blit};
 
 // Zeros from at on, up to an index.
-// Zeros from an index up to another.
 pub(crate) fn gap(out: &mut [u8], at: usize, to: usize)
     requires { ⌜ (at ≤ to) × (to ≤ length (now out)) ⌝ }
     ensures { λ _. ⌜ now (out .exit) ≡ blit at (replicate (to - at) 0) (now (out .entry)) ⌝ }

@@ -1,14 +1,12 @@
-// The data blocks of a column, from the records of its group; signal data; the DG, CG, CN and DL of every column; identification, HD, MD and FH.
-// The data blocks of a column, from the records of its group; signal data; copies and attachments.
-mod cursor;
-mod cell;
+// The result written: identification, HD, MD and FH; copied blocks and attachments; the DG, CG, CN and DL of every column; data and signal data.
 mod gap;
-mod placed;
-pub mod front;
-pub mod structure;
-pub mod sorted;
-pub mod several;
-pub mod signal;
-mod gap;
+mod front;
 mod copies;
 mod attached;
+mod placed;
+mod structure;
+mod cursor;
+mod cell;
+mod sorted;
+mod several;
+mod signal;
