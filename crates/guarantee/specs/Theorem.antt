@@ -36,14 +36,14 @@ abbrev pub AllBytes : List ℕ → Type 0
 AllBytes s = (i : ℕ) → getD s i 0 < 256
 
 module _ (x : Args) (d : Decided) (k : Known x d) where
-  o : LaidOut (x .image) (x .blockSize) (length (x .text)) (d .planned .columns) (d .laidOut)
+  pub o : LaidOut (x .image) (x .blockSize) (length (x .text)) (d .planned .columns) (d .laidOut)
   o = laid-out (x .image) (x .blockSize) (length (x .text)) (d .planned .columns) (d .laidOut) (k .steps .laidOut)
 
   -- a planned column's group is one of those counted
-  in-source : (c : Column) → In c (d .planned .columns) → In (c .group) (srcGroups (dataGroups (k .steps .source)) (k .steps .numbers))
+  pub in-source : (c : Column) → In c (d .planned .columns) → In (c .group) (srcGroups (dataGroups (k .steps .source)) (k .steps .numbers))
   in-source c i = subst (In (c .group)) (k .steps .groups) (k .source c i .0)
 
-  sized : (c : Column) → In c (d .planned .columns) → Sized (x .image) c
+  pub sized : (c : Column) → In c (d .planned .columns) → Sized (x .image) c
   unfolding dataGroups
   sized c i =
       let m = member (x .image) (dataGroups (k .steps .source)) (k .steps .counted) (c .group) (in-source c i) in
@@ -56,7 +56,7 @@ module _ (x : Args) (d : Decided) (k : Known x d) where
         fewSignals = omega (arith, k .fewSignals c i) }
 
   -- its CG and CN lie in the image
-  in-image : (c : Column) → In c (d .planned .columns) → InImage (x .image) c
+  pub in-image : (c : Column) → In c (d .planned .columns) → InImage (x .image) c
   in-image c i =
       let f = k .groups .checked (c .group) (k .source c i .0) in
       record {

@@ -27,7 +27,7 @@ pub(crate) fn write_at(out: &mut [u8], at: usize, image: &[u8], memo: &[u64], us
 }
 
 // The place of attachment number i of count, 0 past the last.
-fn next_place(memo: &[u64], i: u64, count: u64) -> u64
+pub(crate) fn next_place(memo: &[u64], i: u64, count: u64) -> u64
     requires { ⌜ (count ≤ 64) × (8192 ≤ length (now memo)) ⌝ }
     ensures { λ r. ⌜ NextPlace (now (memo .entry)) i count r ⌝ }
 {

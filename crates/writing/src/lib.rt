@@ -10,3 +10,7 @@ mod cell;
 mod sorted;
 mod several;
 mod signal;
+mod omissions;
+mod counts;
+pub mod decide;
+pub mod convert;

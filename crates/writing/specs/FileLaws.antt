@@ -1,0 +1,280 @@
+-- What was decided and stands in the words gives each part of the file its blocks and its room.
+use Prim.Native.Nat.{ℕ, zero, suc, _+_, _*_, _-_, _≤_, _<_}
+use mathlib.Core.List.{List, [], _∷_, _++_}
+use mathlib.Core.Path.{_≡_, refl, sym, ap, subst, _∙_}
+use native.Mathlib.Omega.{arith}
+use lib.ListN.{length, getD, drop, replicate}
+use lib.Seq.{drop-cons}
+use Rattle.base.specs.Blit.{part, blit}
+use Rattle.base.specs.BlitLaws.{length-blit}
+use Rattle.base.specs.Choice.{ifEq}
+use Rattle.base.specs.ChoiceLaws.{eq-yes, eq-no}
+use Rattle.base.specs.Checked.{ok}
+use Rattle.mdf.specs.Block.{linkAt, sizeAt}
+use Rattle.plan.specs.Copies.{Copy, copyOf, Attachment}
+use Rattle.plan.specs.CopyWords.{historyAt, placedAt, laidCopies}
+use Rattle.plan.specs.Layout.{Layout, Placed, structurePlace}
+use Rattle.placing.specs.Standing.{copiesIn}
+use Rattle.placing.specs.Answer.{linkOf}
+use Rattle.result.specs.Fill.{Block, block, newLink, copiedBlocks, mdBytes, fhBytes, hdBytes, nextDG, structureBlocks, dataBlocks, nextAttachment, attachmentBlocks}
+use Rattle.result.specs.Ordered.{Ordered}
+use Rattle.result.specs.Result.{Args, Decided, decided, memoOf, firstFH, hdBlock, blocksOf, fileOf}
+use Rattle.copies_laws.specs.AnswerLaws.{Whole}
+use Rattle.copies_laws.specs.Laid.{Laid}
+use Rattle.copies_laws.specs.LengthLaws.{length-copied, length-at, length-hd}
+use Rattle.copies_laws.specs.AttachLaws.{Moved, LaidAt, ownCopies}
+use Rattle.copies_laws.specs.LayoutLaws.{LaidOut, columns-placed, history-laid, columns-laid, attachments-laid}
+use Rattle.plan_laws.specs.Known.{Known, decided-known}
+use Rattle.guarantee.specs.Theorem.{o, in-image, ordered}
+use Rattle.writing.specs.declared.decide.Numbers as numbers
+use Rattle.writing.specs.PlacedIn.{placedOne, placedIn}
+use Rattle.writing.specs.PlacedInLaws.{length-placed, next-in, structure-in, structure-ready}
+use Rattle.writing.specs.Structure.{StructureReady}
+use Rattle.writing.specs.Attachments.{attachmentsFrom, attachmentsIn, NextPlace}
+use Rattle.writing.specs.LaidWordsLaws.{Numbers, copies-order, history-room, columns-room, attachments-room, attachments-few, history-blocks, columns-blocks, attachments-blocks, copies-read, chain-read, attachments-read}
+use Rattle.writing.specs.Wrote.{endOf, Wrote}
+use Rattle.writing.specs.WroteLaws.{ordered-end, ordered-first}
+use Rattle.writing.specs.Begun.{Begun}
+use Rattle.writing.specs.BegunLaws.{begun-none, begun-room, begun-next, begun-length, begun-end, begun-all}
+use Rattle.writing.specs.Decision.{DecidedIn}
+use Rattle.writing.specs.Finish.{Stands}
+
+-- ---- copies and attachments stand where their blocks are in order
+pub laid-ordered : (s : List ℕ) (a b d e : ℕ) (cs : List Copy) (chain : List ℕ) (memo : List Copy) (fh : ℕ) → Laid s a cs e
+  → Ordered b (copiedBlocks s chain memo fh cs) d → Laid s b cs d
+unfolding Laid Ordered copiedBlocks
+laid-ordered s a b d e [] chain memo fh l q = q
+laid-ordered s a b d e (c ∷ cs) chain memo fh l q =
+    (q .0, l .1, laid-ordered s (c .to + sizeAt s (c .from)) (c .to + sizeAt s (c .from)) d e cs chain memo fh (l .2)
+      (subst (λ (k : ℕ). Ordered (c .to + k) (copiedBlocks s chain memo fh cs) d) (length-copied s chain memo fh (c .from) (l .1)) (q .1)))
+
+-- own copies in front of a block
+own-ordered : (s : List ℕ) (a b d e : ℕ) (cs : List Copy) (chain : List ℕ) (memo : List Copy) (fh : ℕ) (x : Block) (xs : List Block) → Laid s a cs e
+  → Ordered b (copiedBlocks s chain memo fh cs ++ (x ∷ xs)) d → Laid s b cs (x .at) × Ordered (x .at + length (x .bytes)) xs d
+unfolding Laid Ordered copiedBlocks
+own-ordered s a b d e [] chain memo fh x xs l q = (q .0, q .1)
+own-ordered s a b d e (c ∷ cs) chain memo fh x xs l q =
+    let r = own-ordered s (c .to + sizeAt s (c .from)) (c .to + sizeAt s (c .from)) d e cs chain memo fh x xs (l .2)
+          (subst (λ (k : ℕ). Ordered (c .to + k) (copiedBlocks s chain memo fh cs ++ (x ∷ xs)) d) (length-copied s chain memo fh (c .from) (l .1)) (q .1)) in
+    ((q .0, l .1, r .0), r .1)
+
+pub laidAt-ordered : (s : List ℕ) (a b d e : ℕ) (ts : List Attachment) (chain : List ℕ) (memo : List Copy) (fh : ℕ) → LaidAt s a ts e
+  → Ordered b (attachmentBlocks s chain memo fh ts) d → LaidAt s b ts d
+unfolding LaidAt Ordered attachmentBlocks
+laidAt-ordered s a b d e [] chain memo fh l q = q
+laidAt-ordered s a b d e (t ∷ ts) chain memo fh l q =
+    let r = own-ordered s a b d (t .to) (t .own) chain memo fh _ _ (l .0) q in
+    (r .0, l .1, laidAt-ordered s (t .to + sizeAt s (t .from)) (t .to + sizeAt s (t .from)) d e ts chain memo fh (l .2)
+      (subst (λ (k : ℕ). Ordered (t .to + k) (attachmentBlocks s chain memo fh ts) d) (length-at s memo (t .from) (nextAttachment ts) (l .1)) (r .1)))
+
+-- ---- the first links of the HD
+pub first-column : (columns memo : List ℕ) (n : ℕ) → ifEq n 0 0 (getD memo 6656 0) ≡ nextDG (placedIn columns memo 0 n)
+unfolding placedIn placedOne
+first-column columns memo zero = sym (eq-yes _ _ _ _ refl refl)
+first-column columns memo (suc n) = sym (eq-no _ _ _ _ (λ e. omega (arith, e)) refl)
+
+pub first-history : (m : List Copy) (w : List ℕ) (chain fh : ℕ) → 8192 ≤ length w
+  → ifEq chain 0 fh (newLink m (getD w 4352 0)) ≡ firstFH m (part historyAt chain w) fh
+unfolding part
+first-history m w zero fh h = sym (eq-yes _ _ _ _ refl refl)
+first-history m w (suc k) fh h = rw (drop-cons w 4352 0 (omega arith)) (sym (eq-no _ _ _ _ (λ e. omega (arith, e)) refl))
+
+pub first-attachment : (w : List ℕ) (k count r : ℕ) → NextPlace w 0 count r → r ≡ nextAttachment (attachmentsIn w k count)
+first-attachment w k count r h =
+    let e : 4096 + 3 * 0 ≡ 4096 = omega arith in
+    let f : count - 0 ≡ count = omega arith in
+    h .is k ∙ rw (e, f)
+
+-- ---- the parts of the file
+module _ {x : Args} {items pieces columns omitted : ℕ} {n : numbers.Numbers} {v f w m : List ℕ} (st : Stands x items pieces columns omitted n v f w m) where
+  abbrev s : List ℕ
+  s = x .image
+
+  abbrev d : Decided
+  d = st .by .told
+
+  abbrev l : Layout
+  l = d .laidOut
+
+  abbrev known : Known x d
+  known = decided-known x d (st .by .is)
+
+  abbrev laid : LaidOut s (x .blockSize) (length (x .text)) (d .planned .columns) l
+  laid = o x d known
+
+  counted : Numbers l (n .copies) (n .history) (n .metadata) (n .chain) (n .attachments)
+  counted =
+      let z = st .by .numbered in
+      record { all = z .copies; first = z .history; next = z .metadata; blocks = z .chain; moved = z .attachments }
+
+  -- the seven parts
+  abbrev pub partFront : List Block
+  partFront = block 0 (x .ident) ∷ hdBlock s l ∷ []
+
+  abbrev pub partHistory : List Block
+  partHistory = copiedBlocks s (l .past .chain) (memoOf l) (l .fh) (l .past .made .memo)
+
+  abbrev pub partNew : List Block
+  partNew = block (l .md) (mdBytes (x .text)) ∷ block (l .fh) (fhBytes (l .md) (x .time)) ∷ []
+
+  abbrev pub partColumns : List Block
+  partColumns = copiedBlocks s (l .past .chain) (memoOf l) (l .fh) (drop (length (l .past .made .memo)) (l .metadata .memo))
+
+  abbrev pub partStructure : List Block
+  partStructure = structureBlocks s (x .blockSize) (memoOf l) (l .placed) (l .placed)
+
+  abbrev pub partData : List Block
+  partData = dataBlocks s (x .blockSize) (l .placed)
+
+  abbrev pub partAttached : List Block
+  partAttached = attachmentBlocks s (l .past .chain) (memoOf l) (l .fh) (l .attached .attachments)
+
+  whole : blocksOf x l ≡ partFront ++ (partHistory ++ (partNew ++ (partColumns ++ (partStructure ++ (partData ++ partAttached)))))
+  unfolding blocksOf
+  whole = refl
+
+  pub all-ordered : Ordered 0 (partFront ++ (partHistory ++ (partNew ++ (partColumns ++ (partStructure ++ (partData ++ partAttached)))))) (l .fileSize)
+  all-ordered = subst (λ (bs : List Block). Ordered 0 bs (l .fileSize)) whole (ordered x d known)
+
+  -- ---- what the words give
+  long : 8192 ≤ length m
+  unfolding laidCopies
+  long = let h = st .by .longD in rw (st .by .inCopies, length-blit, length-blit, length-blit, length-blit) h
+
+  memo-is : copiesIn m (n .copies) ≡ memoOf l
+  memo-is = rw (counted .all) (copies-read laid (st .d) m (st .by .longD) (st .by .inCopies))
+
+  chain-is : part historyAt (n .chain) m ≡ l .past .chain
+  chain-is = rw (counted .blocks) (chain-read laid (st .d) m (st .by .longD) (st .by .inCopies))
+
+  moved-is : attachmentsIn m (n .metadata) (n .attachments) ≡ l .attached .attachments
+  moved-is = rw (counted .next, counted .moved) (attachments-read laid (st .d) m (st .by .longD) (st .by .inCopies))
+
+  pub number-placed : columns ≡ length (l .placed)
+  number-placed = st .by .columns ∙ sym (ap length (columns-placed laid)) ∙ length-placed (l .placed)
+
+  -- the HD's links
+  pub front-is : {dg fh first comment : ℕ} → dg ≡ ifEq columns 0 0 (getD m 6656 0) → fh ≡ ifEq (n .chain) 0 (n .fh) (newLink (copiesIn m (n .copies)) (getD m 4352 0))
+    → NextPlace m 0 (n .attachments) first → comment ≡ newLink (copiesIn m (n .copies)) (linkAt s 64 5)
+    → block 0 (x .ident) ∷ block 64 (hdBytes s dg fh first comment) ∷ [] ≡ partFront
+  unfolding hdBlock
+  front-is {dg} {fh} {first} {comment} a b c e =
+      let p : dg ≡ nextDG (l .placed) =
+            a ∙ first-column w m columns ∙ rw number-placed
+              (next-in (length (st .by .source .fragments)) (d .planned) l (st .c) (st .d) w m (st .by .inColumns) (st .by .inCopies) (columns-placed laid)
+                (known .fewColumns) (st .by .longC) (st .by .longD)) in
+      let q : fh ≡ firstFH (memoOf l) (l .past .chain) (l .fh) =
+            b ∙ first-history (copiesIn m (n .copies)) m (n .chain) (n .fh) long ∙ rw (memo-is, chain-is, st .by .numbered .fh) in
+      let r : first ≡ nextAttachment (l .attached .attachments) = first-attachment m (n .metadata) (n .attachments) first c ∙ ap nextAttachment moved-is in
+      let t : comment ≡ newLink (memoOf l) (linkAt s 64 5) = e ∙ rw memo-is in
+      rw (p, q, r, t)
+
+  -- ---- each part's blocks and room, where the file is begun
+  module _ {before ys : List Block} {a : ℕ} {out last : List ℕ} where
+    history-same : copiedBlocks s (part historyAt (n .chain) m) (copiesIn m (n .copies)) (n .fh) (part 0 (n .history - 0) (copiesIn m (n .copies))) ≡ partHistory
+    history-same = history-blocks laid counted (st .d) m (st .by .longD) (st .by .inCopies) (n .fh) ∙ rw (st .by .numbered .fh)
+
+    columns-same : copiedBlocks s (part historyAt (n .chain) m) (copiesIn m (n .copies)) (n .fh) (part (n .history) (n .metadata - n .history) (copiesIn m (n .copies))) ≡ partColumns
+    columns-same = columns-blocks laid counted (st .d) m (st .by .longD) (st .by .inCopies) (n .fh) ∙ rw (st .by .numbered .fh)
+
+    attached-same : attachmentBlocks s (part historyAt (n .chain) m) (copiesIn m (n .copies)) (n .fh) (attachmentsIn m (n .metadata) (n .attachments)) ≡ partAttached
+    attached-same = attachments-blocks laid counted (st .d) m (st .by .longD) (st .by .inCopies) (n .fh) ∙ rw (st .by .numbered .fh)
+
+    -- what write_copies asks, and what it did
+    pub history-asks : Begun before (partHistory ++ ys) (l .fileSize) a out last
+      → (0 ≤ n .history) × (n .history ≤ n .copies) × (n .copies ≤ 2048) × (8192 ≤ length m)
+        × Laid s a (part 0 (n .history - 0) (copiesIn m (n .copies))) (length last)
+    history-asks b =
+        let q = copies-order laid counted in
+        let r : Ordered a (copiedBlocks s (part historyAt (n .chain) m) (copiesIn m (n .copies)) (n .fh) (part 0 (n .history - 0) (copiesIn m (n .copies)))) (length last) =
+              subst (λ (bs : List Block). Ordered a bs (length last)) (sym history-same) (begun-room partHistory ys b) in
+        (omega arith, omega (arith, q .0, q .1), q .2, long,
+          laid-ordered s 168 a (length last) (l .md) _ _ _ _ (history-room laid counted (st .d) m (st .by .longD) (st .by .inCopies) (l .md) (omega arith)) r)
+
+    pub history-done : Begun before (partHistory ++ ys) (l .fileSize) a out last → {r : ℕ} {next : List ℕ}
+      → Wrote a (copiedBlocks s (part historyAt (n .chain) m) (copiesIn m (n .copies)) (n .fh) (part 0 (n .history - 0) (copiesIn m (n .copies)))) r last next
+      → Begun (before ++ partHistory) ys (l .fileSize) r out next
+    history-done b {r} {next} z = begun-next partHistory ys b (subst (λ (bs : List Block). Wrote a bs r last next) history-same z)
+
+    pub columns-asks : Begun before (partColumns ++ ys) (l .fileSize) a out last
+      → (n .history ≤ n .metadata) × (n .metadata ≤ n .copies) × (n .copies ≤ 2048) × (8192 ≤ length m)
+        × Laid s a (part (n .history) (n .metadata - n .history) (copiesIn m (n .copies))) (length last)
+    columns-asks b =
+        let q = copies-order laid counted in
+        let r : Ordered a (copiedBlocks s (part historyAt (n .chain) m) (copiesIn m (n .copies)) (n .fh) (part (n .history) (n .metadata - n .history) (copiesIn m (n .copies)))) (length last) =
+              subst (λ (bs : List Block). Ordered a bs (length last)) (sym columns-same) (begun-room partColumns ys b) in
+        (q .0, q .1, q .2, long,
+          laid-ordered s (l .fh + 56) a (length last) (structurePlace (l .metadata)) _ _ _ _
+            (columns-room laid counted (st .d) m (st .by .longD) (st .by .inCopies) (structurePlace (l .metadata)) (omega arith)) r)
+
+    pub columns-done : Begun before (partColumns ++ ys) (l .fileSize) a out last → {r : ℕ} {next : List ℕ}
+      → Wrote a (copiedBlocks s (part historyAt (n .chain) m) (copiesIn m (n .copies)) (n .fh) (part (n .history) (n .metadata - n .history) (copiesIn m (n .copies)))) r last next
+      → Begun (before ++ partColumns) ys (l .fileSize) r out next
+    columns-done b {r} {next} z = begun-next partColumns ys b (subst (λ (bs : List Block). Wrote a bs r last next) columns-same z)
+
+    -- the new MD and FH
+    new-same : {md fh : ℕ} → md ≡ n .md → fh ≡ n .fh → block md (mdBytes (x .text)) ∷ block fh (fhBytes md (x .time)) ∷ [] ≡ partNew
+    new-same e f = rw (e, f, st .by .numbered .md, st .by .numbered .fh)
+
+    pub new-asks : Begun before (partNew ++ ys) (l .fileSize) a out last
+      → Ordered a (block (n .md) (mdBytes (x .text)) ∷ block (n .fh) (fhBytes (n .md) (x .time)) ∷ []) (length last)
+    new-asks b = subst (λ (bs : List Block). Ordered a bs (length last)) (sym (new-same refl refl)) (begun-room partNew ys b)
+
+    pub new-done : Begun before (partNew ++ ys) (l .fileSize) a out last → {r : ℕ} {next : List ℕ}
+      → Wrote a (block (n .md) (mdBytes (x .text)) ∷ block (n .fh) (fhBytes (n .md) (x .time)) ∷ []) r last next → Begun (before ++ partNew) ys (l .fileSize) r out next
+    new-done b {r} {next} z = begun-next partNew ys b (subst (λ (bs : List Block). Wrote a bs r last next) (new-same refl refl) z)
+
+    -- DG, CG, CN and DL of the columns
+    structure-same : structureBlocks s (x .blockSize) (copiesIn m (n .copies)) (placedIn w m 0 columns) (placedIn w m 0 columns) ≡ partStructure
+    structure-same =
+        rw (memo-is, number-placed)
+          (structure-in (length (st .by .source .fragments)) (d .planned) l (st .c) (st .d) w m (st .by .inColumns) (st .by .inCopies) (columns-placed laid)
+            (known .fewColumns) (st .by .longC) (st .by .longD) s (x .blockSize) (memoOf l))
+
+    pub structure-asks : Begun before (partStructure ++ ys) (l .fileSize) a out last
+      → StructureReady s (x .blockSize) w m columns (n .copies) a (length last)
+    structure-asks b =
+        rw number-placed
+          (structure-ready (length (st .by .source .fragments)) (d .planned) l (st .c) (st .d) w m (st .by .inColumns) (st .by .inCopies) (columns-placed laid)
+            (known .fewColumns) (st .by .longC) (st .by .longD) (in-image x d known) (rw memo-is (begun-room partStructure ys b)))
+
+    pub structure-done : Begun before (partStructure ++ ys) (l .fileSize) a out last → {r : ℕ} {next : List ℕ}
+      → Wrote a (structureBlocks s (x .blockSize) (copiesIn m (n .copies)) (placedIn w m 0 columns) (placedIn w m 0 columns)) r last next
+      → Begun (before ++ partStructure) ys (l .fileSize) r out next
+    structure-done b {r} {next} z = begun-next partStructure ys b (subst (λ (bs : List Block). Wrote a bs r last next) structure-same z)
+
+    -- attachments
+    pub attached-asks : Begun before (partAttached ++ ys) (l .fileSize) a out last
+      → (n .metadata + length (ownCopies (attachmentsIn m (n .metadata) (n .attachments))) ≤ n .copies) × (n .copies ≤ 2048) × (n .attachments ≤ 64) × (8192 ≤ length m)
+        × LaidAt s a (attachmentsIn m (n .metadata) (n .attachments)) (length last)
+    attached-asks b =
+        let q = copies-order laid counted in
+        let r : Ordered a (attachmentBlocks s (part historyAt (n .chain) m) (copiesIn m (n .copies)) (n .fh) (attachmentsIn m (n .metadata) (n .attachments))) (length last) =
+              subst (λ (bs : List Block). Ordered a bs (length last)) (sym attached-same) (begun-room partAttached ys b) in
+        (attachments-few laid counted (st .d) m (st .by .longD) (st .by .inCopies), q .2, q .4, long,
+          laidAt-ordered s _ a (length last) (l .fileSize) _ _ _ _
+            (attachments-room laid counted (st .d) m (st .by .longD) (st .by .inCopies) (l .fileSize) (omega arith)) r)
+
+    pub attached-done : Begun before (partAttached ++ ys) (l .fileSize) a out last → {r : ℕ} {next : List ℕ}
+      → Wrote a (attachmentBlocks s (part historyAt (n .chain) m) (copiesIn m (n .copies)) (n .fh) (attachmentsIn m (n .metadata) (n .attachments))) r last next
+      → Begun (before ++ partAttached) ys (l .fileSize) r out next
+    attached-done b {r} {next} z = begun-next partAttached ys b (subst (λ (bs : List Block). Wrote a bs r last next) attached-same z)
+
+  -- ---- the first part and the end
+  pub front-room : (out : List ℕ) → n .«file_size» ≤ length out → (length (x .ident) ≡ 64) × (168 ≤ length out)
+  front-room out h =
+      let i = known .steps .lent .identLength in
+      let e = st .by .numbered .fileSize in
+      let r = ordered-end 0 partFront (l .fileSize) (ordered-first 0 partFront _ (l .fileSize) all-ordered) in
+      let k : endOf 0 partFront ≡ 168 = front-end in
+      (i, omega (arith, r .1, k, e, h))
+    where
+      front-end : endOf 0 partFront ≡ 168
+      unfolding endOf hdBlock
+      front-end = let e = length-hd s (nextDG (l .placed)) (firstFH (memoOf l) (l .past .chain) (l .fh)) (nextAttachment (l .attached .attachments)) (newLink (memoOf l) (linkAt s 64 5)) in omega (arith, e)
+
+  pub front-done : {out next : List ℕ} {r : ℕ} {bs : List Block} → n .«file_size» ≤ length out → bs ≡ partFront → Wrote 0 bs r out next
+    → Begun partFront (partHistory ++ (partNew ++ (partColumns ++ (partStructure ++ (partData ++ partAttached))))) (l .fileSize) r out next
+  front-done {out} {next} {r} h e z =
+      let k = st .by .numbered .fileSize in
+      begun-next partFront _ (begun-none _ (l .fileSize) out all-ordered (omega (arith, k, h))) (subst (λ (bs : List Block). Wrote 0 bs r out next) e z)

@@ -1,0 +1,242 @@
+-- Laws of what a conversion does once all is decided.
+use Prim.Native.Nat.{ℕ, _+_, _*_, _-_, _≤_, _<_}
+use mathlib.Core.List.{List, [], _∷_, _++_}
+use mathlib.Core.Path.{_≡_, refl, sym, ap, subst, _∙_}
+use native.Mathlib.Omega.{arith}
+use lib.ListN.{length, length-append, replicate, length-replicate}
+use Rattle.base.specs.Blit.{blit}
+use Rattle.base.specs.Choice.{ifLt, ifEq}
+use Rattle.base.specs.ChoiceLaws.{lt-yes, lt-no, eq-no}
+use Rattle.base.specs.Checked.{Checked, ok, refused, andThen, Verdict, fine}
+use Rattle.base.specs.BlitLaws.{length-blit}
+use Rattle.base.specs.CheckedLaws.{refused≢ok, ok-same}
+use Rattle.mdf.specs.Group.{dataGroups}
+use Rattle.mdf.specs.Words.{laidItems}
+use Rattle.plan.specs.CopyWords.{laidCopies}
+use Rattle.plan.specs.Columns.{srcGroups, Omission, omissionAddresses, omissionReasons, omissionWords}
+use Rattle.plan.specs.PlanWords.{laidPlan}
+use Rattle.result.specs.Result.{Args, Report, Decided, decided, lentIn, answer, report, sourceGroupsOf, timeColumns, blocksWritten, outcome, zeros, workIn, workAfter, fileOf, convert}
+use Rattle.plan_laws.specs.WalkLaws.{walk-sound}
+use Rattle.plan_laws.specs.Known.{Known, decided-known}
+use Rattle.planning.specs.ReadBackLaws.{few-items}
+use Rattle.planning.specs.TimeWordLaws.{laid-stand}
+use Rattle.planning.specs.OutcomeLaws.{read-groups}
+use Rattle.writing.specs.declared.decide.Numbers.{Numbers}
+use Rattle.writing.specs.declared.convert.Converted.{Converted}
+use Rattle.writing.specs.declared.convert.Converted.the-variants.{Refused, Done}
+use Rattle.writing.specs.declared.convert.Report as counted
+use Rattle.writing.specs.declared.decide.Decision.{Decision}
+use Rattle.writing.specs.declared.decide.Decision.the-variants as done
+use Rattle.writing.specs.Decision.{untimed, four, DecidedIn, RefusedIn, Decides}
+use Rattle.writing.specs.Answer.{args, reportOf, left}
+use Rattle.writing.specs.Finish.{Stands, Counts, Reported, Finished}
+use Rattle.writing.specs.OmissionsLaws.{laid-listed}
+use Rattle.writing.specs.Omissions.{listed}
+use Rattle.writing.specs.Sum.{sumOf}
+use Rattle.writing.specs.Counted.{timeAt, blocksAt}
+use Rattle.writing.specs.ReportLaws.{groups-report, times-report, blocks-report, blocks-few}
+
+-- nothing is decided by the time
+pub decided-untimed : (image : List ℕ) (size : ℕ) (ident text : List ℕ) (time : ℕ) → decided (args image size ident text time) ≡ decided (untimed image size ident text)
+unfolding decided lentIn
+decided-untimed image size ident text time = refl
+
+-- ---- refusals after the decision
+twenty : (work : List (List ℕ)) (n : ℕ) → 1 < n → workAfter n work ≡ zeros work
+twenty work n h = sym (eq-no _ _ _ _ (λ e. omega (arith, e, h)) refl)
+
+module _ (x : Args) (d : Decided) (e : decided x ≡ ok d) (out list : List ℕ) where
+  opened : answer x (length out) (length list)
+    ≡ ifLt (length out) (d .laidOut .fileSize) (refused 20 (d .laidOut .fileSize))
+      (ifLt (length list) (length (omissionWords (d .planned .omissions))) (refused 21 (length (omissionWords (d .planned .omissions)))) (ok d))
+  unfolding answer
+  opened = rw e
+
+  pub short-output : {n : ℕ} → n ≡ d .laidOut .fileSize → length out < n → Finished x out list (Refused 20 n) out list
+  short-output {n} f h =
+      let h' : length out < d .laidOut .fileSize = omega (arith, f, h) in
+      let q : answer x (length out) (length list) ≡ refused 20 (d .laidOut .fileSize) = opened ∙ sym (lt-yes _ _ _ _ h' refl) in
+      record { is = λ work. rw (q, f, twenty work 20 (omega arith)) }
+
+  pub short-list : {n k : ℕ} → n ≡ d .laidOut .fileSize → n ≤ length out → k ≡ length (omissionWords (d .planned .omissions)) → length list < k
+    → Finished x out list (Refused 21 k) out list
+  short-list {n} {k} f h g l =
+      let h' : d .laidOut .fileSize ≤ length out = omega (arith, f, h) in
+      let l' : length list < length (omissionWords (d .planned .omissions)) = omega (arith, g, l) in
+      let q : answer x (length out) (length list) ≡ refused 21 (length (omissionWords (d .planned .omissions))) =
+            opened ∙ sym (lt-no _ _ _ _ h' (lt-yes _ _ _ _ l' refl)) in
+      record { is = λ work. rw (q, g, twenty work 21 (omega arith)) }
+
+  pub all-done : {n k : ℕ} {r : counted.Report} {out' list' : List ℕ} → n ≡ d .laidOut .fileSize → n ≤ length out
+    → k ≡ length (omissionWords (d .planned .omissions)) → k ≤ length list → reportOf r ≡ report x d
+    → out' ≡ blit 0 (fileOf x (d .laidOut)) out → list' ≡ blit 0 (omissionWords (d .planned .omissions)) list
+    → Finished x out list (Done r) out' list'
+  all-done {n} {k} {r} {out'} {list'} f h g l e' o m =
+      let h' : d .laidOut .fileSize ≤ length out = omega (arith, f, h) in
+      let l' : length (omissionWords (d .planned .omissions)) ≤ length list = omega (arith, g, l) in
+      let q : answer x (length out) (length list) ≡ ok d = opened ∙ sym (lt-no _ _ _ _ h' (lt-no _ _ _ _ l' refl)) in
+      record { is = λ work. rw (q, e', o, m) }
+
+-- ---- the length of the list
+length-addresses : (os : List Omission) → length (omissionAddresses os) ≡ length os
+unfolding omissionAddresses
+length-addresses [] = refl
+length-addresses (o ∷ os) = let r = length-addresses os in omega arith
+
+length-reasons : (os : List Omission) → length (omissionReasons os) ≡ length os
+unfolding omissionReasons
+length-reasons [] = refl
+length-reasons (o ∷ os) = let r = length-reasons os in omega arith
+
+pub length-omissions : (os : List Omission) → length (omissionWords os) ≡ 2 * length os + 1
+unfolding omissionWords
+length-omissions os = simp (length-append, length-addresses os, length-reasons os) (omega arith)
+
+-- ---- what stands in the words
+module _ {x : Args} {items fragments columns omissions : ℕ} {n : Numbers} {v f w m : List ℕ} (st : Stands x items fragments columns omissions n v f w m) where
+  abbrev known : Known x (st .by .told)
+  known = decided-known x (st .by .told) (st .by .is)
+
+  pub stands-counts : Counts (x .image) (x .blockSize) w items columns
+  stands-counts =
+      let t = st .by in
+      let s = walk-sound (x .image) (t .source) (t .walked) in
+      let k = known in
+      let i = t .items in
+      let c = t .columns in
+      let few = few-items (t .source .items) (s .fewDG) (s .fewCG) (s .fewCN) in
+      let h = k .fewColumns in
+      let l = t .longC in
+      let stand = laid-stand (length (t .source .fragments)) (t .told .planned) (st .c) (omega arith) (omega arith) in
+      record {
+        fewItems = omega arith;
+        fewColumns = omega arith;
+        fewBlocks = λ j q.
+          let e : 0 + j ≡ j = omega arith in
+          rw (t .inColumns, ← e) (blocks-few (x .image) (x .blockSize) _ _ 0 (t .told .planned .columns) stand (k .fewBlocks) j (omega arith)) }
+
+  pub stands-omissions : omissions ≤ 1024
+  stands-omissions = let k = known in let o = st .by .omissions in let h = k .fewOmissions in omega arith
+
+  pub stands-words : 2 * omissions + 1 ≡ length (omissionWords (st .by .told .planned .omissions))
+  stands-words =
+      let o = st .by .omissions in
+      let l = length-omissions (st .by .told .planned .omissions) in
+      omega arith
+
+  pub stands-long : 8192 ≤ length w
+  unfolding laidPlan
+  stands-long =
+      let t = st .by in
+      let l = t .longC in
+      rw (t .inColumns, length-blit, length-blit) l
+
+  pub stands-listed : listed w omissions ≡ omissionWords (st .by .told .planned .omissions)
+  stands-listed =
+      let t = st .by in
+      let k = known in
+      let l = t .longC in
+      rw (t .inColumns, t .omissions) (laid-listed (length (t .source .fragments)) (t .told .planned) (st .c) (k .fewOmissions) (omega arith))
+
+  pub stands-report : {r : counted.Report} {metadata bytes : ℕ} → Reported (x .image) (x .blockSize) v w items columns metadata bytes r
+    → metadata ≡ st .by .told .laidOut .metadataEnd → bytes ≡ st .by .told .laidOut .fileSize → reportOf r ≡ report x (st .by .told)
+  unfolding report
+  stands-report {r} z e f =
+      let t = st .by in
+      let k = known in
+      let h = k .fewColumns in
+      let l = t .longC in
+      let m = t .longA in
+      let stand = laid-stand (length (t .source .fragments)) (t .told .planned) (st .c) (omega arith) (omega arith) in
+      let g = k .steps .groups in
+      let same = walked-same in
+      let groups : r .«source_groups» ≡ sourceGroupsOf (x .image) (t .told .groups) =
+            z .sourceGroups ∙ rw (t .inSource, t .items, same) (groups-report (x .image) _ _ _
+              (read-groups (x .image) (t .source) (t .numbers) (t .walked) (t .counted) (st .a) (omega arith))) in
+      let times : sumOf (timeAt w) 0 columns ≡ timeColumns (t .told .planned .columns) =
+            rw (t .inColumns, t .columns) (times-report (x .image) (x .blockSize) _ _ 0 (t .told .planned .columns) stand) in
+      let blocks : sumOf (blocksAt (x .image) (x .blockSize) w) 0 columns ≡ blocksWritten (x .image) (x .blockSize) (t .told .planned .columns) =
+            rw (t .inColumns, t .columns) (blocks-report (x .image) (x .blockSize) _ _ 0 (t .told .planned .columns) stand) in
+      rw (groups, z .timeGroups, z .signalGroups, times, t .columns, z .sharedTimeGroups, z .dataBlocks, blocks, z .metadataSize, z .fileSize, e, f)
+    where
+      walked-same : st .by .told .groups ≡ srcGroups (dataGroups (st .by .source)) (st .by .numbers)
+      walked-same =
+          let t = st .by in
+          let k = decided-known x (t .told) (t .is) in
+          let a : k .steps .source ≡ t .source = ok-same (sym (k .steps .walked) ∙ t .walked) in
+          let b : k .steps .numbers ≡ t .numbers = ok-same (sym (k .steps .counted) ∙ rw a (t .counted)) in
+          k .steps .groups ∙ rw (a, b)
+
+-- ---- the whole call
+pub decides-done : {x : Args} {a b c d : List ℕ} {r : Decision} {a' b' c' d' : List ℕ} {i f k o : ℕ} {n : Numbers}
+  → Decides x a b c d r a' b' c' d' → r ≡ done.Done i f k o n → DecidedIn x i f k o n a b c d a' b' c' d'
+decides-done {x} {a} {b} {c} {d} {a' = a'} {b' = b'} {c' = c'} {d' = d'} h e = subst (λ r. Decides x a b c d r a' b' c' d') e h
+
+pub decides-refused : {x : Args} {a b c d : List ℕ} {r : Decision} {a' b' c' d' : List ℕ} {n p : ℕ}
+  → Decides x a b c d r a' b' c' d' → r ≡ done.Refused n p → RefusedIn x n p (four a b c d) (four a' b' c' d')
+decides-refused {x} {a} {b} {c} {d} {a' = a'} {b' = b'} {c' = c'} {d' = d'} h e = subst (λ r. Decides x a b c d r a' b' c' d') e h
+
+pub stands-timed : {image : List ℕ} {size : ℕ} {ident text : List ℕ} (time : ℕ) {i f k o : ℕ} {n : Numbers} {a b c d a' b' c' d' : List ℕ}
+  → DecidedIn (untimed image size ident text) i f k o n a b c d a' b' c' d' → Stands (args image size ident text time) i f k o n a' b' c' d'
+stands-timed {image} {size} {ident} {text} time {a = a} {b = b} {c = c} {d = d} t =
+    record { a = a; b = b; c = c; d = d; by = record {
+      told = t .told;
+      is = decided-untimed image size ident text time ∙ t .is;
+      source = t .source;
+      walked = t .walked;
+      numbers = t .numbers;
+      counted = t .counted;
+      items = t .items;
+      fragments = t .fragments;
+      columns = t .columns;
+      omissions = t .omissions;
+      numbered = t .numbered;
+      longA = t .longA;
+      longB = t .longB;
+      longC = t .longC;
+      longD = t .longD;
+      inSource = t .inSource;
+      inFragments = t .inFragments;
+      inColumns = t .inColumns;
+      inCopies = t .inCopies } }
+
+refused-answer : (x : Args) (o l : ℕ) (v : Verdict) {n p : ℕ} → andThen v (λ _. decided x) ≡ refused n p → andThen v (λ _. answer x o l) ≡ refused n p
+unfolding answer
+refused-answer x o l (refused m q) e = cc
+refused-answer x o l (ok z) e = rw e
+
+pub refused-left : (image : List ℕ) (size : ℕ) (ident text : List ℕ) (time : ℕ) (out list : List ℕ) (ws ws' : List (List ℕ)) (n p : ℕ)
+  → RefusedIn (untimed image size ident text) n p ws ws' → left (Refused n p) out list ws' ≡ convert (args image size ident text time) out list ws
+unfolding convert
+refused-left image size ident text time out list ws ws' n p r =
+    let e : andThen (workIn ws) (λ _. decided (args image size ident text time)) ≡ refused n p = rw (decided-untimed image size ident text time) (r .is) in
+    rw (refused-answer (args image size ident text time) (length out) (length list) (workIn ws) e, r .words)
+
+work-fine : (a b c d : List ℕ) → 8192 ≤ length a → 8192 ≤ length b → 8192 ≤ length c → 8192 ≤ length d → workIn (four a b c d) ≡ fine
+unfolding workIn
+work-fine a b c d h i j k = sym (lt-no _ _ _ _ h (lt-no _ _ _ _ i (lt-no _ _ _ _ j (lt-no _ _ _ _ k refl))))
+
+pub done-left : {y : Args} {i f k o : ℕ} {n : Numbers} {a b c d a' b' c' d' : List ℕ} (x : Args) (out list : List ℕ) (r : Converted) (out' list' a'' b'' c'' d'' : List ℕ)
+  → DecidedIn y i f k o n a b c d a' b' c' d' → Finished x out list r out' list'
+  → a'' ≡ replicate (length a') 0 → b'' ≡ replicate (length b') 0 → c'' ≡ replicate (length c') 0 → d'' ≡ replicate (length d') 0
+  → left r out' list' (four a'' b'' c'' d'') ≡ convert x out list (four a b c d)
+unfolding convert zeros laidPlan laidCopies laidItems
+done-left {a = a} {b = b} {c = c} {d = d} {a' = a'} {b' = b'} {c' = c'} {d' = d'} x out list r out' list' a'' b'' c'' d'' t z p q u v =
+    let la : length a' ≡ length a = ap length (t .inSource) ∙ rw (length-blit, length-blit, length-blit, length-blit) in
+    let lb : length b' ≡ length b = ap length (t .inFragments) ∙ rw length-blit in
+    let lc : length c' ≡ length c = ap length (t .inColumns) ∙ rw (length-blit, length-blit) in
+    let ld : length d' ≡ length d = ap length (t .inCopies) ∙ rw (length-blit, length-blit, length-blit, length-blit) in
+    rw (work-fine a b c d (t .longA) (t .longB) (t .longC) (t .longD), ← (z .is (four a b c d)), p, q, u, v, la, lb, lc, ld)
+
+-- each slice keeps its length
+module _ {y : Args} {i f k o : ℕ} {n : Numbers} {a b c d a' b' c' d' : List ℕ} (t : DecidedIn y i f k o n a b c d a' b' c' d') where
+  pub cleared-source : (w : List ℕ) → w ≡ replicate (length a') 0 → length w ≡ length a
+  unfolding laidItems
+  cleared-source w e = rw (e, length-replicate, t .inSource) (rw (length-blit, length-blit, length-blit, length-blit))
+
+  pub cleared-fragments : (w : List ℕ) → w ≡ replicate (length b') 0 → length w ≡ length b
+  cleared-fragments w e = rw (e, length-replicate, t .inFragments) (rw length-blit)
+
+  pub cleared-columns : (w : List ℕ) → w ≡ replicate (length c') 0 → length w ≡ length c
+  unfolding laidPlan
+  cleared-columns w e = rw (e, length-replicate, t .inColumns) (rw (length-blit, length-blit))
