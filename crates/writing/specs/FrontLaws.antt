@@ -1,16 +1,16 @@
 -- Laws of the identification and the HD, and of the new MD and FH, written.
 use Prim.Native.Nat.{ℕ, _+_, _*_, _-_, _/_, _≤_}
-use mathlib.Core.List.{List, [], _∷_, _++_}
-use mathlib.Core.Path.{_≡_, refl, sym, ap, _∙_}
+use mathlib.Core.List.{List, [], _∷_}
+use mathlib.Core.Path.{_≡_, refl, ap, _∙_}
 use native.Mathlib.Nat.{le-refl}
 use native.Mathlib.Omega.{arith}
-use lib.ListN.{length, replicate, take, drop}
+use lib.ListN.{length, replicate}
 use lib.Seq.{take-all}
 use borrow.Rule.Slice.PartMut.{putMid, midOf}
 use Rattle.base.specs.Blit.{part, blit}
 use Rattle.plan.specs.Geometry.{align8}
 use Rattle.plan.specs.Layout.{mdSize}
-use Rattle.result.specs.Fill.{Block, block, hdBytes, mdBytes, fhBytes}
+use Rattle.result.specs.Fill.{block, hdBytes, mdBytes, fhBytes}
 use Rattle.result.specs.Ordered.{Ordered}
 use Rattle.copies_laws.specs.LengthLaws.{length-md, length-fh, length-hd}
 use Rattle.writing.specs.Wrote.{Wrote}
@@ -54,7 +54,8 @@ pub wrote-fh : (out mid ys : List ℕ) (a md fh time : ℕ) → mid ≡ blit a (
 wrote-fh out mid ys a md fh time g q h = wrote-at a fh (fh + 56) (fhBytes md time) out mid ys h (rw (length-fh md time)) g q
 
 -- past the MD
-pub past-md : {a r : ℕ} {out last : List ℕ} (md : ℕ) (text : List ℕ) → Wrote a (block md (mdBytes text) ∷ []) r out last → r ≡ md + mdSize (length text)
+pub past-md : {a r : ℕ} {out last : List ℕ} (md : ℕ) (text : List ℕ) → Wrote a (block md (mdBytes text) ∷ []) r out last
+  → r ≡ md + mdSize (length text)
 past-md md text w = past-one (block md (mdBytes text)) _ w (length-md text)
 
 pub record HistoryRoom (a md fh n e : ℕ) : Type 0 where

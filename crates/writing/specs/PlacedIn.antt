@@ -4,8 +4,7 @@ use mathlib.Core.List.{List, [], _∷_}
 use mathlib.Core.Bool.{Bool, true, false}
 use mathlib.Core.Option.{Option, none, some}
 use lib.ListN.{getD}
-use Rattle.mdf.specs.Group.{DataGroup}
-use Rattle.plan.specs.Columns.{SrcGroup, Column, Signal, unsigned, signalData}
+use Rattle.plan.specs.Columns.{Column, Signal, unsigned, signalData}
 use Rattle.plan.specs.Layout.{Placed}
 use Rattle.plan.specs.CopyWords.{placedAt}
 

@@ -1,23 +1,23 @@
 -- The columns in words are those that were planned and placed, but for what their blocks do not show.
-use Prim.Native.Nat.{ℕ, zero, suc, _+_, _*_, _-_, _≤_, _<_}
+use Prim.Native.Nat.{ℕ, zero, suc, _+_, _*_, _≤_, _<_}
 use mathlib.Core.List.{List, [], _∷_, _++_}
 use mathlib.Core.Bool.{Bool, true, false}
 use mathlib.Core.Option.{Option, none, some}
-use mathlib.Core.Path.{_≡_, refl, sym, ap, _∙_}
-use native.Mathlib.Nat.{add-zero, zero-add, add-assoc, mul-zero, suc-mul}
+use mathlib.Core.Path.{_≡_, refl, ap, _∙_}
+use native.Mathlib.Nat.{add-zero, zero-add}
 use native.Mathlib.Numerals.{add-one}
 use native.Mathlib.Omega.{arith}
-use lib.ListN.{length, getD, set, drop, length-set, length-append}
+use lib.ListN.{length, getD, set, length-set, length-append}
 use lib.Seq.{getD-set-same, getD-set-other, getD-append-add}
-use Rattle.base.specs.Choice.{ifEq}
 use Rattle.base.specs.Blit.{blit}
 use Rattle.base.specs.BlitLaws.{length-blit}
-use Rattle.plan.specs.Columns.{SrcGroup, Column, Signal, unsigned, signalData, sizeOfSignal, Omission, Plan}
+use Rattle.plan.specs.Columns.{Column, Signal, unsigned, signalData, sizeOfSignal, Plan}
 use Rattle.plan.specs.Copies.{Copy}
-use Rattle.plan.specs.CopyWords.{copyWords, attachmentWords, attachmentsAt, historyAt, placedAt, placedWords, laidCopies}
+use Rattle.plan.specs.CopyWords.{placedAt, placedWords, laidCopies}
 use Rattle.plan.specs.Layout.{columnWidth, columnBlocks, Placed, cgOf, cnOf, Layout}
 use Rattle.plan.specs.PlanWords.{timeWord, masterWord, signalWord, columnWords, columnsWords, omissionsAt, omissionPairs, laidPlan}
-use Rattle.result.specs.Fill.{Block, block, nextDG, cgAt, dgBytes, masterLink, cgData, cgBytes, sdLink, cnBytes, dlBytes, dlBlocks, columnPayload, structureBlocks}
+use Rattle.result.specs.Fill.{Block, block, nextDG, cgAt, dgBytes, masterLink, cgData, cgBytes, sdLink, cnBytes, dlBytes, dlBlocks,
+  columnPayload, structureBlocks}
 use Rattle.result.specs.Guarantee.{In, here, there, columnsPlaced}
 use Rattle.result.specs.Ordered.{Ordered}
 use Rattle.copies_laws.specs.LengthLaws.{InImage}
@@ -195,14 +195,16 @@ unfolding columnsPlaced
 length-placed [] = refl
 length-placed (p ∷ ps) = ap suc (length-placed ps)
 
-plan-words : (n : ℕ) (p : Plan) (w : List ℕ) → length (p .columns) ≤ 512 → 8192 ≤ length w → Words (laidPlan n p w) (8 * 0) (columnsWords n (p .columns))
+plan-words : (n : ℕ) (p : Plan) (w : List ℕ) → length (p .columns) ≤ 512 → 8192 ≤ length w
+  → Words (laidPlan n p w) (8 * 0) (columnsWords n (p .columns))
 unfolding laidPlan
 plan-words n p w few long j h =
     let l = length-columns n (p .columns) in
     blit-before (omissionPairs (p .omissions)) omissionsAt (8 * 0 + j) _ (omega arith)
     ∙ blit-among (columnsWords n (p .columns)) (8 * 0) j w h (omega arith)
 
-place-words : (l : Layout) (w : List ℕ) → length (l .placed) ≤ 512 → 8192 ≤ length w → Words (laidCopies l w) (placedAt + 3 * 0) (placedWords (l .placed))
+place-words : (l : Layout) (w : List ℕ) → length (l .placed) ≤ 512 → 8192 ≤ length w
+  → Words (laidCopies l w) (placedAt + 3 * 0) (placedWords (l .placed))
 unfolding laidCopies
 place-words l w few long j h =
     let k = length-places (l .placed) in
@@ -252,7 +254,8 @@ module _ (n : ℕ) (p : Plan) (l : Layout) (w v columns memo : List ℕ) (planne
   pub next-in : nextDG (placedIn columns memo 0 (length (l .placed))) ≡ nextDG (l .placed)
   next-in = rw placed-in (bare-next (l .placed))
 
-  pub seen-in : {s : List ℕ} → ((c : Column) → In c (p .columns) → InImage s c) → (k : ℕ) → k < length (l .placed) → InImage s (columnIn columns (8 * k))
+  pub seen-in : {s : List ℕ} → ((c : Column) → In c (p .columns) → InImage s c) → (k : ℕ) → k < length (l .placed)
+    → InImage s (columnIn columns (8 * k))
   seen-in {s} f k h =
       let g : (c : Column) → In c (columnsPlaced (l .placed)) → InImage s c = rw same f in
       rw zero-add at (seen-back columns memo 0 (l .placed) placed-in g k h)

@@ -3,29 +3,27 @@ use Prim.Native.Nat.{ℕ, zero, suc, _+_, _*_, _-_, _/_, _^_, _≤_, _<_, max}
 use mathlib.Core.List.{List, [], _∷_, _++_}
 use mathlib.Core.Bool.{Bool, true, false}
 use mathlib.Core.Option.{Option, none, some}
-use mathlib.Core.Logic.{_⊎_, inl, inr, ⊎-elim}
+use mathlib.Core.Logic.{_⊎_, ⊎-elim}
 use mathlib.Core.Path.{_≡_, refl, sym, ap, subst, _∙_}
-use native.Mathlib.Nat.{add-zero, zero-add, sub-zero, le-trans, le-refl, max-eq-left, max-eq-right, mul-le-mul-right, mul-le-mul-left, div-le-self, div-mul-le-self}
-use native.Mathlib.Numerals.{sub-one}
+use native.Mathlib.Nat.{add-zero, zero-add, sub-zero, le-trans, le-refl, max-eq-left, max-eq-right, mul-le-mul-right, div-le-self, div-mul-le-self}
 use native.Mathlib.Omega.{arith}
 use lib.Dec.{leb}
 use lib.ListN.{length, getD, replicate, length-append}
-use borrow.Author.Tests.{leb-true, leb-false}
+use borrow.Author.Tests.{leb-true}
 use borrow.Rule.Slice.PartMut.{putMid, midOf}
 use Rattle.base.specs.Choice.{pick, ifLt, ifLe, ifEq}
 use Rattle.base.specs.ChoiceLaws.{lt-yes, lt-no, eq-yes, eq-no}
-use Rattle.base.specs.Field.{le}
 use Rattle.base.specs.FieldLaws.{length-le}
-use Rattle.base.specs.Blit.{part, blit}
-use Rattle.base.specs.BlitLaws.{length-part, length-blit}
+use Rattle.base.specs.Blit.{blit}
+use Rattle.base.specs.BlitLaws.{length-part}
 use Rattle.mdf.specs.Block.{linkAt, dataAt}
 use Rattle.plan.specs.Channel.{channelBytes, keepsInval, width}
-use Rattle.plan.specs.Columns.{Signal, unsigned, signalData}
 use Rattle.plan.specs.Copies.{Copy, copyOf}
 use Rattle.plan.specs.CopyWords.{placedAt}
 use Rattle.plan.specs.Geometry.{powerIn, stepOf, perBlock, perFull, blockCount, blockPayload}
-use Rattle.plan.specs.Layout.{columnWidth, columnBlocks, cgSize, dlSize, Placed, cgOf, cnOf, dlOf}
-use Rattle.result.specs.Fill.{Block, block, header, orZero, newLink, sdLink, nextDG, cgAt, dgBytes, cgBytes, cnBytes, dlBytes, dlBlocks, columnPayload, structureBlocks}
+use Rattle.plan.specs.Layout.{columnWidth, columnBlocks, cgSize, dlSize, Placed, cgOf, cnOf}
+use Rattle.result.specs.Fill.{Block, block, orZero, newLink, sdLink, nextDG, cgAt, dgBytes, cgBytes, cnBytes, dlBlocks, columnPayload,
+  structureBlocks}
 use Rattle.result.specs.Ordered.{Ordered}
 use Rattle.copies_laws.specs.AnswerLaws.{on-eq}
 use Rattle.copies_laws.specs.LengthLaws.{InImage, length-header, length-blockLinks}
@@ -37,8 +35,8 @@ use Rattle.puts.specs.PutLaws.{lent-is}
 use Rattle.writing.specs.declared.placed.PlacedColumn.{PlacedColumn}
 use Rattle.writing.specs.AheadLaws.{lt-or-le}
 use Rattle.writing.specs.PlacedIn.{masterIn, signalIn, columnIn, placedOne, placedIn}
-use Rattle.writing.specs.Structure.{masterPlace, nextPlace, columnOf, Near, columnDG, columnCG, columnCN, columnDL, columnDLs, columnParts,
-  cgLength, Room, StructureReady}
+use Rattle.writing.specs.Structure.{masterPlace, nextPlace, columnOf, Near, columnDG, columnCG, columnCN, columnDL, columnDLs,
+  columnParts, cgLength, Room, StructureReady}
 use Rattle.writing.specs.Wrote.{endOf, Wrote}
 use Rattle.writing.specs.WroteLaws.{ordered-end, ordered-back, ordered-first, wrote-none, wrote-block, wrote-append}
 

@@ -1,7 +1,6 @@
 -- Zeros, then the FH.
 use Rattle.writing.specs.FrontLaws.{wrote-fh}
 use native.Mathlib.Omega.{arith}
-use lib.ListN.{length}
 use borrow.Author.Needs.{needs}
 use Rattle.writing.proofs.front.write_fh.Statement.{statement}
 use Rattle.writing.proofs.front.write_fh.Tie as tie
@@ -28,7 +27,9 @@ same-length : tie.Need-same-length
 same-length c = search needs
 
 returns : tie.Need-returns
-returns c = wrote-fh _ _ _ _ _ _ _ (c .before .before .before .before .before .before .gap .ensures) (c .before .before .put-fh .ensures) (omega arith)
+returns c =
+    wrote-fh _ _ _ _ _ _ _ (c .before .before .before .before .before .before .gap .ensures) (c .before .before .put-fh .ensures)
+        (omega arith)
 
 pub write-fh-spec : {M : Type 1} → statement M
 write-fh-spec =

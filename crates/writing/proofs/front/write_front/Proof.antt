@@ -1,8 +1,6 @@
 -- The identification, then the HD right after it.
 use mathlib.Core.Path.{refl}
 use Rattle.writing.specs.FrontLaws.{wrote-front}
-use native.Mathlib.Omega.{arith}
-use lib.ListN.{length}
 use borrow.Author.Needs.{needs}
 use Rattle.writing.proofs.front.write_front.Statement.{statement}
 use Rattle.writing.proofs.front.write_front.Tie as tie
@@ -26,7 +24,9 @@ same-length : tie.Need-same-length
 same-length c = search needs
 
 returns : tie.Need-returns
-returns c = (refl, wrote-front _ _ _ _ _ _ (c .before .before .before .before .before .before .before .before .before .before .before .pre .0) _ _ _ (c .before .before .before .before .before .before .copy .ensures) (c .before .before .put-hd .ensures))
+returns c =
+    (refl, wrote-front _ _ _ _ _ _ (c .before .before .before .before .before .before .before .before .before .before .before .pre .0) _ _ _
+        (c .before .before .before .before .before .before .copy .ensures) (c .before .before .put-hd .ensures))
 
 pub write-front-spec : {M : Type 1} → statement M
 write-front-spec =

@@ -1,7 +1,5 @@
 -- The number of blocks for the column's width.
 use mathlib.Core.Path.{_∙_}
-use native.Mathlib.Omega.{arith}
-use lib.ListN.{length}
 use borrow.Author.Needs.{needs}
 use Rattle.writing.proofs.placed.blocks_of.Statement.{statement}
 use Rattle.writing.proofs.placed.blocks_of.Tie as tie

@@ -1,8 +1,6 @@
 -- 104 bytes without a master, 112 with one.
 use Rattle.writing.specs.StructureLaws.{size-no, size-yes}
-use borrow.Author.Needs.{needs}
 use native.Mathlib.Omega.{arith}
-use lib.ListN.{length}
 use Rattle.writing.proofs.placed.cg_size.Statement.{statement}
 use Rattle.writing.proofs.placed.cg_size.Tie as tie
 

@@ -4,7 +4,6 @@ use lib.ListN.{getD}
 use Rattle.writing.specs.PlacedIn.{masterIn}
 use Rattle.writing.specs.StructureLaws.{size-near, column-made}
 use native.Mathlib.Omega.{arith}
-use lib.ListN.{length}
 use borrow.Author.Needs.{needs}
 use Rattle.writing.proofs.placed.column_of.Statement.{statement}
 use Rattle.writing.proofs.placed.column_of.Tie as tie
@@ -64,13 +63,21 @@ shared-slice-read-dg : tie.Need-shared-slice-read-dg
 shared-slice-read-dg c = search needs
 
 add-cn : tie.Need-add-cn
-add-cn c = omega (arith, c .before .before .before .before .before .before .before .before .before .before .pre .0 .below (c .before .before .before .before .before .before .before .before .before .before .args .k) (c .before .before .before .before .before .before .before .before .before .before .pre .1))
+add-cn c =
+    omega (arith, c .before .before .before .before .before .before .before .before .before .before .pre .0 .below
+        (c .before .before .before .before .before .before .before .before .before .before .args .k)
+        (c .before .before .before .before .before .before .before .before .before .before .pre .1))
 
 cg-size-requires : tie.Need-cg-size-requires
 cg-size-requires c κs = search needs
 
 add-cn-2 : tie.Need-add-cn-2
-add-cn-2 c = omega (arith, c .before .before .before .before .before .before .before .before .before .before .before .pre .0 .below (c .before .before .before .before .before .before .before .before .before .before .before .args .k) (c .before .before .before .before .before .before .before .before .before .before .before .pre .1), c .cg-size .ensures, size-near (masterIn (getD (c .before .before .before .before .before .before .before .before .before .before .before .args .columns .now) (8 * c .before .before .before .before .before .before .before .before .before .before .before .args .k + 5) 0)))
+add-cn-2 c =
+    omega (arith, c .before .before .before .before .before .before .before .before .before .before .before .pre .0 .below
+        (c .before .before .before .before .before .before .before .before .before .before .before .args .k)
+        (c .before .before .before .before .before .before .before .before .before .before .before .pre .1), c .cg-size .ensures, size-near
+        (masterIn (getD (c .before .before .before .before .before .before .before .before .before .before .before .args .columns .now)
+        (8 * c .before .before .before .before .before .before .before .before .before .before .before .args .k + 5) 0)))
 
 add-sd-link : tie.Need-add-sd-link
 add-sd-link c = search needs
@@ -118,7 +125,11 @@ shared-slice-read-t20 : tie.Need-shared-slice-read-t20
 shared-slice-read-t20 c = search needs
 
 returns : tie.Need-returns
-returns c = column-made _ _ _ _ _ _ (c .before .before .before .before .before .before .before .before .before .before .has-master .ensures) (c .before .before .before .before .before .before .before .before .before .master-place .ensures) (c .before .before .before .before .before .before .before .cg-size .ensures) (c .before .before .before .before .sd-link .ensures) (c .before .before .before .blocks-of .ensures) (c .before .before .payload-of .ensures)
+returns c =
+    column-made _ _ _ _ _ _ (c .before .before .before .before .before .before .before .before .before .before .has-master .ensures)
+        (c .before .before .before .before .before .before .before .before .before .master-place .ensures)
+        (c .before .before .before .before .before .before .before .cg-size .ensures) (c .before .before .before .before .sd-link .ensures)
+        (c .before .before .before .blocks-of .ensures) (c .before .before .payload-of .ensures)
 
 pub column-of-spec : {M : Type 1} → statement M
 column-of-spec =

@@ -1,8 +1,6 @@
 -- No master by the word 0.
 use Rattle.writing.specs.StructureLaws.{master-no, master-yes}
-use borrow.Author.Needs.{needs}
 use native.Mathlib.Omega.{arith}
-use lib.ListN.{length}
 use Rattle.writing.proofs.placed.has_master.Statement.{statement}
 use Rattle.writing.proofs.placed.has_master.Tie as tie
 

@@ -2,7 +2,6 @@
 use Prim.Native.Nat.{_-_}
 use Rattle.writing.specs.StructureLaws.{place-no, place-past, place-yes}
 use native.Mathlib.Omega.{arith}
-use lib.ListN.{length}
 use borrow.Author.Needs.{needs}
 use Rattle.writing.proofs.placed.master_place.Statement.{statement}
 use Rattle.writing.proofs.placed.master_place.Tie as tie

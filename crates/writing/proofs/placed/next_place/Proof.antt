@@ -3,7 +3,6 @@ use mathlib.Core.Path.{refl}
 use Rattle.writing.specs.Structure.{nextPlace}
 use Rattle.base.specs.ChoiceLaws.{lt-yes, lt-no}
 use native.Mathlib.Omega.{arith}
-use lib.ListN.{length}
 use borrow.Author.Needs.{needs}
 use Rattle.writing.proofs.placed.next_place.Statement.{statement}
 use Rattle.writing.proofs.placed.next_place.Tie as tie

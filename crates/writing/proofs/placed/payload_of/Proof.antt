@@ -1,7 +1,6 @@
 -- The records of a block that is not the last, each of the column's width.
 use Rattle.writing.specs.StructureLaws.{payload-near, payload-is}
 use native.Mathlib.Omega.{arith}
-use lib.ListN.{length}
 use borrow.Author.Needs.{needs}
 use Rattle.writing.proofs.placed.payload_of.Statement.{statement}
 use Rattle.writing.proofs.placed.payload_of.Tie as tie

@@ -1,8 +1,6 @@
 -- No signal data by the word 0.
 use Rattle.writing.specs.StructureLaws.{sd-no, sd-yes}
-use borrow.Author.Needs.{needs}
 use native.Mathlib.Omega.{arith}
-use lib.ListN.{length}
 use Rattle.writing.proofs.placed.sd_link.Statement.{statement}
 use Rattle.writing.proofs.placed.sd_link.Tie as tie
 

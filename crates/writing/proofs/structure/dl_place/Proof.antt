@@ -2,7 +2,6 @@
 use mathlib.Core.Path.{refl}
 use Rattle.base.specs.ChoiceLaws.{eq-yes, eq-no}
 use native.Mathlib.Omega.{arith}
-use lib.ListN.{length}
 use borrow.Author.Needs.{needs}
 use Rattle.writing.proofs.structure.dl_place.Statement.{statement}
 use Rattle.writing.proofs.structure.dl_place.Tie as tie

@@ -1,7 +1,5 @@
 -- A CG over the column's numbers.
 use Rattle.writing.specs.StructureLaws.{filled-cg}
-use native.Mathlib.Omega.{arith}
-use lib.ListN.{length}
 use borrow.Author.Needs.{needs}
 use Rattle.writing.proofs.structure.fill_cg.Statement.{statement}
 use Rattle.writing.proofs.structure.fill_cg.Tie as tie
@@ -28,7 +26,12 @@ same-length : tie.Need-same-length
 same-length c = search needs
 
 returns : tie.Need-returns
-returns c = filled-cg _ _ _ _ _ (c .before .before .put-cg .ensures) (c .before .before .before .before .before .before .before .before .link .ensures) (c .before .before .before .before .before .before .before .link2 .ensures) (c .before .before .before .before .before .before .link3 .ensures) (c .before .before .before .before .before .channel-bytes .ensures .is) (c .before .before .before .before .keeps-inval .ensures)
+returns c =
+    filled-cg _ _ _ _ _ (c .before .before .put-cg .ensures)
+        (c .before .before .before .before .before .before .before .before .link .ensures)
+        (c .before .before .before .before .before .before .before .link2 .ensures)
+        (c .before .before .before .before .before .before .link3 .ensures)
+        (c .before .before .before .before .before .channel-bytes .ensures .is) (c .before .before .before .before .keeps-inval .ensures)
 
 pub fill-cg-spec : {M : Type 1} → statement M
 fill-cg-spec =

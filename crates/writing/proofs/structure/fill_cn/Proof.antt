@@ -1,7 +1,5 @@
 -- A CN over the column's numbers.
 use Rattle.writing.specs.StructureLaws.{filled-cn}
-use native.Mathlib.Omega.{arith}
-use lib.ListN.{length}
 use borrow.Author.Needs.{needs}
 use Rattle.writing.proofs.structure.fill_cn.Statement.{statement}
 use Rattle.writing.proofs.structure.fill_cn.Tie as tie
@@ -31,7 +29,13 @@ same-length : tie.Need-same-length
 same-length c = search needs
 
 returns : tie.Need-returns
-returns c = filled-cn _ _ _ _ _ (c .before .before .put-cn .ensures) (c .before .before .before .before .before .before .before .before .before .link .ensures) (c .before .before .before .before .before .before .before .before .link2 .ensures) (c .before .before .before .before .before .before .before .link3 .ensures) (c .before .before .before .before .before .before .link4 .ensures) (c .before .before .before .before .before .link5 .ensures) (c .before .before .before .before .keeps-inval .ensures)
+returns c =
+    filled-cn _ _ _ _ _ (c .before .before .put-cn .ensures)
+        (c .before .before .before .before .before .before .before .before .before .link .ensures)
+        (c .before .before .before .before .before .before .before .before .link2 .ensures)
+        (c .before .before .before .before .before .before .before .link3 .ensures)
+        (c .before .before .before .before .before .before .link4 .ensures) (c .before .before .before .before .before .link5 .ensures)
+        (c .before .before .before .before .keeps-inval .ensures)
 
 pub fill-cn-spec : {M : Type 1} → statement M
 fill-cn-spec =

@@ -1,7 +1,5 @@
 -- A DG over the column's numbers.
 use Rattle.writing.specs.StructureLaws.{filled-dg}
-use native.Mathlib.Omega.{arith}
-use lib.ListN.{length}
 use borrow.Author.Needs.{needs}
 use Rattle.writing.proofs.structure.fill_dg.Statement.{statement}
 use Rattle.writing.proofs.structure.fill_dg.Tie as tie
@@ -22,7 +20,9 @@ same-length : tie.Need-same-length
 same-length c = search needs
 
 returns : tie.Need-returns
-returns c = filled-dg _ _ _ _ _ _ (c .before .before .put-dg .ensures) (c .before .before .before .before .before .before .dl-place .ensures) (c .before .before .before .before .before .link .ensures)
+returns c =
+    filled-dg _ _ _ _ _ _ (c .before .before .put-dg .ensures) (c .before .before .before .before .before .before .dl-place .ensures)
+        (c .before .before .before .before .before .link .ensures)
 
 pub fill-dg-spec : {M : Type 1} → statement M
 fill-dg-spec =

@@ -1,7 +1,6 @@
 -- Zeros, then the CG.
 use Rattle.writing.specs.StructureLaws.{wrote-cg}
 use native.Mathlib.Omega.{arith}
-use lib.ListN.{length}
 use borrow.Author.Needs.{needs}
 use Rattle.writing.proofs.structure.write_cg.Statement.{statement}
 use Rattle.writing.proofs.structure.write_cg.Tie as tie
@@ -28,7 +27,10 @@ same-length : tie.Need-same-length
 same-length c = search needs
 
 returns : tie.Need-returns
-returns c = wrote-cg _ _ _ _ _ _ _ (c .before .before .before .before .before .before .gap .ensures) (c .before .before .fill-cg .ensures) (omega arith) (c .before .before .before .before .before .before .before .before .before .before .before .before .pre .1) (c .before .before .before .before .before .before .before .before .before .before .before .before .pre .3)
+returns c =
+    wrote-cg _ _ _ _ _ _ _ (c .before .before .before .before .before .before .gap .ensures) (c .before .before .fill-cg .ensures)
+        (omega arith) (c .before .before .before .before .before .before .before .before .before .before .before .before .pre .1)
+        (c .before .before .before .before .before .before .before .before .before .before .before .before .pre .3)
 
 pub write-cg-spec : {M : Type 1} → statement M
 write-cg-spec =

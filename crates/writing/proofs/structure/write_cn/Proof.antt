@@ -1,7 +1,6 @@
 -- Zeros, then the CN.
 use Rattle.writing.specs.StructureLaws.{wrote-cn}
 use native.Mathlib.Omega.{arith}
-use lib.ListN.{length}
 use borrow.Author.Needs.{needs}
 use Rattle.writing.proofs.structure.write_cn.Statement.{statement}
 use Rattle.writing.proofs.structure.write_cn.Tie as tie
@@ -28,7 +27,9 @@ same-length : tie.Need-same-length
 same-length c = search needs
 
 returns : tie.Need-returns
-returns c = wrote-cn _ _ _ _ _ _ _ (c .before .before .before .before .before .before .gap .ensures) (c .before .before .fill-cn .ensures) (omega arith) (c .before .before .before .before .before .before .before .before .before .before .before .pre .2)
+returns c =
+    wrote-cn _ _ _ _ _ _ _ (c .before .before .before .before .before .before .gap .ensures) (c .before .before .fill-cn .ensures)
+        (omega arith) (c .before .before .before .before .before .before .before .before .before .before .before .pre .2)
 
 pub write-cn-spec : {M : Type 1} → statement M
 write-cn-spec =
