@@ -4,8 +4,9 @@ use mathlib.Core.List.{List, []}
 use mathlib.Core.Path.{_≡_}
 use lib.ListN.{length}
 use Rattle.base.specs.Blit.{blit}
-use Rattle.base.specs.Checked.{Checked, ok, refused}
-use Rattle.result.specs.Result.{Args, Report, Decided, decided, answer, fileOf, Outcome, outcome, zeros}
+use Rattle.base.specs.Checked.{Checked, ok, refused, andThen, Verdict}
+use Rattle.plan.specs.Columns.{omissionWords}
+use Rattle.result.specs.Result.{Args, Report, Decided, decided, lentIn, answer, report, fileOf, Outcome, workIn, zeros}
 use Rattle.writing.specs.declared.convert.Report as counted
 use Rattle.writing.specs.declared.convert.Converted.{Converted}
 use Rattle.writing.specs.declared.convert.Converted.the-variants.{Refused, Done}
@@ -31,6 +32,24 @@ answerOf (Done r) = ok (reportOf r)
 -- the answer with what the call left in output, list and work slices
 abbrev pub left : Converted → List ℕ → List ℕ → List (List ℕ) → Outcome
 left r out list work = record { answered = answerOf r; output = out; list = list; work = work }
+
+-- ---- a whole call
+abbrev pub outcome : Args → List ℕ → List ℕ → List (List ℕ) → Checked Decided → Outcome
+outcome x out list work (refused number place) =
+    record { answered = refused number place; output = out; list = list; work = work }
+outcome x out list work (ok d) =
+    record {
+      answered = ok (report x d);
+      output = blit 0 (fileOf x (d .laidOut)) out;
+      list = blit 0 (omissionWords (d .planned .omissions)) list;
+      work = work }
+
+abbrev pub begun : Verdict → Args → List ℕ → List ℕ → List (List ℕ) → Outcome
+begun (refused number place) x out list work = outcome x out list work (refused number place)
+begun (ok u) x out list work = outcome x out list (zeros work) (answer x (length out) (length list))
+
+unfoldable pub convert : Args → List ℕ → List ℕ → List (List ℕ) → Outcome
+convert x out list work = begun (andThen (workIn work) (λ _. lentIn x)) x out list work
 
 -- the file of a call, nothing for a refusal
 abbrev pub fileFor : Args → Checked Decided → List ℕ

@@ -4,7 +4,7 @@ use mathlib.Core.List.{List, [], _∷_, _++_}
 use mathlib.Core.Path.{_≡_}
 use lib.ListN.{length}
 use Rattle.base.specs.Blit.{blit}
-use Rattle.base.specs.Checked.{Checked, ok, refused, andThen}
+use Rattle.base.specs.Checked.{Checked, ok, refused, andThen, Verdict}
 use Rattle.mdf.specs.Walk.{Source, walk}
 use Rattle.mdf.specs.Group.{dataGroups}
 use Rattle.mdf.specs.Count.{counts}
@@ -13,7 +13,7 @@ use Rattle.plan.specs.Columns.{Plan}
 use Rattle.plan.specs.Layout.{Layout}
 use Rattle.plan.specs.PlanWords.{signalFragments, laidPlan}
 use Rattle.plan.specs.CopyWords.{laidCopies}
-use Rattle.result.specs.Result.{Args, Decided, decided, workIn, workAfter}
+use Rattle.result.specs.Result.{Args, Decided, lentIn, decided, workIn, zeros}
 use Rattle.writing.specs.declared.decide.Numbers.{Numbers}
 use Rattle.writing.specs.declared.decide.Decision.{Decision}
 use Rattle.writing.specs.declared.decide.Decision.the-variants.{Refused, Done}
@@ -60,10 +60,15 @@ pub record DecidedIn (x : Args) (i f k o : ℕ) (n : Numbers) (a b c d a' b' c' 
   pub inColumns : c' ≡ laidPlan (length (source .fragments)) (told .planned) c
   pub inCopies : d' ≡ laidCopies (told .laidOut) d
 
+-- "Work slices are zero after every return except refusal 1, which changes nothing."
+abbrev pub workLeft : Verdict → List (List ℕ) → List (List ℕ)
+workLeft (refused number place) ws = ws
+workLeft (ok u) ws = zeros ws
+
 -- a refusal, and the words that it leaves
 pub record RefusedIn (x : Args) (number place : ℕ) (ws ws' : List (List ℕ)) : Type 0 where
   pub is : andThen (workIn ws) (λ _. decided x) ≡ refused number place
-  pub words : ws' ≡ workAfter number ws
+  pub words : ws' ≡ workLeft (andThen (workIn ws) (λ _. lentIn x)) ws
 
 abbrev pub Decides : Args → List ℕ → List ℕ → List ℕ → List ℕ → Decision → List ℕ → List ℕ → List ℕ → List ℕ → Type 0
 Decides x a b c d (Refused number place) a' b' c' d' = RefusedIn x number place (four a b c d) (four a' b' c' d')

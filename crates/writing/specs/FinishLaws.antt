@@ -9,13 +9,13 @@ use Rattle.base.specs.Choice.{ifLt, ifEq}
 use Rattle.base.specs.ChoiceLaws.{lt-yes, lt-no, eq-no}
 use Rattle.base.specs.Checked.{Checked, ok, refused, andThen, Verdict, fine}
 use Rattle.base.specs.BlitLaws.{length-blit}
-use Rattle.base.specs.CheckedLaws.{refused≢ok, ok-same}
+use Rattle.base.specs.CheckedLaws.{refused≢ok, ok-same, then-fine}
 use Rattle.mdf.specs.Group.{dataGroups}
 use Rattle.mdf.specs.Words.{laidItems}
 use Rattle.plan.specs.CopyWords.{laidCopies}
 use Rattle.plan.specs.Columns.{srcGroups, Omission, omissionAddresses, omissionReasons, omissionWords}
 use Rattle.plan.specs.PlanWords.{laidPlan}
-use Rattle.result.specs.Result.{Args, Report, Decided, decided, lentIn, answer, report, sourceGroupsOf, timeColumns, blocksWritten, outcome, zeros, workIn, workAfter, fileOf, convert}
+use Rattle.result.specs.Result.{Args, Report, Decided, decided, lentIn, answer, report, sourceGroupsOf, timeColumns, blocksWritten, zeros, workIn, fileOf}
 use Rattle.plan_laws.specs.WalkLaws.{walk-sound}
 use Rattle.plan_laws.specs.Known.{Known, decided-known}
 use Rattle.planning.specs.ReadBackLaws.{few-items}
@@ -27,8 +27,8 @@ use Rattle.writing.specs.declared.convert.Converted.the-variants.{Refuse
 use Rattle.writing.specs.declared.convert.Report as counted
 use Rattle.writing.specs.declared.decide.Decision.{Decision}
 use Rattle.writing.specs.declared.decide.Decision.the-variants as done
-use Rattle.writing.specs.Decision.{untimed, four, DecidedIn, RefusedIn, Decides}
-use Rattle.writing.specs.Answer.{args, reportOf, left}
+use Rattle.writing.specs.Decision.{untimed, four, workLeft, DecidedIn, RefusedIn, Decides}
+use Rattle.writing.specs.Answer.{args, reportOf, left, outcome, begun, convert}
 use Rattle.writing.specs.Finish.{Stands, Counts, Reported, Finished}
 use Rattle.writing.specs.OmissionsLaws.{laid-listed}
 use Rattle.writing.specs.Omissions.{listed}
@@ -42,9 +42,6 @@ unfolding decided lentIn
 decided-untimed image size ident text time = refl
 
 -- ---- refusals after the decision
-twenty : (work : List (List ℕ)) (n : ℕ) → 1 < n → workAfter n work ≡ zeros work
-twenty work n h = sym (eq-no _ _ _ _ (λ e. omega (arith, e, h)) refl)
-
 module _ (x : Args) (d : Decided) (e : decided x ≡ ok d) (out list : List ℕ) where
   opened : answer x (length out) (length list)
     ≡ ifLt (length out) (d .laidOut .fileSize) (refused 20 (d .laidOut .fileSize))
@@ -56,7 +53,7 @@ module _ (x : Args) (d : Decided) (e : decided x ≡ ok d) (out list : List ℕ)
   short-output {n} f h =
       let h' : length out < d .laidOut .fileSize = omega (arith, f, h) in
       let q : answer x (length out) (length list) ≡ refused 20 (d .laidOut .fileSize) = opened ∙ sym (lt-yes _ _ _ _ h' refl) in
-      record { is = λ work. rw (q, f, twenty work 20 (omega arith)) }
+      record { is = λ work. rw (q, f) }
 
   pub short-list : {n k : ℕ} → n ≡ d .laidOut .fileSize → n ≤ length out → k ≡ length (omissionWords (d .planned .omissions)) → length list < k
     → Finished x out list (Refused 21 k) out list
@@ -65,7 +62,7 @@ module _ (x : Args) (d : Decided) (e : decided x ≡ ok d) (out list : List ℕ)
       let l' : length list < length (omissionWords (d .planned .omissions)) = omega (arith, g, l) in
       let q : answer x (length out) (length list) ≡ refused 21 (length (omissionWords (d .planned .omissions))) =
             opened ∙ sym (lt-no _ _ _ _ h' (lt-yes _ _ _ _ l' refl)) in
-      record { is = λ work. rw (q, g, twenty work 21 (omega arith)) }
+      record { is = λ work. rw (q, g) }
 
   pub all-done : {n k : ℕ} {r : counted.Report} {out' list' : List ℕ} → n ≡ d .laidOut .fileSize → n ≤ length out
     → k ≡ length (omissionWords (d .planned .omissions)) → k ≤ length list → reportOf r ≡ report x d
@@ -168,6 +165,10 @@ module _ {x : Args} {items fragments columns omissions : ℕ} {n : Numbers} {v f
           k .steps .groups ∙ rw (a, b)
 
 -- ---- the whole call
+lent-fine-of : (x : Args) (d : Decided) → decided x ≡ ok d → lentIn x ≡ fine
+unfolding decided
+lent-fine-of x d e = then-fine (lentIn x) _ e .0
+
 pub decides-done : {x : Args} {a b c d : List ℕ} {r : Decision} {a' b' c' d' : List ℕ} {i f k o : ℕ} {n : Numbers}
   → Decides x a b c d r a' b' c' d' → r ≡ done.Done i f k o n → DecidedIn x i f k o n a b c d a' b' c' d'
 decides-done {x} {a} {b} {c} {d} {a' = a'} {b' = b'} {c' = c'} {d' = d'} h e = subst (λ r. Decides x a b c d r a' b' c' d') e h
@@ -200,33 +201,53 @@ stands-timed {image} {size} {ident} {text} time {a = a} {b = b} {c = c} {d = d} 
       inColumns = t .inColumns;
       inCopies = t .inCopies } }
 
-refused-answer : (x : Args) (o l : ℕ) (v : Verdict) {n p : ℕ} → andThen v (λ _. decided x) ≡ refused n p → andThen v (λ _. answer x o l) ≡ refused n p
+-- a refusal of the lent slices is one of the decision
+refused-lent : (x : Args) (v : Verdict) {n p : ℕ} → andThen v (λ _. lentIn x) ≡ refused n p → andThen v (λ _. decided x) ≡ refused n p
+unfolding decided
+refused-lent x (refused m q) e = cc
+refused-lent x (ok z) e = rw e
+
+refused-answer : (x : Args) (o l : ℕ) {n p : ℕ} → decided x ≡ refused n p → answer x o l ≡ refused n p
 unfolding answer
-refused-answer x o l (refused m q) e = cc
-refused-answer x o l (ok z) e = rw e
+refused-answer x o l e = rw e
+
+refused-same : {A : Type 0} {n p m q : ℕ} → _≡_ {A = Checked A} (refused n p) (refused m q) → (n ≡ m) × (p ≡ q)
+refused-same e = (cc, cc)
+
+refused-begun : (x : Args) (out list : List ℕ) (ws ws' : List (List ℕ)) (n p : ℕ) (u : Verdict) → workIn ws ≡ u → (v : Verdict) → andThen (workIn ws) (λ _. lentIn x) ≡ v
+  → andThen (workIn ws) (λ _. decided x) ≡ refused n p → ws' ≡ workLeft v ws → left (Refused n p) out list ws' ≡ begun v x out list ws
+refused-begun x out list ws ws' n p u f (refused m q) e g h =
+    let k = refused-same (sym (refused-lent x (workIn ws) e) ∙ g) in
+    rw (h, k .0, k .1)
+refused-begun x out list ws ws' n p (refused m q) f (ok z) e g h = absurd (refused≢ok (rw f at e))
+refused-begun x out list ws ws' n p (ok y) f (ok z) e g h =
+    rw (refused-answer x (length out) (length list) (rw f at g), h)
 
 pub refused-left : (image : List ℕ) (size : ℕ) (ident text : List ℕ) (time : ℕ) (out list : List ℕ) (ws ws' : List (List ℕ)) (n p : ℕ)
   → RefusedIn (untimed image size ident text) n p ws ws' → left (Refused n p) out list ws' ≡ convert (args image size ident text time) out list ws
-unfolding convert
+unfolding convert lentIn
 refused-left image size ident text time out list ws ws' n p r =
-    let e : andThen (workIn ws) (λ _. decided (args image size ident text time)) ≡ refused n p = rw (decided-untimed image size ident text time) (r .is) in
-    rw (refused-answer (args image size ident text time) (length out) (length list) (workIn ws) e, r .words)
+    refused-begun (args image size ident text time) out list ws ws' n p (workIn ws) refl _ refl
+      (rw (decided-untimed image size ident text time) (r .is)) (r .words)
 
 work-fine : (a b c d : List ℕ) → 8192 ≤ length a → 8192 ≤ length b → 8192 ≤ length c → 8192 ≤ length d → workIn (four a b c d) ≡ fine
 unfolding workIn
 work-fine a b c d h i j k = sym (lt-no _ _ _ _ h (lt-no _ _ _ _ i (lt-no _ _ _ _ j (lt-no _ _ _ _ k refl))))
 
-pub done-left : {y : Args} {i f k o : ℕ} {n : Numbers} {a b c d a' b' c' d' : List ℕ} (x : Args) (out list : List ℕ) (r : Converted) (out' list' a'' b'' c'' d'' : List ℕ)
-  → DecidedIn y i f k o n a b c d a' b' c' d' → Finished x out list r out' list'
+pub done-left : {i f k o : ℕ} {n : Numbers} {a b c d a' b' c' d' : List ℕ} (image : List ℕ) (size : ℕ) (ident text : List ℕ) (time : ℕ) (out list : List ℕ) (r : Converted) (out' list' a'' b'' c'' d'' : List ℕ)
+  → DecidedIn (untimed image size ident text) i f k o n a b c d a' b' c' d' → Finished (args image size ident text time) out list r out' list'
   → a'' ≡ replicate (length a') 0 → b'' ≡ replicate (length b') 0 → c'' ≡ replicate (length c') 0 → d'' ≡ replicate (length d') 0
-  → left r out' list' (four a'' b'' c'' d'') ≡ convert x out list (four a b c d)
+  → left r out' list' (four a'' b'' c'' d'') ≡ convert (args image size ident text time) out list (four a b c d)
 unfolding convert zeros laidPlan laidCopies laidItems
-done-left {a = a} {b = b} {c = c} {d = d} {a' = a'} {b' = b'} {c' = c'} {d' = d'} x out list r out' list' a'' b'' c'' d'' t z p q u v =
+done-left {a = a} {b = b} {c = c} {d = d} {a' = a'} {b' = b'} {c' = c'} {d' = d'} image size ident text time out list r out' list' a'' b'' c'' d'' t z p q u v =
     let la : length a' ≡ length a = ap length (t .inSource) ∙ rw (length-blit, length-blit, length-blit, length-blit) in
     let lb : length b' ≡ length b = ap length (t .inFragments) ∙ rw length-blit in
     let lc : length c' ≡ length c = ap length (t .inColumns) ∙ rw (length-blit, length-blit) in
     let ld : length d' ≡ length d = ap length (t .inCopies) ∙ rw (length-blit, length-blit, length-blit, length-blit) in
-    rw (work-fine a b c d (t .longA) (t .longB) (t .longC) (t .longD), ← (z .is (four a b c d)), p, q, u, v, la, lb, lc, ld)
+    let x : Args = args image size ident text time in
+    let h = lent-fine-of x (t .told) (decided-untimed image size ident text time ∙ t .is) in
+    let zs : four a'' b'' c'' d'' ≡ zeros (four a b c d) = rw (p, q, u, v, la, lb, lc, ld) in
+    rw (zs, work-fine a b c d (t .longA) (t .longB) (t .longC) (t .longD), h) (z .is (zeros (four a b c d)))
 
 -- each slice keeps its length
 module _ {y : Args} {i f k o : ℕ} {n : Numbers} {a b c d a' b' c' d' : List ℕ} (t : DecidedIn y i f k o n a b c d a' b' c' d') where

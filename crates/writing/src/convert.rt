@@ -2,14 +2,12 @@
 use crate::decide::{Decision, Numbers, decide};
 use crate::counts::{source_groups, time_columns, blocks_written};
 use crate::omissions::write_list;
+use crate::file::write_file;
 ghost use mathlib.Core.Path.{_≡_};
-ghost use Prim.Native.Nat.{_≤_};
 ghost use lib.ListN.{length, replicate};
-ghost use Rattle.base.specs.Blit.{blit};
-ghost use Rattle.result.specs.Result.{decided};
-ghost use Rattle.result.specs.Result as result;
+ghost use Rattle.writing.specs.Answer as answers;
 ghost use Rattle.writing.specs.Decision.{four};
-ghost use Rattle.writing.specs.Answer.{args, left, fileFor};
+ghost use Rattle.writing.specs.Answer.{args, left};
 ghost use Rattle.writing.specs.Finish.{Stands, Counts, Reported, Finished};
 
 // The seven counts of a conversion's report.
@@ -59,18 +57,6 @@ fn count_up(image: &[u8], size: u64, source: &[u64], columns: &[u64], items: u64
     }
 }
 
-// The file.
-fn write_file(
-    out: &mut [u8], image: &[u8], size: u64, ident: &[u8], text: &[u8], time: u64,
-    source: &[u64], fragments: &[u64], columns: &[u64], copies: &[u64], items: u64, pieces: u64, n: u64, omitted: u64, numbers: Numbers,
-)
-    requires { ⌜ Stands (args (now image) size (now ident) (now text) time) items pieces n omitted numbers
-        (now source) (now fragments) (now columns) (now copies) × (numbers .«file_size» ≤ length (now out)) ⌝ }
-    ensures { λ _. ⌜ now (out .exit) ≡ blit 0 (fileFor (args (now (image .entry)) size (now (ident .entry)) (now (text .entry)) time)
-        (decided (args (now (image .entry)) size (now (ident .entry)) (now (text .entry)) time))) (now (out .entry)) ⌝ }
-{
-}
-
 // 20, 21; the file, the list, the report.
 fn finish(
     out: &mut [u8], list: &mut [u64], image: &[u8], size: u64, ident: &[u8], text: &[u8], time: u64,
@@ -102,7 +88,7 @@ pub fn convert(
 ) -> Converted
     ensures { λ r. ⌜ left r (now (out .exit)) (now (list .exit))
           (four (now (source .exit)) (now (fragments .exit)) (now (columns .exit)) (now (copies .exit)))
-        ≡ result.convert (args (now (image .entry)) size (now (ident .entry)) (now (text .entry)) time) (now (out .entry)) (now (list .entry))
+        ≡ answers.convert (args (now (image .entry)) size (now (ident .entry)) (now (text .entry)) time) (now (out .entry)) (now (list .entry))
           (four (now (source .entry)) (now (fragments .entry)) (now (columns .entry)) (now (copies .entry))) ⌝ }
 {
     let decision = decide(image, size, ident, text, source, fragments, columns, copies);

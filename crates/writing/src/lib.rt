@@ -10,6 +10,7 @@ mod cell;
 mod sorted;
 mod several;
 mod signal;
+mod file;
 mod omissions;
 mod counts;
 pub mod decide;

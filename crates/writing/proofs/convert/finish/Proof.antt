@@ -9,7 +9,7 @@ use Rattle.writing.proofs.convert.finish.Tie as tie
 use Rattle.writing.proofs.convert.finish.Reads as reads
 use Rattle.writing.proofs.convert.finish.Lts as lts
 use Rattle.writing.proofs.convert.count_up.Reads as count-up-reads
-use Rattle.writing.proofs.convert.write_file.Reads as write-file-reads
+use Rattle.writing.proofs.file.write_file.Reads as write-file-reads
 use Rattle.writing.proofs.omissions.write_list.Reads as write-list-reads
 
 -- src/convert.rt:86:9
