@@ -8,3 +8,8 @@ pub mod Sorted
 pub mod SortedSteps
 pub mod Wrote
 pub mod WroteLaws
+pub mod Several
+pub mod Own
+pub mod OwnLaws
+pub mod Data
+pub mod DataLaws
