@@ -5,11 +5,11 @@ use mathlib.Core.List.{List, [], _∷_, _++_, append-nil, append-assoc}
 use mathlib.Core.Path.{_≡_, refl, sym, ap, _∙_}
 use native.Mathlib.Nat.{suc-mul, mod-eq-of-lt}
 use native.Mathlib.Omega.{arith}
-use lib.ListN.{length, take, replicate, length-append, length-replicate}
+use lib.ListN.{length, take, drop, replicate, length-append, length-replicate}
 use lib.Seq.{take-all}
 use Rattle.base.specs.ChoiceLaws.{eq-yes, eq-no}
 use Rattle.base.specs.Blit.{part, blit}
-use Rattle.base.specs.BlitLaws.{blit-append, length-part}
+use Rattle.base.specs.BlitLaws.{length-blit, blit-append, length-part}
 use Rattle.base.specs.Checked.{ok, fine}
 use Rattle.base.specs.CheckedLaws.{then-ok}
 use Rattle.mdf.specs.Block.{kindSD}
@@ -63,7 +63,7 @@ module _ {s w : List ℕ} {n : ℕ} {fs : List ℕ} {nf : ℕ} {e : Entry} {o : 
       let a = t .source in
       let b = q .before in
       let c = q .few in
-      length-part (3072 + o .first) (o .groups) w (omega arith)
+      length-part (3072 + o .first) (3072 + o .first + o .groups - (3072 + o .first)) w (omega arith) ∙ omega arith
 
   listed : numberIn (e .group) (ownGroups w o) < length (ownGroups w o)
   listed = rw (q .is) (r .listed)
@@ -118,8 +118,8 @@ module _ {s w : List ℕ} {n : ℕ} {fs : List ℕ} {nf : ℕ} {e : Entry} {o : 
           kept = r .kept;
           framed = λ a b.
             let c = several-checked s (e .parent) (numberIn (e .group) (ownGroups w o)) (ownGroups w o) (fragmentsOf (ownWords fs o)) many listed (checked-own a b) in
-            let u : framedRecords k (ok (c .0)) ≡ entryRecords s w n fs nf e = rw (← c .1) (sym (records-several i)) in
-            (c .0, c .1, ap length u ∙ r .counted a b) }
+            let u = rw (c .1) at (records-several i) in
+            (c .0, c .1, ap length (sym u) ∙ r .counted a b) }
 
     pub several-is : (size k : ℕ) (out : List ℕ) {last : List ℕ} → k ≡ numberIn (e .group) (ownGroups w o)
       → last ≡ blit 0 (framedAll (dataKind (keepsInval s (e .group) (e .channel))) (payloads s (e .group) (e .channel)
@@ -221,6 +221,15 @@ module _ {s w : List ℕ} {n : ℕ} {fs : List ℕ} {nf : ℕ} {e : Entry} (size
     unfolding entryBlocks
     entry-room = rw size-is at (payloads-room (entryKind s e) (e .first) (entryPayloads s size e (entryRecords s w n fs nf e)) some-payloads o)
 
+    pub entry-lent : (out mid : List ℕ) → mid ≡ blit at (replicate (e .first - at) 0) out → length out ≡ room
+      → 24 * entryCount s size e + width s (e .group) (e .channel) * e .records ≤ length (take (length mid - e .first) (drop (e .first) mid))
+    unfolding part
+    entry-lent out mid m q =
+        let h = entry-room in
+        let l : length mid ≡ room = ap length m ∙ length-blit at (replicate (e .first - at) 0) out ∙ q in
+        let k = length-part (e .first) (length mid - e .first) mid (omega arith) in
+        rw (count-is, ← p) (omega arith)
+
     pub entry-wrote : (out : List ℕ) {mid last : List ℕ} → mid ≡ blit at (replicate (e .first - at) 0) out
       → last ≡ blit (e .first) (framedAll (entryKind s e) (entryPayloads s size e (entryRecords s w n fs nf e))) mid
       → Wrote at (entryBlocks s size w n fs nf e) (e .first + (24 * b + x * e .records)) out last
@@ -233,8 +242,8 @@ pub same-small : (r l : ℕ) → r < 18446744073709551616 → l < 18446744073709
 same-small r l a b e = sym (mod-eq-of-lt a) ∙ e ∙ mod-eq-of-lt b
 
 module _ (s ws : List ℕ) (sd size : ℕ) (out : List ℕ) (h : sd + length (framed kindSD (joined s (fragmentsOf ws))) ≤ length out)
-    (few : length out < 18446744073709551616) (small : size < 18446744073709551616)
-    (e : size % 2 ^ 64 ≡ length (joined s (fragmentsOf ws)) % 2 ^ 64) where
+    (e : size % 2 ^ 64 ≡ length (joined s (fragmentsOf ws)) % 2 ^ 64) (few : length out < 18446744073709551616)
+    (small : size < 18446744073709551616) where
   pub sd-size : size ≡ length (joined s (fragmentsOf ws))
   sd-size =
       let l = length-framed kindSD (joined s (fragmentsOf ws)) in

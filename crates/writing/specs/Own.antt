@@ -37,7 +37,7 @@ ownWords fs o = part (3 * o .begin) (3 * o .end - 3 * o .begin) fs
 
 -- the addresses of its groups
 unfoldable pub ownGroups : List ℕ → Own → List ℕ
-ownGroups w o = part (3072 + o .first) (o .groups) w
+ownGroups w o = part (3072 + o .first) (3072 + o .first + o .groups - (3072 + o .first)) w
 
 -- the number of the group at g among groups, or how many they are
 unfoldable pub numberIn : ℕ → List ℕ → ℕ
