@@ -37,3 +37,7 @@ pub mod Finish
 pub mod FinishLaws
 pub mod ClearLaws
 pub mod FileLaws
+pub mod Own
+pub mod OwnLaws
+pub mod Data
+pub mod DataLaws

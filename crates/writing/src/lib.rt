@@ -10,6 +10,8 @@ mod cell;
 mod sorted;
 mod several;
 mod signal;
+mod own;
+mod data;
 mod file;
 mod omissions;
 mod counts;

@@ -21,7 +21,7 @@ fn inside(image: &[u8], offset: u64, n: u64) -> u64
 }
 
 // The number of bytes of joined fragments, modulo 2^64.
-fn joined_size(image: &[u8], fragments: &[u64]) -> u64
+pub(crate) fn joined_size(image: &[u8], fragments: &[u64]) -> u64
     ensures { λ r. ⌜ r % 2 ^ 64 ≡ length (joined (now (image .entry)) (fragmentsOf (now (fragments .entry)))) % 2 ^ 64 ⌝ }
 {
     let n = fragments.len();

@@ -1,0 +1,343 @@
+-- Laws of the data blocks and signal data of columns: what is asked where they are written, and that they were.
+use Prim.Native.Nat.{ℕ, zero, suc, _+_, _*_, _-_, _%_, _^_, _≤_, _<_}
+use mathlib.Core.Bool.{true}
+use mathlib.Core.List.{List, [], _∷_, _++_, append-nil, append-assoc}
+use mathlib.Core.Path.{_≡_, refl, sym, ap, _∙_}
+use native.Mathlib.Nat.{suc-mul, mod-eq-of-lt}
+use native.Mathlib.Omega.{arith}
+use lib.ListN.{length, take, drop, replicate, length-append, length-replicate}
+use lib.Seq.{take-all}
+use Rattle.base.specs.ChoiceLaws.{eq-yes, eq-no}
+use Rattle.base.specs.Blit.{part, blit}
+use Rattle.base.specs.BlitLaws.{length-blit, blit-append, length-part}
+use Rattle.base.specs.Checked.{ok, fine}
+use Rattle.base.specs.CheckedLaws.{then-ok}
+use Rattle.mdf.specs.Block.{kindSD}
+use Rattle.mdf.specs.Chain.{Fragment}
+use Rattle.mdf.specs.Group.{samples, invalBytes}
+use Rattle.mdf.specs.Words.{fragmentsOf}
+use Rattle.mdf.specs.Records.{joined, runs, sortedRecords, Frame, unsortedFrames, unsortedRecords}
+use Rattle.plan.specs.Channel.{fits, keepsInval, width}
+use Rattle.plan.specs.Geometry.{blockCount, perFull}
+use Rattle.plan.specs.Data.{recordsIn}
+use Rattle.result.specs.Payload.{framedRecords, groupRecords, payloads}
+use Rattle.result.specs.Fill.{Block, block, framed, dataKind, payloadBlocks}
+use Rattle.result.specs.Ordered.{Ordered}
+use Rattle.result.specs.Result.{flat}
+use Rattle.payload_laws.specs.Lists.{Long, together}
+use Rattle.payload_laws.specs.GeometryLaws.{split}
+use Rattle.payload_laws.specs.PayloadLaws.{length-framed, length-payloads, payloads-joined}
+use Rattle.payload_laws.specs.CellLaws.{length-cells}
+use Rattle.writing.specs.declared.own.Own.{Own}
+use Rattle.writing.specs.declared.data.Entry.{Entry}
+use Rattle.writing.specs.Sorted.{framedAll, SortedReady}
+use Rattle.writing.specs.SortedSteps.{flat-blocks, blocks-some}
+use Rattle.writing.specs.Several.{SeveralReady}
+use Rattle.writing.specs.Wrote.{endOf, Wrote}
+use Rattle.writing.specs.WroteLaws.{ordered-end, ordered-back, ordered-first, wrote-none, wrote-block, wrote-append}
+use Rattle.writing.specs.Own.{ownIn, OwnOf, ownWords, ownGroups, numberIn}
+use Rattle.writing.specs.OwnLaws.{number-at, one-group}
+use Rattle.writing.specs.Data.{entryIn, recordsBy, entryRecords, entryCount, entryPayloads, entryKind, entryBlocks, signalWords, entrySignal, dataFrom, Tables, EntryReady, DataReady}
+
+-- ---- the records of one of several groups
+module _ (s : List ℕ) (d k : ℕ) where
+  several-records : (gs : List ℕ) (fs : List Fragment) → (length gs ≡ 1 → ⊥) → k < length gs
+    → groupRecords s d k gs fs ≡ framedRecords k (unsortedFrames s d gs fs)
+  several-records [] fs l h = absurd (omega arith)
+  several-records (g ∷ []) fs l h = absurd (l refl)
+  several-records (g ∷ x ∷ gs) fs l h = refl
+
+  several-checked : (gs : List ℕ) (fs : List Fragment) → (length gs ≡ 1 → ⊥) → k < length gs → recordsIn s d gs fs ≡ fine
+    → (rs : List Frame) × (unsortedFrames s d gs fs ≡ ok rs)
+  several-checked [] fs l h e = absurd (omega arith)
+  several-checked (g ∷ []) fs l h e = absurd (l refl)
+  several-checked (g ∷ x ∷ gs) fs l h e =
+      let a = then-ok (unsortedFrames s d (g ∷ x ∷ gs) fs) (λ rs. fine) e in (a .0, a .1)
+
+-- ---- a column's records, by its DG's words
+module _ {s w : List ℕ} {n : ℕ} {fs : List ℕ} {nf : ℕ} {e : Entry} {o : Own} (t : Tables w fs nf) (r : EntryReady s w n fs nf e)
+    (q : OwnOf w n nf (e .parent) o) where
+  own-length : length (ownGroups w o) ≡ o .groups
+  unfolding ownGroups
+  own-length =
+      let a = t .source in
+      let b = q .before in
+      let c = q .few in
+      length-part (3072 + o .first) (3072 + o .first + o .groups - (3072 + o .first)) w (omega arith) ∙ omega arith
+
+  listed : numberIn (e .group) (ownGroups w o) < length (ownGroups w o)
+  listed = rw (q .is) (r .listed)
+
+  checked-own : 0 < width s (e .group) (e .channel) → 0 < e .records
+    → recordsIn s (e .parent) (ownGroups w o) (fragmentsOf (ownWords fs o)) ≡ fine
+  checked-own a b = rw (q .is) (r .checked a b)
+
+  records-own : entryRecords s w n fs nf e
+    ≡ groupRecords s (e .parent) (numberIn (e .group) (ownGroups w o)) (ownGroups w o) (fragmentsOf (ownWords fs o))
+  unfolding entryRecords recordsBy
+  records-own = rw (← q .is)
+
+  module _ (z : o .groups ≡ 1) where
+    alone : ownGroups w o ≡ e .group ∷ []
+    alone = one-group (e .group) (ownGroups w o) (own-length ∙ z) listed
+
+    records-alone : entryRecords s w n fs nf e ≡ sortedRecords s (e .parent) (e .group) (runs (fragmentsOf (ownWords fs o)))
+    records-alone = records-own ∙ rw alone
+
+    pub sorted-ready : SortedReady s (ownWords fs o) (e .parent) (e .group) (e .channel) (e .records)
+    sorted-ready =
+        record {
+          fit = r .fit;
+          checked = λ a b. rw alone at (checked-own a b);
+          counted = λ a b. rw (← records-alone) (r .counted a b) }
+
+    pub sorted-is : (size : ℕ) (out : List ℕ) {last : List ℕ}
+      → last ≡ blit 0 (framedAll (dataKind (keepsInval s (e .group) (e .channel))) (payloads s (e .group) (e .channel)
+        (perFull size (width s (e .group) (e .channel)) (e .records)) (blockCount size (width s (e .group) (e .channel)) (e .records))
+        (sortedRecords s (e .parent) (e .group) (runs (fragmentsOf (ownWords fs o)))))) out
+      → last ≡ blit 0 (framedAll (entryKind s e) (entryPayloads s size e (entryRecords s w n fs nf e))) out
+    unfolding entryPayloads
+    sorted-is size out p = rw records-alone p
+
+  module _ (z : o .groups ≡ 1 → ⊥) where
+    many : length (ownGroups w o) ≡ 1 → ⊥
+    many h = z (sym own-length ∙ h)
+
+    records-several : {k : ℕ} → k ≡ numberIn (e .group) (ownGroups w o)
+      → entryRecords s w n fs nf e ≡ framedRecords k (unsortedFrames s (e .parent) (ownGroups w o) (fragmentsOf (ownWords fs o)))
+    records-several i =
+        records-own ∙ rw i (several-records s (e .parent) (numberIn (e .group) (ownGroups w o)) (ownGroups w o) (fragmentsOf (ownWords fs o)) many listed)
+
+    pub several-ready : {k : ℕ} → k ≡ numberIn (e .group) (ownGroups w o)
+      → SeveralReady s (ownGroups w o) (ownWords fs o) (e .parent) k (e .group) (e .channel) (e .records)
+    several-ready {k} i =
+        record {
+          fit = r .fit;
+          address = rw i (number-at (e .group) (ownGroups w o) listed);
+          within = rw i listed;
+          kept = r .kept;
+          framed = λ a b.
+            let c = several-checked s (e .parent) (numberIn (e .group) (ownGroups w o)) (ownGroups w o) (fragmentsOf (ownWords fs o)) many listed (checked-own a b) in
+            let u = rw (c .1) at (records-several i) in
+            (c .0, c .1, ap length (sym u) ∙ r .counted a b) }
+
+    pub several-is : (size k : ℕ) (out : List ℕ) {last : List ℕ} → k ≡ numberIn (e .group) (ownGroups w o)
+      → last ≡ blit 0 (framedAll (dataKind (keepsInval s (e .group) (e .channel))) (payloads s (e .group) (e .channel)
+        (perFull size (width s (e .group) (e .channel)) (e .records)) (blockCount size (width s (e .group) (e .channel)) (e .records))
+        (framedRecords k (unsortedFrames s (e .parent) (ownGroups w o) (fragmentsOf (ownWords fs o)))))) out
+      → last ≡ blit 0 (framedAll (entryKind s e) (entryPayloads s size e (entryRecords s w n fs nf e))) out
+    unfolding entryPayloads
+    several-is size k out i p = rw (records-several i) p
+
+-- ---- blocks one after the other
+framed-size : (kind : ℕ) (ps : List (List ℕ)) → length (framedAll kind ps) ≡ 24 * length ps + length (together ps)
+unfolding framedAll together
+framed-size kind [] = refl
+framed-size kind (p ∷ ps) = rw (length-append, length-append, length-framed, framed-size kind ps) (omega arith)
+
+payloads-size : (s : List ℕ) (g c kind size n : ℕ) (rs : List (List ℕ)) → fits s g c ≡ true → 0 < width s g c → 0 < n → length rs ≡ n
+  → Long (samples s g + invalBytes s g) rs
+  → length (framedAll kind (payloads s g c (perFull size (width s g c) n) (blockCount size (width s g c) n) rs))
+    ≡ 24 * blockCount size (width s g c) n + width s g c * n
+payloads-size s g c kind size n rs f wide some many l =
+    let x = split size (width s g c) n wide some in
+    let m : ℕ = perFull size (width s g c) n in
+    let b : ℕ = blockCount size (width s g c) n in
+    let k : b * m ≡ x .full * m + m = rw (x .blocks) (suc-mul (x .full) m) in
+    let a : take (b * m) rs ≡ rs = take-all (b * m) rs (omega (arith, many, x .enough)) in
+    let e : length (together (payloads s g c m b rs)) ≡ width s g c * n =
+        ap length (payloads-joined s g c m b rs) ∙ rw a (length-cells s g c f l ∙ rw many) in
+    rw (framed-size, length-payloads, e)
+
+payloads-end : (kind a first : ℕ) (p : List ℕ) (ps : List (List ℕ))
+  → endOf a (payloadBlocks kind first (p ∷ ps)) ≡ first + length (framedAll kind (p ∷ ps))
+unfolding endOf payloadBlocks framedAll
+payloads-end kind a first p [] = rw append-nil
+payloads-end kind a first p (q ∷ ps) =
+    let h = payloads-end kind (first + length (framed kind p)) (first + (24 + length p)) q ps in
+    let l = length-framed kind p in
+    h ∙ rw (length-append (framed kind p) (framedAll kind (q ∷ ps))) (omega arith)
+
+none-left : (a : ℕ) → replicate {A = ℕ} (a - a) 0 ≡ []
+none-left a = let e : a - a ≡ 0 = omega arith in rw e
+
+flat-later : (kind a first r : ℕ) (p : List ℕ) (ps : List (List ℕ))
+  → flat a (payloadBlocks kind first (p ∷ ps)) r ≡ replicate (first - a) 0 ++ flat first (payloadBlocks kind first (p ∷ ps)) r
+unfolding flat payloadBlocks
+flat-later kind a first r p ps = rw (none-left first) (append-assoc (replicate (first - a) 0) (framed kind p) _)
+
+flat-ended : (kind first r : ℕ) (ps : List (List ℕ)) → r ≡ first + length (framedAll kind ps)
+  → flat first (payloadBlocks kind first ps) r ≡ framedAll kind ps
+unfolding flat
+flat-ended kind first r ps e =
+    ap (λ (x : List Block). flat first x r) (sym (append-nil (payloadBlocks kind first ps))) ∙ flat-blocks kind first r ps []
+    ∙ rw (← e, none-left r, append-nil)
+
+-- zeros up to the first, then the blocks
+pub wrote-payloads : {at : ℕ} (kind first : ℕ) (ps : List (List ℕ)) {out mid last : List ℕ} {r : ℕ} → 0 < length ps → at ≤ first
+  → mid ≡ blit at (replicate (first - at) 0) out → last ≡ blit first (framedAll kind ps) mid → r ≡ first + length (framedAll kind ps)
+  → Wrote at (payloadBlocks kind first ps) r out last
+wrote-payloads kind first [] z h m q x = absurd (omega arith)
+wrote-payloads {at} kind first (p ∷ ps) {out} {mid} {last} {r} z h m q x =
+    let y : at + (first - at) ≡ first = omega arith in
+    record {
+      end = x ∙ sym (payloads-end kind at first p ps);
+      bytes = q ∙ rw m (sym (rw (flat-later kind at first r p ps, flat-ended kind first r (p ∷ ps) x)
+        (blit-append (replicate (first - at) 0) at (framedAll kind (p ∷ ps)) out ∙ rw (length-replicate, y)))) }
+
+pub payloads-room : {at e : ℕ} (kind first : ℕ) (ps : List (List ℕ)) → 0 < length ps → Ordered at (payloadBlocks kind first ps) e
+  → (at ≤ first) × (first + length (framedAll kind ps) ≤ e)
+unfolding Ordered payloadBlocks
+payloads-room kind first [] z o = absurd (omega arith)
+payloads-room {at} {e} kind first (p ∷ ps) z o =
+    let h = ordered-end at (payloadBlocks kind first (p ∷ ps)) e o in
+    (o .0, rw (payloads-end kind at first p ps) at (h .1))
+
+-- ---- a column's blocks
+module _ {s w : List ℕ} {n : ℕ} {fs : List ℕ} {nf : ℕ} {e : Entry} (size at room : ℕ) (r : EntryReady s w n fs nf e)
+    (o : Ordered at (entryBlocks s size w n fs nf e) room) {x b : ℕ} (p : x ≡ width s (e .group) (e .channel))
+    (q : b ≡ blockCount size x (e .records)) where
+  count-is : entryCount s size e ≡ b
+  count-is = sym (q ∙ rw p)
+
+  pub entry-none : b ≡ 0 → (out : List ℕ) → Wrote at (entryBlocks s size w n fs nf e) at out out
+  unfolding entryBlocks entryPayloads payloads payloadBlocks
+  entry-none z out = rw (count-is, z) (wrote-none at out)
+
+  module _ (z : b ≡ 0 → ⊥) where
+    size-is : length (framedAll (entryKind s e) (entryPayloads s size e (entryRecords s w n fs nf e))) ≡ 24 * b + x * e .records
+    unfolding entryPayloads
+    size-is =
+        let a = blocks-some size x (e .records) (rw (← q) (omega arith)) in
+        let wide : 0 < width s (e .group) (e .channel) = rw (← p) (a .0) in
+        payloads-size s (e .group) (e .channel) (entryKind s e) size (e .records) (entryRecords s w n fs nf e) (r .fit) wide (a .1)
+          (r .counted wide (a .1)) (r .long wide (a .1)) ∙ rw (count-is, p)
+
+    some-payloads : 0 < length (entryPayloads s size e (entryRecords s w n fs nf e))
+    unfolding entryPayloads
+    some-payloads = rw (length-payloads, count-is) (omega arith)
+
+    pub entry-room : (at ≤ e .first) × (e .first + (24 * b + x * e .records) ≤ room)
+    unfolding entryBlocks
+    entry-room = rw size-is at (payloads-room (entryKind s e) (e .first) (entryPayloads s size e (entryRecords s w n fs nf e)) some-payloads o)
+
+    pub entry-lent : (out mid : List ℕ) → mid ≡ blit at (replicate (e .first - at) 0) out → length out ≡ room
+      → 24 * entryCount s size e + width s (e .group) (e .channel) * e .records ≤ length (take (length mid - e .first) (drop (e .first) mid))
+    unfolding part
+    entry-lent out mid m q =
+        let h = entry-room in
+        let l : length mid ≡ room = ap length m ∙ length-blit at (replicate (e .first - at) 0) out ∙ q in
+        let k = length-part (e .first) (length mid - e .first) mid (omega arith) in
+        rw (count-is, ← p) (omega arith)
+
+    pub entry-wrote : (out : List ℕ) {mid last : List ℕ} → mid ≡ blit at (replicate (e .first - at) 0) out
+      → last ≡ blit (e .first) (framedAll (entryKind s e) (entryPayloads s size e (entryRecords s w n fs nf e))) mid
+      → Wrote at (entryBlocks s size w n fs nf e) (e .first + (24 * b + x * e .records)) out last
+    unfolding entryBlocks
+    entry-wrote out m l =
+        wrote-payloads (entryKind s e) (e .first) (entryPayloads s size e (entryRecords s w n fs nf e)) some-payloads (entry-room .0) m l (rw size-is)
+
+-- ---- signal data
+pub same-small : (r l : ℕ) → r < 18446744073709551616 → l < 18446744073709551616 → r % 2 ^ 64 ≡ l % 2 ^ 64 → r ≡ l
+same-small r l a b e = sym (mod-eq-of-lt a) ∙ e ∙ mod-eq-of-lt b
+
+module _ (s ws : List ℕ) (sd size : ℕ) (out : List ℕ) (h : sd + length (framed kindSD (joined s (fragmentsOf ws))) ≤ length out)
+    (e : size % 2 ^ 64 ≡ length (joined s (fragmentsOf ws)) % 2 ^ 64) (few : length out < 18446744073709551616)
+    (small : size < 18446744073709551616) where
+  pub sd-size : size ≡ length (joined s (fragmentsOf ws))
+  sd-size =
+      let l = length-framed kindSD (joined s (fragmentsOf ws)) in
+      same-small size (length (joined s (fragmentsOf ws))) small (omega arith) e
+
+  pub sd-room : sd + (24 + size) ≤ length out
+  sd-room = let l = length-framed kindSD (joined s (fragmentsOf ws)) in let z = sd-size in omega arith
+
+  pub sd-wrote : (at : ℕ) {mid last : List ℕ} → at ≤ sd → mid ≡ blit at (replicate (sd - at) 0) out
+    → last ≡ blit sd (framed kindSD (joined s (fragmentsOf ws))) mid
+    → Wrote at (block sd (framed kindSD (joined s (fragmentsOf ws))) ∷ []) (sd + (24 + size)) out last
+  sd-wrote at a m q =
+      let l = length-framed kindSD (joined s (fragmentsOf ws)) in
+      let y : 24 + size ≡ length (framed kindSD (joined s (fragmentsOf ws))) = let z = sd-size in omega arith in
+      rw y (wrote-block (block sd (framed kindSD (joined s (fragmentsOf ws)))) a (rw (← m) q))
+
+module _ (s fs : List ℕ) (e : Entry) where
+  no-signal : e .signal ≡ 0 → entrySignal s fs e ≡ []
+  unfolding entrySignal
+  no-signal z = sym (eq-yes _ _ _ _ z refl)
+
+  pub signal-none : e .signal ≡ 0 → (at : ℕ) (out : List ℕ) → Wrote at (entrySignal s fs e) at out out
+  signal-none z at out = rw (no-signal z) (wrote-none at out)
+
+  signal-some : (e .signal ≡ 0 → ⊥) → entrySignal s fs e ≡ block (e .sd) (framed kindSD (joined s (fragmentsOf (signalWords fs e)))) ∷ []
+  unfolding entrySignal
+  signal-some z = sym (eq-no _ _ _ _ z refl)
+
+  pub signal-room : (e .signal ≡ 0 → ⊥) → (at room : ℕ) → Ordered at (entrySignal s fs e) room
+    → (at ≤ e .sd) × (e .sd + length (framed kindSD (joined s (fragmentsOf (signalWords fs e)))) ≤ room)
+  unfolding Ordered
+  signal-room z at room o = rw (signal-some z) at o
+
+  pub signal-wrote : (e .signal ≡ 0 → ⊥) → {at r : ℕ} {out last : List ℕ}
+    → Wrote at (block (e .sd) (framed kindSD (joined s (fragmentsOf (signalWords fs e)))) ∷ []) r out last
+    → Wrote at (entrySignal s fs e) r out last
+  signal-wrote z v = rw (signal-some z) v
+
+-- ---- all columns: what is left to write, written, gives the whole
+module _ (s : List ℕ) (size : ℕ) (w : List ℕ) (n : ℕ) (fs : List ℕ) (nf : ℕ) (cs m : List ℕ) where
+  data-open : (k number : ℕ) → k < number → dataFrom s size w n fs nf cs m k (number - k)
+    ≡ entryBlocks s size w n fs nf (entryIn cs m k)
+      ++ (entrySignal s fs (entryIn cs m k) ++ dataFrom s size w n fs nf cs m (k + 1) (number - (k + 1)))
+  unfolding dataFrom
+  data-open k number h = go (number - k) (omega arith)
+    where
+      go : (j : ℕ) → j ≡ suc (number - (k + 1)) → dataFrom s size w n fs nf cs m k j
+        ≡ entryBlocks s size w n fs nf (entryIn cs m k)
+          ++ (entrySignal s fs (entryIn cs m k) ++ dataFrom s size w n fs nf cs m (k + 1) (number - (k + 1)))
+      go j e = rw e
+
+  data-none : (k number : ℕ) → number ≤ k → dataFrom s size w n fs nf cs m k (number - k) ≡ []
+  unfolding dataFrom
+  data-none k number h = let e : number - k ≡ 0 = omega arith in rw e
+
+pub record Writing (s : List ℕ) (size : ℕ) (w : List ℕ) (n : ℕ) (fs : List ℕ) (nf : ℕ) (cs m : List ℕ) (number at : ℕ) (out₀ : List ℕ) (k p : ℕ)
+    (out : List ℕ) : Type 0 where
+  pub room : k ≤ number
+  pub same : length out ≡ length out₀
+  pub ordered : Ordered p (dataFrom s size w n fs nf cs m k (number - k)) (length out)
+  pub rest : (r : ℕ) (last : List ℕ) → Wrote p (dataFrom s size w n fs nf cs m k (number - k)) r out last
+    → Wrote at (dataFrom s size w n fs nf cs m 0 number) r out₀ last
+
+pub writing-begin : {s : List ℕ} {size : ℕ} {w : List ℕ} {n : ℕ} {fs : List ℕ} {nf : ℕ} {cs m : List ℕ} {number at : ℕ} (out : List ℕ)
+  → DataReady s size w n fs nf cs m number at (length out) → Writing s size w n fs nf cs m number at out 0 at out
+writing-begin {number = number} out d =
+    let e : number - 0 ≡ number = omega arith in
+    record { room = omega arith; same = refl; ordered = rw e (d .ordered); rest = rw e (λ r last v. v) }
+
+module _ {s : List ℕ} {size : ℕ} {w : List ℕ} {n : ℕ} {fs : List ℕ} {nf : ℕ} {cs m : List ℕ} {number at : ℕ} {out₀ : List ℕ} {k p : ℕ}
+    {out : List ℕ} (t : Writing s size w n fs nf cs m number at out₀ k p out) where
+  pub writing-end : number ≤ k → Wrote at (dataFrom s size w n fs nf cs m 0 number) p out₀ out
+  writing-end h = t .rest p out (rw (data-none s size w n fs nf cs m k number h) (wrote-none p out))
+
+  module _ (h : k < number) {e : Entry} (i : e ≡ entryIn cs m k) where
+    opened : Ordered p (entryBlocks s size w n fs nf e ++ (entrySignal s fs e ++ dataFrom s size w n fs nf cs m (k + 1) (number - (k + 1)))) (length out)
+    opened = rw (i, ← data-open s size w n fs nf cs m k number h) (t .ordered)
+
+    pub blocks-ordered : Ordered p (entryBlocks s size w n fs nf e) (length out)
+    blocks-ordered = ordered-first p (entryBlocks s size w n fs nf e) _ (length out) opened
+
+    module _ {q : ℕ} {mid : List ℕ} (v : Wrote p (entryBlocks s size w n fs nf e) q out mid) where
+      after-blocks : Ordered q (entrySignal s fs e ++ dataFrom s size w n fs nf cs m (k + 1) (number - (k + 1))) (length out)
+      after-blocks = rw (v .end) (ordered-back p (entryBlocks s size w n fs nf e) _ (length out) opened)
+
+      pub signal-ordered : length mid ≡ length out → Ordered q (entrySignal s fs e) (length mid)
+      signal-ordered l = rw l (ordered-first q (entrySignal s fs e) _ (length out) after-blocks)
+
+      pub writing-on : {z : ℕ} {last : List ℕ} → Wrote q (entrySignal s fs e) z mid last → length last ≡ length out
+        → Writing s size w n fs nf cs m number at out₀ (k + 1) z last
+      writing-on {z} {last} u l =
+          record {
+            room = omega arith;
+            same = l ∙ t .same;
+            ordered = rw (l, u .end) (ordered-back q (entrySignal s fs e) _ (length out) after-blocks);
+            rest = λ r x y. t .rest r x
+              (rw (data-open s size w n fs nf cs m k number h, ← i) (wrote-append (length out) v (wrote-append (length out) u y after-blocks) opened)) }

@@ -1,0 +1,142 @@
+-- Laws of what the words of reading hold of a DG.
+use Prim.Native.Nat.{ℕ, zero, suc, _+_, _*_, _-_, _≤_, _<_, min}
+use mathlib.Core.Bool.{Bool, true, false}
+use mathlib.Core.List.{List, [], _∷_}
+use mathlib.Core.Path.{_≡_, refl, sym, ap, _∙_}
+use native.Mathlib.Nat.{zero-add, min-le-right}
+use native.Mathlib.Numerals.{add-one}
+use native.Mathlib.Omega.{arith}
+use lib.ListN.{length, getD, drop, drop-of-length-le}
+use lib.Seq.{drop-cons}
+use lib.Dec.{eqb}
+use borrow.Author.Tests.{eqb-true, eqb-false}
+use Rattle.base.specs.Choice.{pick, ifEq}
+use Rattle.base.specs.ChoiceLaws.{eq-yes, eq-no}
+use Rattle.mdf.specs.Walk.{Item, dg, cg, cn, levelCG, tally}
+use Rattle.mdf.specs.Group.{groupsOf, upTo}
+use Rattle.planning.specs.Items.{itemsFrom}
+use Rattle.planning.specs.Span.{pastDG}
+use Rattle.writing.specs.declared.own.Own.{Own}
+use Rattle.writing.specs.Own.{ownFrom, ownIn, OwnOf, numberIn}
+
+-- ---- few
+pub length-from : (w : List ℕ) (i n : ℕ) → length (itemsFrom w i n) ≡ n
+unfolding itemsFrom
+length-from w i zero = refl
+length-from w i (suc n) = ap suc (length-from w (i + 1) n)
+
+pick-within : (t : Bool) (a b e : ℕ) → a ≤ e → b ≤ e → pick t a b ≤ e
+pick-within true a b e h k = h
+pick-within false a b e h k = k
+
+past-within : (d k : ℕ) (is : List Item) → pastDG d k is ≤ k + length is
+unfolding pastDG ifEq
+past-within d k [] = omega arith
+past-within d k (dg a n ∷ is) =
+    let h = past-within d (k + 1) is in
+    pick-within (eqb a d) (k + 1) (pastDG d (k + 1) is) (k + suc (length is)) (omega arith) (omega arith)
+past-within d k (cg a ∷ is) = let h = past-within d (k + 1) is in omega arith
+past-within d k (cn a ∷ is) = let h = past-within d (k + 1) is in omega arith
+
+tally-within : (is : List Item) → tally (levelCG .own) is ≤ length is
+unfolding tally
+tally-within [] = omega arith
+tally-within (dg a n ∷ is) = let h = tally-within is in omega arith
+tally-within (cg a ∷ is) = let h = tally-within is in omega arith
+tally-within (cn a ∷ is) = let h = tally-within is in omega arith
+
+groups-within : (is : List Item) → length (groupsOf is) ≤ length is
+unfolding groupsOf
+groups-within [] = omega arith
+groups-within (dg a n ∷ is) = omega arith
+groups-within (cg a ∷ is) = let h = groups-within is in omega arith
+groups-within (cn a ∷ is) = let h = groups-within is in omega arith
+
+pub past-few : (w : List ℕ) (n d : ℕ) {i : ℕ} → i ≡ pastDG d 0 (itemsFrom w 0 (min n 1536)) → i ≤ 1536
+past-few w n d e =
+    let h = past-within d 0 (itemsFrom w 0 (min n 1536)) in
+    let l = length-from w 0 (min n 1536) in
+    let m = min-le-right n 1536 in
+    omega arith
+
+-- ---- found
+pub own-is : (w : List ℕ) (n nf d : ℕ) {i u e m t b f g : ℕ} → i ≡ pastDG d 0 (itemsFrom w 0 (min n 1536))
+  → u ≡ upTo nf (itemsFrom w i (min n 1536 - i)) → e ≡ min u nf → m ≡ getD w (1535 + i) 0 → t ≡ m - 2 → b ≡ min t e
+  → f ≡ tally (levelCG .own) (itemsFrom w 0 (min i (min n 1536))) → g ≡ length (groupsOf (itemsFrom w i (min n 1536 - i)))
+  → OwnOf w n nf d (record { begin = b; end = e; first = f; groups = g })
+unfolding ownIn ownFrom
+own-is w n nf d {i} {u} {e} {m} {t} {b} {f} {g} p q x y z v k l =
+    let a = min-le-right n 1536 in
+    let h = min-le-right i (min n 1536) in
+    let c = length-from w 0 (min i (min n 1536)) in
+    let r = length-from w i (min n 1536 - i) in
+    let j = tally-within (itemsFrom w 0 (min i (min n 1536))) in
+    let o = groups-within (itemsFrom w i (min n 1536 - i)) in
+    let ee : e ≡ min (upTo nf (itemsFrom w i (min n 1536 - i))) nf = x ∙ rw q in
+    let bb : b ≡ min (getD w (1535 + i) 0 - 2) (min (upTo nf (itemsFrom w i (min n 1536 - i))) nf) = v ∙ rw (z, y, ee) in
+    let be : b ≤ e = rw v (min-le-right t e) in
+    let en : e ≤ nf = rw x (min-le-right u nf) in
+    record {
+      is = rw (← p, bb, ee, k, l);
+      ordered = be;
+      within = en;
+      before = omega arith;
+      few = omega arith }
+
+-- ---- the number of a group
+pub record Numbering (gs : List ℕ) (g i : ℕ) : Type 0 where
+  pub room : i ≤ length gs
+  pub rest : i + numberIn g (drop i gs) ≡ numberIn g gs
+
+pub number-begin : {gs : List ℕ} {g : ℕ} → Numbering gs g 0
+number-begin {gs} {g} = record { room = omega arith; rest = zero-add (numberIn g gs) }
+
+number-hit : (g h : ℕ) (gs : List ℕ) → h ≡ g → numberIn g (h ∷ gs) ≡ 0
+unfolding numberIn
+number-hit g h gs e = sym (eq-yes _ _ _ _ e refl)
+
+number-next : (g h : ℕ) (gs : List ℕ) → (h ≡ g → ⊥) → numberIn g (h ∷ gs) ≡ suc (numberIn g gs)
+unfolding numberIn
+number-next g h gs e = sym (eq-no _ _ _ _ e refl)
+
+number-none : (g : ℕ) → numberIn g [] ≡ 0
+unfolding numberIn
+number-none g = refl
+
+module _ {gs : List ℕ} {g i : ℕ} (t : Numbering gs g i) where
+  pub number-end : length gs ≤ i → length gs ≡ numberIn g gs
+  number-end h =
+      let e : drop i gs ≡ [] = drop-of-length-le gs h in
+      let r : i + numberIn g [] ≡ numberIn g gs = rw e at (t .rest) in
+      omega (arith, t .room, number-none g)
+
+  module _ (h : i < length gs) where
+    opened : i + numberIn g (getD gs i 0 ∷ drop (suc i) gs) ≡ numberIn g gs
+    opened = rw (drop-cons gs i 0 h) at (t .rest)
+
+    pub number-found : getD gs i 0 ≡ g → i ≡ numberIn g gs
+    number-found e = let r = opened in omega (arith, number-hit g (getD gs i 0) (drop (suc i) gs) e)
+
+    pub number-on : (getD gs i 0 ≡ g → ⊥) → Numbering gs g (i + 1)
+    number-on e =
+        let r = opened in
+        let q = number-next g (getD gs i 0) (drop (suc i) gs) e in
+        record { room = omega arith; rest = rw (add-one i) (omega arith) }
+
+-- the group of that number
+pub number-at : (g : ℕ) (gs : List ℕ) → numberIn g gs < length gs → getD gs (numberIn g gs) 0 ≡ g
+number-at g [] h = absurd (omega arith)
+number-at g (x ∷ gs) h = go (number-at g gs) (eqb x g) refl
+  where
+    go : (numberIn g gs < length gs → getD gs (numberIn g gs) 0 ≡ g) → (t : Bool) → eqb x g ≡ t → getD (x ∷ gs) (numberIn g (x ∷ gs)) 0 ≡ g
+    go f true q = let e = eqb-true x g q in rw (number-hit g x gs e) e
+    go f false q = let n = number-next g x gs (eqb-false x g q) in rw n (f (omega arith))
+
+pub one-group : (g : ℕ) (gs : List ℕ) → length gs ≡ 1 → numberIn g gs < length gs → gs ≡ g ∷ []
+one-group g [] l h = absurd (omega arith)
+one-group g (x ∷ []) l h =
+    let z : numberIn g (x ∷ []) ≡ 0 = omega arith in
+    let e : getD (x ∷ []) (numberIn g (x ∷ [])) 0 ≡ g = number-at g (x ∷ []) h in
+    let y : x ≡ g = rw z at e in
+    rw y
+one-group g (x ∷ y ∷ gs) l h = absurd (omega arith)

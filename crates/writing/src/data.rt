@@ -1,0 +1,135 @@
+// The data blocks and signal data of columns, one after the other, zeros between them.
+use channels::{width_of, block_count};
+use crate::gap::gap;
+use crate::own::{own_of, number_in};
+use crate::sorted::write_sorted;
+use crate::several::write_several;
+use crate::signal::{joined_size, write_signal};
+ghost use mathlib.Core.Path.{_≡_};
+ghost use mathlib.Core.List.{[], _∷_};
+ghost use Prim.Native.Nat.{_+_, _*_, _-_, _≤_};
+ghost use lib.ListN.{length};
+ghost use Rattle.base.specs.Blit.{blit};
+ghost use Rattle.mdf.specs.Block.{kindSD};
+ghost use Rattle.mdf.specs.Words.{fragmentsOf};
+ghost use Rattle.mdf.specs.Records.{joined};
+ghost use Rattle.plan.specs.Channel.{width};
+ghost use Rattle.result.specs.Fill.{block, framed};
+ghost use Rattle.result.specs.Ordered.{Ordered};
+ghost use Rattle.writing.specs.Sorted.{framedAll};
+ghost use Rattle.writing.specs.Wrote.{Wrote};
+ghost use Rattle.writing.specs.Data.{entryIn, entryRecords, entryCount, entryPayloads, entryKind, entryBlocks, entrySignal, dataFrom, Tables, EntryReady, DataReady};
+
+// A column: its CN, CG and DG, its number of records; the number of fragments before its signal data's and 1, or 0 for none, and how many
+// those are; the places of its first data block and of its SD.
+pub struct Entry {
+    pub channel: u64,
+    pub group: u64,
+    pub parent: u64,
+    pub records: u64,
+    pub signal: u64,
+    pub pieces: u64,
+    pub first: u64,
+    pub sd: u64,
+}
+
+// Column k.
+fn entry_at(columns: &[u64], memo: &[u64], k: u64) -> Entry
+    requires { ⌜ (8 * k + 8 ≤ length (now columns)) × (6656 + 3 * k + 3 ≤ length (now memo)) ⌝ }
+    ensures { λ r. ⌜ r ≡ entryIn (now (columns .entry)) (now (memo .entry)) k ⌝ }
+{
+    let i = (8 * k) as usize;
+    let p = (6656 + 3 * k) as usize;
+    Entry {
+        channel: columns[i],
+        group: columns[i + 1],
+        parent: columns[i + 2],
+        records: columns[i + 3],
+        signal: columns[i + 6],
+        pieces: columns[i + 7],
+        first: memo[p + 1],
+        sd: memo[p + 2],
+    }
+}
+
+// Its data blocks, at the front of out.
+fn write_records(out: &mut [u8], image: &[u8], size: u64, source: &[u64], n: u64, fragments: &[u64], nf: u64, e: Entry)
+    requires { ⌜ Tables (now source) (now fragments) nf × EntryReady (now image) (now source) n (now fragments) nf e
+        × (24 * entryCount (now image) size e + width (now image) (e .group) (e .channel) * e .records ≤ length (now out)) ⌝ }
+    ensures { λ _. ⌜ now (out .exit) ≡ blit 0 (framedAll (entryKind (now (image .entry)) e) (entryPayloads (now (image .entry)) size e
+        (entryRecords (now (image .entry)) (now (source .entry)) n (now (fragments .entry)) nf e))) (now (out .entry)) ⌝ }
+{
+    let o = own_of(source, n, nf, e.parent);
+    let a = (3 * o.begin) as usize;
+    let b = (3 * o.end) as usize;
+    if o.groups == 1 {
+        write_sorted(out, image, &fragments[a..b], e.parent, e.group, e.channel, size, e.records);
+        return;
+    }
+    let f = (3072 + o.first) as usize;
+    let l = f + o.groups as usize;
+    let k = number_in(&source[f..l], e.group);
+    write_several(out, image, &source[f..l], &fragments[a..b], e.parent, k, e.group, e.channel, size, e.records);
+}
+
+// Zeros from at up to them, and them; the answer is past them.
+fn write_blocks_of(out: &mut [u8], at: usize, image: &[u8], size: u64, source: &[u64], n: u64, fragments: &[u64], nf: u64, e: Entry) -> usize
+    requires { ⌜ Tables (now source) (now fragments) nf × EntryReady (now image) (now source) n (now fragments) nf e
+        × Ordered at (entryBlocks (now image) size (now source) n (now fragments) nf e) (length (now out)) ⌝ }
+    ensures { λ r. ⌜ Wrote at (entryBlocks (now (image .entry)) size (now (source .entry)) n (now (fragments .entry)) nf e) r
+        (now (out .entry)) (now (out .exit)) ⌝ }
+{
+    let w = width_of(image, e.group, e.channel);
+    let count = block_count(size, w, e.records);
+    if count == 0 {
+        return at;
+    }
+    let first = e.first as usize;
+    gap(out, at, first);
+    write_records(&mut out[first..], image, size, source, n, fragments, nf, e);
+    first + (24 * count + w * e.records) as usize
+}
+
+// Zeros from at up to sd, and an SD there with the data of fragments; the answer is past it.
+fn write_sd(out: &mut [u8], at: usize, sd: usize, image: &[u8], fragments: &[u64]) -> usize
+    requires { ⌜ (at ≤ sd) × (sd + length (framed kindSD (joined (now image) (fragmentsOf (now fragments)))) ≤ length (now out)) ⌝ }
+    ensures { λ r. ⌜ Wrote at (block sd (framed kindSD (joined (now (image .entry)) (fragmentsOf (now (fragments .entry))))) ∷ []) r
+        (now (out .entry)) (now (out .exit)) ⌝ }
+{
+    let size = joined_size(image, fragments);
+    gap(out, at, sd);
+    write_signal(&mut out[sd..], image, fragments);
+    sd + (24 + size) as usize
+}
+
+// The SD of a column with signal data.
+fn write_signal_of(out: &mut [u8], at: usize, image: &[u8], fragments: &[u64], e: Entry) -> usize
+    requires { ⌜ ((e .signal ≡ 0 → ⊥) → 3 * (e .signal - 1) + 3 * e .pieces ≤ length (now fragments))
+        × Ordered at (entrySignal (now image) (now fragments) e) (length (now out)) ⌝ }
+    ensures { λ r. ⌜ Wrote at (entrySignal (now (image .entry)) (now (fragments .entry)) e) r (now (out .entry)) (now (out .exit)) ⌝ }
+{
+    if e.signal == 0 {
+        return at;
+    }
+    let a = (3 * (e.signal - 1)) as usize;
+    let b = a + (3 * e.pieces) as usize;
+    write_sd(out, at, e.sd as usize, image, &fragments[a..b])
+}
+
+// Of so many columns, from at on; the answer is past them.
+pub(crate) fn write_data(out: &mut [u8], at: usize, image: &[u8], size: u64, source: &[u64], n: u64, fragments: &[u64], nf: u64,
+    columns: &[u64], memo: &[u64], number: u64) -> usize
+    requires { ⌜ DataReady (now image) size (now source) n (now fragments) nf (now columns) (now memo) number at (length (now out)) ⌝ }
+    ensures { λ r. ⌜ Wrote at (dataFrom (now (image .entry)) size (now (source .entry)) n (now (fragments .entry)) nf (now (columns .entry))
+        (now (memo .entry)) 0 number) r (now (out .entry)) (now (out .exit)) ⌝ }
+{
+    let mut k = 0;
+    let mut p = at;
+    while k < number {
+        let e = entry_at(columns, memo, k);
+        p = write_blocks_of(out, p, image, size, source, n, fragments, nf, e);
+        p = write_signal_of(out, p, image, fragments, e);
+        k += 1;
+    }
+    p
+}

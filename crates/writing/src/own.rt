@@ -1,0 +1,53 @@
+// What the words of reading hold of a DG: its fragments and its groups.
+use puts::least;
+use planning::words::word;
+use planning::span::{dg_past, end_of, groups_before, own_groups};
+ghost use mathlib.Core.Path.{_≡_};
+ghost use Prim.Native.Nat.{_-_};
+ghost use lib.ListN.{length};
+ghost use Rattle.writing.specs.Own.{OwnOf, numberIn};
+
+// Its fragments from number begin up to number end; before its groups, groups in number, are others, first in number.
+pub struct Own {
+    pub begin: u64,
+    pub end: u64,
+    pub first: u64,
+    pub groups: u64,
+}
+
+// x without 2, or 0.
+fn less_two(x: u64) -> u64
+    ensures { λ r. ⌜ r ≡ x - 2 ⌝ }
+{
+    if x < 2 {
+        return 0;
+    }
+    x - 2
+}
+
+// Of the DG at d, among n items, with nf fragments.
+pub(crate) fn own_of(source: &[u64], n: u64, nf: u64, d: u64) -> Own
+    ensures { λ r. ⌜ OwnOf (now (source .entry)) n nf d r ⌝ }
+{
+    let i = dg_past(source, n, d);
+    let end = least(end_of(source, n, i, nf), nf);
+    let begin = least(less_two(word(source, 1535 + i)), end);
+    let first = groups_before(source, n, i);
+    let groups = own_groups(source, n, i);
+    Own { begin, end, first, groups }
+}
+
+// The number of the group at g among groups, or how many they are.
+pub(crate) fn number_in(groups: &[u64], g: u64) -> u64
+    ensures { λ r. ⌜ r ≡ numberIn g (now (groups .entry)) ⌝ }
+{
+    let n = groups.len();
+    let mut i = 0;
+    while i < n {
+        if groups[i] == g {
+            return i as u64;
+        }
+        i += 1;
+    }
+    n as u64
+}
