@@ -113,13 +113,9 @@ module _ {s w : List ℕ} {n : ℕ} {fs : List ℕ} {nf : ℕ} {e : Entry} {o : 
     several-ready {k} i =
         record {
           fit = r .fit;
-          address = rw i (number-at (e .group) (ownGroups w o) listed);
-          within = rw i listed;
-          kept = r .kept;
-          framed = λ a b.
-            let c = several-checked s (e .parent) (numberIn (e .group) (ownGroups w o)) (ownGroups w o) (fragmentsOf (ownWords fs o)) many listed (checked-own a b) in
-            let u = rw (c .1) at (records-several i) in
-            (c .0, c .1, ap length (sym u) ∙ r .counted a b) }
+          group = rw i (number-at (e .group) (ownGroups w o) listed);
+          plain = r .kept;
+          counted = λ a b. ap length (sym (records-several i)) ∙ r .counted a b }
 
     pub several-is : (size k : ℕ) (out : List ℕ) {last : List ℕ} → k ≡ numberIn (e .group) (ownGroups w o)
       → last ≡ blit 0 (framedAll (dataKind (keepsInval s (e .group) (e .channel))) (payloads s (e .group) (e .channel)

@@ -262,6 +262,7 @@ module _ {x : Args} {items pieces columns omitted : ℕ} {n : numbers.Numbers} {
 
   -- ---- the first part and the end
   pub front-room : (out : List ℕ) → n .«file_size» ≤ length out → (length (x .ident) ≡ 64) × (168 ≤ length out)
+  unfolding endOf hdBlock
   front-room out h =
       let i = known .steps .lent .identLength in
       let e = st .by .numbered .fileSize in
@@ -270,7 +271,6 @@ module _ {x : Args} {items pieces columns omitted : ℕ} {n : numbers.Numbers} {
       (i, omega (arith, r .1, k, e, h))
     where
       front-end : endOf 0 partFront ≡ 168
-      unfolding endOf hdBlock
       front-end = let e = length-hd s (nextDG (l .placed)) (firstFH (memoOf l) (l .past .chain) (l .fh)) (nextAttachment (l .attached .attachments)) (newLink (memoOf l) (linkAt s 64 5)) in omega (arith, e)
 
   pub front-done : {out next : List ℕ} {r : ℕ} {bs : List Block} → n .«file_size» ≤ length out → bs ≡ partFront → Wrote 0 bs r out next

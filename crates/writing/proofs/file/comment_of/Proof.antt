@@ -1,0 +1,24 @@
+use native.Mathlib.Omega.{arith}
+use lib.ListN.{length, length-set}
+use borrow.Author.Needs.{needs}
+use Rattle.writing.proofs.file.comment_of.Statement.{statement}
+use Rattle.writing.proofs.file.comment_of.Tie as tie
+use Rattle.writing.proofs.file.comment_of.Reads as reads
+use Rattle.writing.proofs.file.comment_of.Lts as lts
+use Rattle.blocks.proofs.block.link_at.Reads as link-at-reads
+use Rattle.placing.proofs.memo.new_link.Reads as new-link-reads
+
+-- src/file.rt:49:9
+link-at-requires : tie.Need-link-at-requires
+link-at-requires c κs = search needs
+
+-- src/file.rt:50:5
+new-link-requires : tie.Need-new-link-requires
+new-link-requires c κs = search needs
+
+-- src/file.rt:46:1
+returns : tie.Need-returns
+returns c = search needs
+
+pub comment-of-spec : {M : Type 1} → statement M
+comment-of-spec = tie.close (tie.spec link-at-requires new-link-requires returns)

@@ -1,0 +1,23 @@
+use native.Mathlib.Omega.{arith}
+use lib.ListN.{length, length-set}
+use borrow.Author.Needs.{needs}
+use Rattle.writing.proofs.file.first_column.Statement.{statement}
+use Rattle.writing.proofs.file.first_column.Tie as tie
+use Rattle.writing.proofs.file.first_column.Reads as reads
+use Rattle.writing.proofs.file.first_column.Lts as lts
+use Rattle.planning.proofs.words.word.Reads as word-reads
+
+-- src/file.rt:29:9
+returns : tie.Need-returns
+returns c = search needs
+
+-- src/file.rt:31:5
+word-requires : tie.Need-word-requires
+word-requires c κs = search needs
+
+-- src/file.rt:25:1
+returns-2 : tie.Need-returns-2
+returns-2 c = search needs
+
+pub first-column-spec : {M : Type 1} → statement M
+first-column-spec = tie.close (tie.spec returns word-requires returns-2)

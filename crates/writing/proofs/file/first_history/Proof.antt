@@ -1,0 +1,28 @@
+use native.Mathlib.Omega.{arith}
+use lib.ListN.{length, length-set}
+use borrow.Author.Needs.{needs}
+use Rattle.writing.proofs.file.first_history.Statement.{statement}
+use Rattle.writing.proofs.file.first_history.Tie as tie
+use Rattle.writing.proofs.file.first_history.Reads as reads
+use Rattle.writing.proofs.file.first_history.Lts as lts
+use Rattle.placing.proofs.memo.new_link.Reads as new-link-reads
+use Rattle.planning.proofs.words.word.Reads as word-reads
+
+-- src/file.rt:39:9
+returns : tie.Need-returns
+returns c = search needs
+
+-- src/file.rt:41:9
+word-requires : tie.Need-word-requires
+word-requires c κs = search needs
+
+-- src/file.rt:42:5
+new-link-requires : tie.Need-new-link-requires
+new-link-requires c κs = search needs
+
+-- src/file.rt:35:1
+returns-2 : tie.Need-returns-2
+returns-2 c = search needs
+
+pub first-history-spec : {M : Type 1} → statement M
+first-history-spec = tie.close (tie.spec returns word-requires new-link-requires returns-2)
