@@ -313,6 +313,10 @@ writing-begin {number = number} out d =
     let e : number - 0 ≡ number = omega arith in
     record { room = omega arith; same = refl; ordered = rw e (d .ordered); rest = rw e (λ r last v. v) }
 
+pub entry-ready : {s : List ℕ} {size : ℕ} {w : List ℕ} {n : ℕ} {fs : List ℕ} {nf : ℕ} {cs m : List ℕ} {number at room : ℕ} (k : ℕ) {e : Entry}
+  → DataReady s size w n fs nf cs m number at room → k < number → e ≡ entryIn cs m k → EntryReady s w n fs nf e
+entry-ready k d h i = rw i (d .entries k h)
+
 module _ {s : List ℕ} {size : ℕ} {w : List ℕ} {n : ℕ} {fs : List ℕ} {nf : ℕ} {cs m : List ℕ} {number at : ℕ} {out₀ : List ℕ} {k p : ℕ}
     {out : List ℕ} (t : Writing s size w n fs nf cs m number at out₀ k p out) where
   pub writing-end : number ≤ k → Wrote at (dataFrom s size w n fs nf cs m 0 number) p out₀ out
@@ -329,12 +333,16 @@ module _ {s : List ℕ} {size : ℕ} {w : List ℕ} {n : ℕ} {fs : List ℕ} {n
       after-blocks : Ordered q (entrySignal s fs e ++ dataFrom s size w n fs nf cs m (k + 1) (number - (k + 1))) (length out)
       after-blocks = rw (v .end) (ordered-back p (entryBlocks s size w n fs nf e) _ (length out) opened)
 
-      pub signal-ordered : length mid ≡ length out → Ordered q (entrySignal s fs e) (length mid)
-      signal-ordered l = rw l (ordered-first q (entrySignal s fs e) _ (length out) after-blocks)
+      mid-length : length mid ≡ length out
+      mid-length = ap length (v .bytes) ∙ length-blit p _ out
 
-      pub writing-on : {z : ℕ} {last : List ℕ} → Wrote q (entrySignal s fs e) z mid last → length last ≡ length out
+      pub signal-ordered : Ordered q (entrySignal s fs e) (length mid)
+      signal-ordered = rw mid-length (ordered-first q (entrySignal s fs e) _ (length out) after-blocks)
+
+      pub writing-on : {z : ℕ} {last : List ℕ} → Wrote q (entrySignal s fs e) z mid last
         → Writing s size w n fs nf cs m number at out₀ (k + 1) z last
-      writing-on {z} {last} u l =
+      writing-on {z} {last} u =
+          let l : length last ≡ length out = ap length (u .bytes) ∙ length-blit q _ mid ∙ mid-length in
           record {
             room = omega arith;
             same = l ∙ t .same;
