@@ -10,13 +10,12 @@ use lib.Seq.{take-all}
 use Rattle.base.specs.ChoiceLaws.{eq-yes, eq-no}
 use Rattle.base.specs.Blit.{part, blit}
 use Rattle.base.specs.BlitLaws.{length-blit, blit-append, length-part}
-use Rattle.base.specs.Checked.{ok, fine}
-use Rattle.base.specs.CheckedLaws.{then-ok}
+use Rattle.base.specs.Checked.{fine}
 use Rattle.mdf.specs.Block.{kindSD}
 use Rattle.mdf.specs.Chain.{Fragment}
 use Rattle.mdf.specs.Group.{samples, invalBytes}
 use Rattle.mdf.specs.Words.{fragmentsOf}
-use Rattle.mdf.specs.Records.{joined, runs, sortedRecords, Frame, unsortedFrames, unsortedRecords}
+use Rattle.mdf.specs.Records.{joined, runs, sortedRecords, unsortedFrames}
 use Rattle.plan.specs.Channel.{fits, keepsInval, width}
 use Rattle.plan.specs.Geometry.{blockCount, perFull}
 use Rattle.plan.specs.Data.{recordsIn}
@@ -31,7 +30,8 @@ use Rattle.payload_laws.specs.CellLaws.{length-cells}
 use Rattle.writing.specs.declared.own.Own.{Own}
 use Rattle.writing.specs.declared.data.Entry.{Entry}
 use Rattle.writing.specs.Sorted.{framedAll, SortedReady}
-use Rattle.writing.specs.SortedSteps.{flat-blocks, blocks-some}
+use Rattle.writing.specs.SortedSteps.{flat-blocks}
+use Rattle.writing.specs.ColumnLaws.{blocks-some}
 use Rattle.writing.specs.Several.{SeveralReady}
 use Rattle.writing.specs.Wrote.{endOf, Wrote}
 use Rattle.writing.specs.WroteLaws.{ordered-end, ordered-back, ordered-first, wrote-none, wrote-block, wrote-append}
@@ -46,13 +46,6 @@ module _ (s : List ℕ) (d k : ℕ) where
   several-records [] fs l h = absurd (omega arith)
   several-records (g ∷ []) fs l h = absurd (l refl)
   several-records (g ∷ x ∷ gs) fs l h = refl
-
-  several-checked : (gs : List ℕ) (fs : List Fragment) → (length gs ≡ 1 → ⊥) → k < length gs → recordsIn s d gs fs ≡ fine
-    → (rs : List Frame) × (unsortedFrames s d gs fs ≡ ok rs)
-  several-checked [] fs l h e = absurd (omega arith)
-  several-checked (g ∷ []) fs l h e = absurd (l refl)
-  several-checked (g ∷ x ∷ gs) fs l h e =
-      let a = then-ok (unsortedFrames s d (g ∷ x ∷ gs) fs) (λ rs. fine) e in (a .0, a .1)
 
 -- ---- a column's records, by its DG's words
 module _ {s w : List ℕ} {n : ℕ} {fs : List ℕ} {nf : ℕ} {e : Entry} {o : Own} (t : Tables w fs nf) (r : EntryReady s w n fs nf e)
@@ -113,13 +106,9 @@ module _ {s w : List ℕ} {n : ℕ} {fs : List ℕ} {nf : ℕ} {e : Entry} {o : 
     several-ready {k} i =
         record {
           fit = r .fit;
-          address = rw i (number-at (e .group) (ownGroups w o) listed);
-          within = rw i listed;
-          kept = r .kept;
-          framed = λ a b.
-            let c = several-checked s (e .parent) (numberIn (e .group) (ownGroups w o)) (ownGroups w o) (fragmentsOf (ownWords fs o)) many listed (checked-own a b) in
-            let u = rw (c .1) at (records-several i) in
-            (c .0, c .1, ap length (sym u) ∙ r .counted a b) }
+          group = rw i (number-at (e .group) (ownGroups w o) listed);
+          plain = r .kept;
+          counted = λ a b. ap length (sym (records-several i)) ∙ r .counted a b }
 
     pub several-is : (size k : ℕ) (out : List ℕ) {last : List ℕ} → k ≡ numberIn (e .group) (ownGroups w o)
       → last ≡ blit 0 (framedAll (dataKind (keepsInval s (e .group) (e .channel))) (payloads s (e .group) (e .channel)

@@ -4,11 +4,15 @@ pub mod SignalLaws
 pub mod RunLaws
 pub mod Shape
 pub mod CellLaws
+pub mod Column
 pub mod Sorted
+pub mod ColumnLaws
+pub mod Several
+pub mod SeveralLaws
 pub mod SortedSteps
+pub mod SeveralSteps
 pub mod Wrote
 pub mod WroteLaws
-pub mod Several
 pub mod Own
 pub mod OwnLaws
 pub mod Data

@@ -3,21 +3,20 @@ use Prim.Native.Nat.{ℕ, _+_, _<_}
 use mathlib.Core.Bool.{true}
 use mathlib.Core.List.{List, [], _∷_, _++_}
 use mathlib.Core.Path.{_≡_}
-use lib.ListN.{length, take, drop}
-use Rattle.base.specs.Blit.{blit}
+use lib.ListN.{length}
 use Rattle.base.specs.Checked.{fine}
 use Rattle.mdf.specs.Chain.{Kind, dt, dv}
 use Rattle.mdf.specs.Words.{fragmentsOf}
 use Rattle.mdf.specs.Group.{samples, invalBytes}
 use Rattle.mdf.specs.Records.{rangesIn, runs, sortedRecords, sortedIn}
 use Rattle.plan.specs.Channel.{fits, width}
-use Rattle.result.specs.Payload.{cell, cells}
 use Rattle.result.specs.Fill.{framed}
 use Rattle.payload_laws.specs.Lists.{Long}
 use Rattle.writing.specs.declared.cursor.Cursor.{Cursor}
 use Rattle.writing.specs.declared.cell.Shape.{Shape}
 use Rattle.writing.specs.Ahead.{ahead}
 use Rattle.writing.specs.RunLaws.{Whole}
+use Rattle.writing.specs.Column.{SteppedIn, WrittenIn, BlockIn}
 
 -- the blocks of payloads, one after the other
 unfoldable pub framedAll : ℕ → List (List ℕ) → List ℕ
@@ -40,23 +39,16 @@ pub record Going (s : List ℕ) (h : Shape) (ws : List ℕ) (k : Cursor) : Type 
   pub long : Long (samples s (h .group) + invalBytes s (h .group)) (recordsFrom s h ws k)
 
 -- the cell of the first record was written at index to, and r is past that record
-pub record Stepped (s : List ℕ) (h : Shape) (ws : List ℕ) (k r : Cursor) (to : ℕ) (out last : List ℕ) : Type 0 where
-  pub first : List ℕ
-  pub is : recordsFrom s h ws k ≡ first ∷ recordsFrom s h ws r
-  pub going : Going s h ws r
-  pub bytes : last ≡ blit to (cell s (h .group) (h .channel) first) out
+abbrev pub Stepped : List ℕ → Shape → List ℕ → Cursor → Cursor → ℕ → List ℕ → List ℕ → Type 0
+Stepped s h ws k r to out last = SteppedIn (recordsFrom s h ws) (Going s h ws) s h k r to out last
 
 -- the cells of n records were, and r is past them
-pub record Written (s : List ℕ) (h : Shape) (ws : List ℕ) (k r : Cursor) (n to : ℕ) (out last : List ℕ) : Type 0 where
-  pub going : Going s h ws r
-  pub rest : recordsFrom s h ws r ≡ drop n (recordsFrom s h ws k)
-  pub bytes : last ≡ blit to (cells s (h .group) (h .channel) (take n (recordsFrom s h ws k))) out
+abbrev pub Written : List ℕ → Shape → List ℕ → Cursor → Cursor → ℕ → ℕ → List ℕ → List ℕ → Type 0
+Written s h ws k r n to out last = WrittenIn (recordsFrom s h ws) (Going s h ws) s h k r n to out last
 
 -- a block with them was
-pub record BlockWritten (s : List ℕ) (h : Shape) (ws : List ℕ) (k r : Cursor) (kind n to : ℕ) (out last : List ℕ) : Type 0 where
-  pub going : Going s h ws r
-  pub rest : recordsFrom s h ws r ≡ drop n (recordsFrom s h ws k)
-  pub bytes : last ≡ blit to (framed kind (cells s (h .group) (h .channel) (take n (recordsFrom s h ws k)))) out
+abbrev pub BlockWritten : List ℕ → Shape → List ℕ → Cursor → Cursor → ℕ → ℕ → ℕ → List ℕ → List ℕ → Type 0
+BlockWritten s h ws k r kind n to out last = BlockIn (recordsFrom s h ws) (Going s h ws) s h k r kind n to out last
 
 -- the channel at c fits the group at g, which is alone in the DG at d; if the column has bytes, the data is as checked and counted
 pub record SortedReady (s ws : List ℕ) (d g c n : ℕ) : Type 0 where

@@ -4,6 +4,6 @@ mod cursor;
 mod cell;
 mod own;
 pub mod sorted;
-mod several;
+pub mod several;
 pub mod signal;
 pub mod data;

@@ -1,6 +1,6 @@
 -- The header, then the cells.
 use Rattle.puts.specs.PutLaws.{lent-is}
-use Rattle.writing.specs.SortedSteps.{block-written}
+use Rattle.writing.specs.ColumnLaws.{block-written}
 use borrow.Author.Needs.{needs}
 use Rattle.writing.proofs.sorted.write_block.Statement.{statement}
 use Rattle.writing.proofs.sorted.write_block.Tie as tie
@@ -35,7 +35,7 @@ same-length c = search needs
 returns : tie.Need-returns
 returns c =
     block-written _ _ _ _ (c .before .before .before .before .before .before .before .before .before .before .before .before .pre .0)
-        (c .before .before .before .before .before .before .before .before .before .before .before .before .pre .1)
+        (c .before .before .before .before .before .before .before .before .before .before .before .before .pre .1 .long)
         (c .before .before .before .before .before .before .before .before .before .before .before .before .pre .2)
         (lent-is _ _ _ _ (c .before .before .before .before .before .before .header .ensures)) (c .before .before .write-cells .ensures)
 

@@ -3,7 +3,8 @@ use mathlib.Core.Path.{_≡_, refl}
 use Rattle.base.specs.Blit.{blit}
 use Rattle.result.specs.Payload.{payloads}
 use Rattle.writing.specs.Sorted.{framedAll, recordsFrom}
-use Rattle.writing.specs.SortedSteps.{Blocks, next-block, blocks-turn, blocks-end}
+use Rattle.writing.specs.SortedSteps.{Blocks}
+use Rattle.writing.specs.ColumnLaws.{next-block, blocks-turn, blocks-end}
 use native.Mathlib.Omega.{arith}
 use lib.ListN.{length}
 use borrow.Author.Needs.{needs}
@@ -20,7 +21,7 @@ abbrev μ-loop : tie.MeasureT-loop
 μ-loop out₀ image fragments h kind m blocks n c₀ more₀ left₀ to₀ out c more left to = more
 
 loop-holds : tie.Need-loop-holds Inv-loop μ-loop
-loop-holds c = (record { going = search needs; many = search needs; room = search needs; bytes = refl }, refl)
+loop-holds c = (record { going = search needs; long = search needs; many = search needs; room = search needs; bytes = refl }, refl)
 
 least-requires : tie.Need-least-requires Inv-loop μ-loop
 least-requires c κs = search needs

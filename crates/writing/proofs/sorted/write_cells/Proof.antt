@@ -4,7 +4,8 @@ use lib.ListN.{take, drop}
 use Rattle.base.specs.Blit.{blit}
 use Rattle.result.specs.Payload.{cells}
 use Rattle.writing.specs.Sorted.{recordsFrom}
-use Rattle.writing.specs.SortedSteps.{Cells, cells-turn, cells-room, cells-end}
+use Rattle.writing.specs.SortedSteps.{Cells}
+use Rattle.writing.specs.ColumnLaws.{cells-turn, cells-room, cells-end}
 use native.Mathlib.Omega.{arith}
 use lib.ListN.{length}
 use borrow.Author.Needs.{needs}
@@ -22,7 +23,7 @@ abbrev μ-loop : tie.MeasureT-loop
 μ-loop out₀ at image fragments h count w c₀ left₀ to₀ out c left to = left
 
 loop-holds : tie.Need-loop-holds Inv-loop μ-loop
-loop-holds c = (record { going = search needs; enough = search needs; room = search needs; bytes = refl; rest = refl }, refl, refl)
+loop-holds c = (record { going = search needs; long = search needs; enough = search needs; room = search needs; bytes = refl; rest = refl }, refl, refl)
 
 step-requires : tie.Need-step-requires Inv-loop μ-loop
 step-requires c κs =

@@ -2,7 +2,8 @@
 use mathlib.Core.Path.{_≡_, sym, _∙_}
 use Rattle.plan.specs.Channel.{width}
 use Rattle.plan.specs.Geometry.{blockCount}
-use Rattle.writing.specs.SortedSteps.{has-blocks, column-none, ready-words, started, column-fits, column-is}
+use Rattle.writing.specs.ColumnLaws.{has-blocks, column-none, column-fits, column-is}
+use Rattle.writing.specs.SortedSteps.{ready-words, started}
 use borrow.Author.Needs.{needs}
 use Rattle.writing.proofs.sorted.write_sorted.Statement.{statement}
 use Rattle.writing.proofs.sorted.write_sorted.Tie as tie

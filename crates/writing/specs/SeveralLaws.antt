@@ -1,0 +1,180 @@
+-- The records of several groups ahead of a cursor, one after the other.
+use Prim.Native.Nat.{ℕ, zero, suc, _+_, _≤_, _<_}
+use mathlib.Core.Bool.{Bool, true, false}
+use mathlib.Core.List.{List, [], _∷_, _++_, append-assoc, append-nil}
+use mathlib.Core.Path.{_≡_, refl, sym, ap, _∙_, subst}
+use mathlib.Core.Logic.{_⊎_, inl, inr}
+use native.Mathlib.Omega.{arith}
+use lib.ListN.{length, drop, length-drop}
+use Rattle.base.specs.Choice.{pick, ifLe, ifEq, ifLt}
+use Rattle.base.specs.ChoiceLaws.{le-first, eq-yes, eq-no, lt-back}
+use Rattle.base.specs.Blit.{part}
+use Rattle.base.specs.Field.{leAt}
+use Rattle.base.specs.Checked.{Checked, ok, refused, andThen, fine}
+use Rattle.base.specs.CheckedLaws.{refused≢ok, ok-same, then-fine}
+use Rattle.mdf.specs.Chain.{Fragment}
+use Rattle.mdf.specs.Walk.{idSize}
+use Rattle.mdf.specs.Group.{samples, invalBytes, isStorage}
+use Rattle.mdf.specs.Records.{most64, rangesIn, joined, placeOf, sizeOf, anyDV, equalIds, Frame, Framed, framed, broken, Known, known, unknown}
+use Rattle.mdf.specs.Records.{withId, onKnown, ofBytes, frameOf, frameAt, onFramed, framesFrom, frames, unsortedFrames, unsortedRecords}
+use Rattle.payload_laws.specs.Answers.{eq-cases}
+use Rattle.payload_laws.specs.Lists.{length-part}
+use Rattle.payload_laws.specs.FramedLaws.{KnownFrame, AllKnown}
+use Rattle.writing.specs.Several.{framesIn, ownIn, Read, end, more, WholeFrames}
+
+-- ---- a frame
+broken≢framed : {r : Frame} → broken ≡ framed r → ⊥
+broken≢framed e = let z : _≡_ {A = ℕ} 0 1 = cc in omega arith
+
+same-frame : {q r : Frame} → framed q ≡ framed r → q ≡ r
+same-frame e = cc
+
+-- its bytes follow the id
+pub record Fits (n : ℕ) (l : List ℕ) (r : Frame) : Type 0 where
+  pub size : r .size ≡ n + length (r .bytes)
+  pub within : r .size ≤ length l
+  pub bytes : r .bytes ≡ part n (length (r .bytes)) l
+
+module _ (s : List ℕ) (n : ℕ) (gs l : List ℕ) where
+  sized-fits : (k m : ℕ) {r : Frame} → ofBytes l n k m ≡ framed r → Fits n l r
+  unfolding ofBytes
+  sized-fits k m e =
+      let q = le-first _ _ _ _ e broken≢framed in
+      let h : n + m ≤ length l = q .0 in
+      let p : length (part n m l) ≡ m = length-part n m l h in
+      subst (Fits n l) (same-frame (q .1)) (record { size = rw p; within = h; bytes = rw p })
+
+  kind-fits : (k g : ℕ) (b : Bool) {r : Frame}
+    → pick b (ifLe (n + 4) (length l) (ofBytes l n k (4 + leAt 4 l n)) broken) (ofBytes l n k (samples s g + invalBytes s g)) ≡ framed r
+    → Fits n l r
+  kind-fits k g true e = sized-fits k _ (le-first _ _ _ _ e broken≢framed .1)
+  kind-fits k g false e = sized-fits k _ e
+
+  known-fits : (v : Known) {r : Frame} → onKnown v (λ k g. frameOf s l n k g) ≡ framed r → Fits n l r
+  unfolding frameOf
+  known-fits unknown e = absurd (broken≢framed e)
+  known-fits (known k g) e = kind-fits k g (isStorage s g) e
+
+  pub frame-fits : {r : Frame} → frameAt s n gs l ≡ framed r → Fits n l r
+  unfolding frameAt
+  frame-fits e = known-fits (withId s (leAt n l 0) 0 gs) (le-first _ _ _ _ e broken≢framed .1)
+
+-- ---- the records of bytes
+module _ {s : List ℕ} {n : ℕ} {gs : List ℕ} (some : 0 < n) where
+  pub read-is : (turns : ℕ) {l : List ℕ} {rs : List Frame} → Read s n gs l rs → length l ≤ turns → framesIn turns s n gs l ≡ rs
+  unfolding framesIn
+  read-is zero (end z) h = refl
+  read-is zero (more z e q) h = absurd (omega arith)
+  read-is (suc turns) (end z) h = sym (eq-yes _ _ _ _ z refl)
+  read-is (suc turns) (more {l} {r} {rs} z e q) h =
+      let f = frame-fits s n gs l e in
+      let a = f .size in
+      let b = f .within in
+      let i : framesIn turns s n gs (drop (r .size) l) ≡ rs = read-is turns q (rw length-drop (omega arith)) in
+      sym (eq-no _ _ _ _ (λ y. omega arith) (rw (e, i)))
+
+  pub own-is : (j : ℕ) {l : List ℕ} (t : WholeFrames s n gs l) → ownIn s n gs j l ≡ unsortedRecords j (t .frames)
+  unfolding ownIn
+  own-is j {l} t = ap (unsortedRecords j) (read-is (length l) (t .read) (omega arith))
+
+-- ---- what the framing gives
+onFramed-ok : (o : Framed) (n p : ℕ) (f : Frame → Checked (List Frame)) {rs : List Frame} → onFramed o (refused n p) f ≡ ok rs
+  → (r : Frame) × (o ≡ framed r) × (f r ≡ ok rs)
+onFramed-ok broken n p f e = absurd (refused≢ok e)
+onFramed-ok (framed r) n p f e = (r, refl, e)
+
+-- past those done
+record After (s : List ℕ) (n : ℕ) (gs l : List ℕ) (done rs : List Frame) : Type 0 where
+  new : List Frame
+  is : rs ≡ done ++ new
+  read : Read s n gs l new
+
+after-frames : (turns : ℕ) (s : List ℕ) (n : ℕ) (gs : List ℕ) (fs : List Fragment) (l : List ℕ) (p : ℕ) (done : List Frame) {rs : List Frame}
+  → 0 < n → length l < turns → framesFrom turns s n gs fs l p done ≡ ok rs → After s n gs l done rs
+unfolding framesFrom
+after-frames zero s n gs fs l p done some h e = absurd (omega arith)
+after-frames (suc turns) s n gs fs l p done {rs} some h e =
+    go (eq-cases _ _ _ _ e) (λ r q. after-frames turns s n gs fs (drop (r .size) l) (p + r .size) (done ++ (r ∷ [])) some q)
+  where
+    later : Frame → Checked (List Frame)
+    later r = framesFrom turns s n gs fs (drop (r .size) l) (p + r .size) (done ++ (r ∷ []))
+    go : ((length l ≡ 0) × (ok done ≡ ok rs)) ⊎ ((length l ≡ 0 → ⊥) × (onFramed (frameAt s n gs l) (refused 15 (placeOf fs p)) later ≡ ok rs))
+      → ((r : Frame) → length (drop (r .size) l) < turns → later r ≡ ok rs → After s n gs (drop (r .size) l) (done ++ (r ∷ [])) rs)
+      → After s n gs l done rs
+    go (inl q) ih = record { new = []; is = sym (ok-same (q .1)) ∙ sym (append-nil done); read = end (q .0) }
+    go (inr q) ih =
+        let f = onFramed-ok (frameAt s n gs l) 15 (placeOf fs p) later (q .1) in
+        let r : Frame = f .0 in
+        let b = frame-fits s n gs l (f .1) in
+        let c = b .size in
+        let y = q .0 in
+        let i = ih r (rw length-drop (omega arith)) (f .2) in
+        let x : 0 < length l = omega arith in
+        record { new = r ∷ i .new; is = i .is ∙ append-assoc done (r ∷ []) (i .new); read = more x (f .1) (i .read) }
+
+pub frames-read : (s : List ℕ) (n : ℕ) (gs : List ℕ) (fs : List Fragment) {rs : List Frame} → 0 < n → frames s n gs fs ≡ ok rs
+  → Read s n gs (joined s fs) rs
+unfolding frames
+frames-read s n gs fs {rs} some e =
+    let a = after-frames (length (joined s fs) + 1) s n gs fs (joined s fs) 0 [] some (omega arith) e in
+    subst (Read s n gs (joined s fs)) (sym (a .is)) (a .read)
+
+-- the framing of a DG, and its bytes
+pub unsorted-frames : (s : List ℕ) (d : ℕ) (gs : List ℕ) (fs : List Fragment) {rs : List Frame} → unsortedFrames s d gs fs ≡ ok rs
+  → (sizeOf fs ≤ most64) × (frames s (idSize s d) gs fs ≡ ok rs)
+unfolding unsortedFrames
+unsorted-frames s d gs fs {rs} e =
+    let read : Checked (List Frame) = frames s (idSize s d) gs fs in
+    let sized : Checked (List Frame) = andThen (ifLt most64 (sizeOf fs) (refused 19 d) fine) (λ _. read) in
+    let ranged : Checked (List Frame) = andThen (rangesIn s fs) (λ _. sized) in
+    let dts : Checked (List Frame) = andThen (pick (anyDV fs) (refused 14 d) fine) (λ _. ranged) in
+    let idd : Checked (List Frame) = andThen (ifEq (idSize s d) 0 (refused 14 d) fine) (λ _. dts) in
+    let a1 = then-fine (pick (equalIds s gs) (refused 14 d) fine) (λ _. idd) e in
+    let a2 = then-fine (ifEq (idSize s d) 0 (refused 14 d) fine) (λ _. dts) (a1 .1) in
+    let a3 = then-fine (pick (anyDV fs) (refused 14 d) fine) (λ _. ranged) (a2 .1) in
+    let a4 = then-fine (rangesIn s fs) (λ _. sized) (a3 .1) in
+    let a5 = then-fine (ifLt most64 (sizeOf fs) (refused 19 d) fine) (λ _. read) (a4 .1) in
+    (lt-back _ _ _ _ (a5 .0) refused≢ok .0, a5 .1)
+
+-- ---- the first record
+pub record FirstFrame (s : List ℕ) (n : ℕ) (gs : List ℕ) (j : ℕ) (l : List ℕ) : Type 0 where
+  pub frame : Frame
+  pub is : frameAt s n gs l ≡ framed frame
+  pub size : frame .size ≡ n + length (frame .bytes)
+  pub within : frame .size ≤ length l
+  pub bytes : frame .bytes ≡ part n (length (frame .bytes)) l
+  pub known : KnownFrame s n gs frame
+  pub later : WholeFrames s n gs (drop (frame .size) l)
+  pub own : frame .group ≡ j → ownIn s n gs j l ≡ frame .bytes ∷ ownIn s n gs j (drop (frame .size) l)
+  pub other : (frame .group ≡ j → ⊥) → ownIn s n gs j l ≡ ownIn s n gs j (drop (frame .size) l)
+
+known-first : {s gs : List ℕ} {n : ℕ} {r : Frame} {rs : List Frame} → AllKnown s n gs (r ∷ rs) → KnownFrame s n gs r × AllKnown s n gs rs
+known-first (AllKnown.next k l) = (k, l)
+
+records-own : (j : ℕ) (r : Frame) (rs : List Frame) → r .group ≡ j → unsortedRecords j (r ∷ rs) ≡ r .bytes ∷ unsortedRecords j rs
+unfolding unsortedRecords
+records-own j r rs e = sym (eq-yes _ _ _ _ e refl)
+
+records-other : (j : ℕ) (r : Frame) (rs : List Frame) → (r .group ≡ j → ⊥) → unsortedRecords j (r ∷ rs) ≡ unsortedRecords j rs
+unfolding unsortedRecords
+records-other j r rs e = sym (eq-no _ _ _ _ e refl)
+
+none-own : (j : ℕ) → length (unsortedRecords j []) ≡ 0
+unfolding unsortedRecords
+none-own j = refl
+
+pub first-frame : {s : List ℕ} {n : ℕ} {gs : List ℕ} (j : ℕ) {l : List ℕ} → 0 < n → WholeFrames s n gs l → 0 < length (ownIn s n gs j l)
+  → FirstFrame s n gs j l
+first-frame {s} {n} {gs} j {l} some t z = go (t .frames) (t .read) (t .known) (own-is some j t)
+  where
+    go : (rs : List Frame) → Read s n gs l rs → AllKnown s n gs rs → ownIn s n gs j l ≡ unsortedRecords j rs → FirstFrame s n gs j l
+    go [] (end y) k e = let a : length (ownIn s n gs j l) ≡ 0 = ap length e ∙ none-own j in absurd (omega arith)
+    go (r ∷ rs) (more y f q) k e =
+        let b = frame-fits s n gs l f in
+        let c = known-first k in
+        let v : WholeFrames s n gs (drop (r .size) l) = record { frames = rs; read = q; known = c .1 } in
+        let w : ownIn s n gs j (drop (r .size) l) ≡ unsortedRecords j rs = own-is some j v in
+        record {
+          frame = r; is = f; size = b .size; within = b .within; bytes = b .bytes; known = c .0; later = v;
+          own = λ g. e ∙ records-own j r rs g ∙ rw w;
+          other = λ g. e ∙ records-other j r rs g ∙ sym w }
