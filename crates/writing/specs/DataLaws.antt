@@ -10,13 +10,12 @@ use lib.Seq.{take-all}
 use Rattle.base.specs.ChoiceLaws.{eq-yes, eq-no}
 use Rattle.base.specs.Blit.{part, blit}
 use Rattle.base.specs.BlitLaws.{length-blit, blit-append, length-part}
-use Rattle.base.specs.Checked.{ok, fine}
-use Rattle.base.specs.CheckedLaws.{then-ok}
+use Rattle.base.specs.Checked.{fine}
 use Rattle.mdf.specs.Block.{kindSD}
 use Rattle.mdf.specs.Chain.{Fragment}
 use Rattle.mdf.specs.Group.{samples, invalBytes}
 use Rattle.mdf.specs.Words.{fragmentsOf}
-use Rattle.mdf.specs.Records.{joined, runs, sortedRecords, Frame, unsortedFrames, unsortedRecords}
+use Rattle.mdf.specs.Records.{joined, runs, sortedRecords, unsortedFrames}
 use Rattle.plan.specs.Channel.{fits, keepsInval, width}
 use Rattle.plan.specs.Geometry.{blockCount, perFull}
 use Rattle.plan.specs.Data.{recordsIn}
@@ -31,7 +30,8 @@ use Rattle.payload_laws.specs.CellLaws.{length-cells}
 use Rattle.writing.specs.declared.own.Own.{Own}
 use Rattle.writing.specs.declared.data.Entry.{Entry}
 use Rattle.writing.specs.Sorted.{framedAll, SortedReady}
-use Rattle.writing.specs.SortedSteps.{flat-blocks, blocks-some}
+use Rattle.writing.specs.SortedSteps.{flat-blocks}
+use Rattle.writing.specs.ColumnLaws.{blocks-some}
 use Rattle.writing.specs.Several.{SeveralReady}
 use Rattle.writing.specs.Wrote.{endOf, Wrote}
 use Rattle.writing.specs.WroteLaws.{ordered-end, ordered-back, ordered-first, wrote-none, wrote-block, wrote-append}
@@ -46,13 +46,6 @@ module _ (s : List ℕ) (d k : ℕ) where
   several-records [] fs l h = absurd (omega arith)
   several-records (g ∷ []) fs l h = absurd (l refl)
   several-records (g ∷ x ∷ gs) fs l h = refl
-
-  several-checked : (gs : List ℕ) (fs : List Fragment) → (length gs ≡ 1 → ⊥) → k < length gs → recordsIn s d gs fs ≡ fine
-    → (rs : List Frame) × (unsortedFrames s d gs fs ≡ ok rs)
-  several-checked [] fs l h e = absurd (omega arith)
-  several-checked (g ∷ []) fs l h e = absurd (l refl)
-  several-checked (g ∷ x ∷ gs) fs l h e =
-      let a = then-ok (unsortedFrames s d (g ∷ x ∷ gs) fs) (λ rs. fine) e in (a .0, a .1)
 
 -- ---- a column's records, by its DG's words
 module _ {s w : List ℕ} {n : ℕ} {fs : List ℕ} {nf : ℕ} {e : Entry} {o : Own} (t : Tables w fs nf) (r : EntryReady s w n fs nf e)
@@ -309,6 +302,10 @@ writing-begin {number = number} out d =
     let e : number - 0 ≡ number = omega arith in
     record { room = omega arith; same = refl; ordered = rw e (d .ordered); rest = rw e (λ r last v. v) }
 
+pub entry-ready : {s : List ℕ} {size : ℕ} {w : List ℕ} {n : ℕ} {fs : List ℕ} {nf : ℕ} {cs m : List ℕ} {number at room : ℕ} (k : ℕ) {e : Entry}
+  → DataReady s size w n fs nf cs m number at room → k < number → e ≡ entryIn cs m k → EntryReady s w n fs nf e
+entry-ready k d h i = rw i (d .entries k h)
+
 module _ {s : List ℕ} {size : ℕ} {w : List ℕ} {n : ℕ} {fs : List ℕ} {nf : ℕ} {cs m : List ℕ} {number at : ℕ} {out₀ : List ℕ} {k p : ℕ}
     {out : List ℕ} (t : Writing s size w n fs nf cs m number at out₀ k p out) where
   pub writing-end : number ≤ k → Wrote at (dataFrom s size w n fs nf cs m 0 number) p out₀ out
@@ -325,12 +322,16 @@ module _ {s : List ℕ} {size : ℕ} {w : List ℕ} {n : ℕ} {fs : List ℕ} {n
       after-blocks : Ordered q (entrySignal s fs e ++ dataFrom s size w n fs nf cs m (k + 1) (number - (k + 1))) (length out)
       after-blocks = rw (v .end) (ordered-back p (entryBlocks s size w n fs nf e) _ (length out) opened)
 
-      pub signal-ordered : length mid ≡ length out → Ordered q (entrySignal s fs e) (length mid)
-      signal-ordered l = rw l (ordered-first q (entrySignal s fs e) _ (length out) after-blocks)
+      mid-length : length mid ≡ length out
+      mid-length = ap length (v .bytes) ∙ length-blit p _ out
 
-      pub writing-on : {z : ℕ} {last : List ℕ} → Wrote q (entrySignal s fs e) z mid last → length last ≡ length out
+      pub signal-ordered : Ordered q (entrySignal s fs e) (length mid)
+      signal-ordered = rw mid-length (ordered-first q (entrySignal s fs e) _ (length out) after-blocks)
+
+      pub writing-on : {z : ℕ} {last : List ℕ} → Wrote q (entrySignal s fs e) z mid last
         → Writing s size w n fs nf cs m number at out₀ (k + 1) z last
-      writing-on {z} {last} u l =
+      writing-on {z} {last} u =
+          let l : length last ≡ length out = ap length (u .bytes) ∙ length-blit q _ mid ∙ mid-length in
           record {
             room = omega arith;
             same = l ∙ t .same;

@@ -12,8 +12,8 @@ use Rattle.planning.specs.Span.{pastDG}
 use Rattle.writing.specs.declared.own.Own.{Own}
 
 -- of the DG that item i follows, among n items; nf fragments are kept. The mark of item i - 1 is word 1535 + i
-unfoldable pub ownFrom : List ℕ → ℕ → ℕ → ℕ → Own
-ownFrom w n nf i =
+unfoldable pub ownPast : List ℕ → ℕ → ℕ → ℕ → Own
+ownPast w n nf i =
     record {
       begin = min (getD w (1535 + i) 0 - 2) (min (upTo nf (itemsFrom w i (min n 1536 - i))) nf);
       end = min (upTo nf (itemsFrom w i (min n 1536 - i))) nf;
@@ -22,7 +22,7 @@ ownFrom w n nf i =
 
 -- of the DG at d
 unfoldable pub ownIn : List ℕ → ℕ → ℕ → ℕ → Own
-ownIn w n nf d = ownFrom w n nf (pastDG d 0 (itemsFrom w 0 (min n 1536)))
+ownIn w n nf d = ownPast w n nf (pastDG d 0 (itemsFrom w 0 (min n 1536)))
 
 pub record OwnOf (w : List ℕ) (n nf d : ℕ) (r : Own) : Type 0 where
   pub is : r ≡ ownIn w n nf d

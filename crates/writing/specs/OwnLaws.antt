@@ -17,7 +17,7 @@ use Rattle.mdf.specs.Group.{groupsOf, upTo}
 use Rattle.planning.specs.Items.{itemsFrom}
 use Rattle.planning.specs.Span.{pastDG}
 use Rattle.writing.specs.declared.own.Own.{Own}
-use Rattle.writing.specs.Own.{ownFrom, ownIn, OwnOf, numberIn}
+use Rattle.writing.specs.Own.{ownPast, ownIn, OwnOf, numberIn}
 
 -- ---- few
 pub length-from : (w : List ℕ) (i n : ℕ) → length (itemsFrom w i n) ≡ n
@@ -64,7 +64,7 @@ pub own-is : (w : List ℕ) (n nf d : ℕ) {i u e m t b f g : ℕ} → i ≡ pas
   → u ≡ upTo nf (itemsFrom w i (min n 1536 - i)) → e ≡ min u nf → m ≡ getD w (1535 + i) 0 → t ≡ m - 2 → b ≡ min t e
   → f ≡ tally (levelCG .own) (itemsFrom w 0 (min i (min n 1536))) → g ≡ length (groupsOf (itemsFrom w i (min n 1536 - i)))
   → OwnOf w n nf d (record { begin = b; end = e; first = f; groups = g })
-unfolding ownIn ownFrom
+unfolding ownIn ownPast
 own-is w n nf d {i} {u} {e} {m} {t} {b} {f} {g} p q x y z v k l =
     let a = min-le-right n 1536 in
     let h = min-le-right i (min n 1536) in
