@@ -1,0 +1,93 @@
+use native.Mathlib.Omega.{arith}
+use lib.ListN.{length, length-set}
+use borrow.Author.Needs.{needs}
+use Rattle.writing.proofs.file.write_file.Statement.{statement}
+use Rattle.writing.proofs.file.write_file.Tie as tie
+use Rattle.writing.proofs.file.write_file.Reads as reads
+use Rattle.writing.proofs.file.write_file.Lts as lts
+use Rattle.writing.proofs.attached.next_place.Reads as next-place-reads
+use Rattle.writing.proofs.attached.write_attachments.Reads as write-attachments-reads
+use Rattle.writing.proofs.copies.write_copies.Reads as write-copies-reads
+use Rattle.writing.proofs.data.write_data.Reads as write-data-reads
+use Rattle.writing.proofs.file.comment_of.Reads as comment-of-reads
+use Rattle.writing.proofs.file.first_column.Reads as first-column-reads
+use Rattle.writing.proofs.file.first_history.Reads as first-history-reads
+use Rattle.writing.proofs.front.write_front.Reads as write-front-reads
+use Rattle.writing.proofs.front.write_history.Reads as write-history-reads
+use Rattle.writing.proofs.gap.gap.Reads as gap-reads
+use Rattle.writing.proofs.structure.write_structure.Reads as write-structure-reads
+
+-- src/file.rt:66:9
+first-column-requires : tie.Need-first-column-requires
+first-column-requires c κs = search needs
+
+-- src/file.rt:67:9
+first-history-requires : tie.Need-first-history-requires
+first-history-requires c κs = search needs
+
+-- src/file.rt:68:9
+next-place-requires : tie.Need-next-place-requires
+next-place-requires c κs = search needs
+
+-- src/file.rt:69:9
+comment-of-requires : tie.Need-comment-of-requires
+comment-of-requires c κs = search needs
+
+-- src/file.rt:70:9
+write-front-requires : tie.Need-write-front-requires
+write-front-requires c κs = search needs
+
+-- src/file.rt:71:9
+write-copies-requires : tie.Need-write-copies-requires
+write-copies-requires c κs = search needs
+
+-- src/file.rt:72:9
+write-history-requires : tie.Need-write-history-requires
+write-history-requires c κs = search needs
+
+-- src/file.rt:73:9
+write-copies-requires-2 : tie.Need-write-copies-requires-2
+write-copies-requires-2 c κs = search needs
+
+-- src/file.rt:74:9
+write-structure-requires : tie.Need-write-structure-requires
+write-structure-requires c κs = search needs
+
+-- src/file.rt:75:9
+write-data-requires : tie.Need-write-data-requires
+write-data-requires c κs = search needs
+
+-- src/file.rt:76:9
+write-attachments-requires : tie.Need-write-attachments-requires
+write-attachments-requires c κs = search needs
+
+-- src/file.rt:77:5
+gap-requires : tie.Need-gap-requires
+gap-requires c κs = search needs
+
+-- src/file.rt:54:1
+same-length : tie.Need-same-length
+same-length c = search needs
+
+-- src/file.rt:54:1
+returns : tie.Need-returns
+returns c = search needs
+
+pub write-file-spec : {M : Type 1} → statement M
+write-file-spec =
+    tie.close
+    (tie.spec
+    first-column-requires
+    first-history-requires
+    next-place-requires
+    comment-of-requires
+    write-front-requires
+    write-copies-requires
+    write-history-requires
+    write-copies-requires-2
+    write-structure-requires
+    write-data-requires
+    write-attachments-requires
+    gap-requires
+    same-length
+    returns)
