@@ -91,11 +91,11 @@ pub record Numbering (gs : List ℕ) (g i : ℕ) : Type 0 where
 pub number-begin : {gs : List ℕ} {g : ℕ} → Numbering gs g 0
 number-begin {gs} {g} = record { room = omega arith; rest = zero-add (numberIn g gs) }
 
-number-hit : (g h : ℕ) (gs : List ℕ) → h ≡ g → numberIn g (h ∷ gs) ≡ 0
+pub number-hit : (g h : ℕ) (gs : List ℕ) → h ≡ g → numberIn g (h ∷ gs) ≡ 0
 unfolding numberIn
 number-hit g h gs e = sym (eq-yes _ _ _ _ e refl)
 
-number-next : (g h : ℕ) (gs : List ℕ) → (h ≡ g → ⊥) → numberIn g (h ∷ gs) ≡ suc (numberIn g gs)
+pub number-next : (g h : ℕ) (gs : List ℕ) → (h ≡ g → ⊥) → numberIn g (h ∷ gs) ≡ suc (numberIn g gs)
 unfolding numberIn
 number-next g h gs e = sym (eq-no _ _ _ _ e refl)
 
