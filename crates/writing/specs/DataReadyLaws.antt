@@ -1,5 +1,5 @@
 -- The data blocks that the words give are those of the result, for all that was decided for a call.
-use Prim.Native.Nat.{ℕ, zero, suc, _+_, _*_, _-_, _≤_, _<_}
+use Prim.Native.Nat.{ℕ, suc, _+_, _*_, _-_, _≤_, _<_}
 use mathlib.Core.Bool.{true}
 use mathlib.Core.List.{List, [], _∷_, _++_, append-assoc}
 use mathlib.Core.Path.{_≡_, refl, sym, ap, _∙_, subst}
@@ -9,23 +9,21 @@ use native.Mathlib.Omega.{arith}
 use lib.ListN.{length, getD, length-append}
 use borrow.Author.Tests.{lt-ltb}
 use Rattle.base.specs.ChoiceLaws.{eq-yes, eq-no}
-use Rattle.base.specs.Blit.{part, blit}
+use Rattle.base.specs.Blit.{blit}
 use Rattle.base.specs.BlitLaws.{length-blit}
 use Rattle.base.specs.Checked.{fine}
-use Rattle.mdf.specs.Block.{kindSD}
 use Rattle.mdf.specs.Chain.{Fragment}
-use Rattle.mdf.specs.Walk.{Item, dg, levelCG, tally, Source}
-use Rattle.mdf.specs.Group.{DataGroup, addresses, groupsOf, dataGroups}
+use Rattle.mdf.specs.Walk.{Item, dg, levelCG, tally}
+use Rattle.mdf.specs.Group.{addresses, groupsOf, dataGroups}
 use Rattle.mdf.specs.Words.{fragmentWords, fragmentsOf, laidItems, countsAt}
-use Rattle.mdf.specs.Records.{joined}
-use Rattle.plan.specs.Channel.{width, keepsInval, both}
-use Rattle.plan.specs.Columns.{SrcGroup, Column, Signal, unsigned, signalData, sizeOfSignal, Plan}
+use Rattle.plan.specs.Channel.{width, keepsInval}
+use Rattle.plan.specs.Columns.{SrcGroup, Column, Signal, unsigned, signalData, sizeOfSignal}
 use Rattle.plan.specs.PlanWords.{signalWord, columnWords, columnsWords, fragmentsIn, signalFragments, laidPlan}
 use Rattle.plan.specs.CopyWords.{placedWords, laidCopies}
 use Rattle.plan.specs.Data.{isNonempty, recordsIn}
 use Rattle.plan.specs.Layout.{columnWidth, columnBlocks, Placed, Layout}
 use Rattle.result.specs.Payload.{recordsOf, columnPayloads}
-use Rattle.result.specs.Fill.{Block, block, framed, dataKind, payloadBlocks, sdBlocks, dataBlocks}
+use Rattle.result.specs.Fill.{dataKind, payloadBlocks, sdBlocks, dataBlocks}
 use Rattle.result.specs.Ordered.{Ordered}
 use Rattle.result.specs.Result.{Args, Decided}
 use Rattle.result.specs.Guarantee.{In, here, there, columnsPlaced}
@@ -42,7 +40,7 @@ use Rattle.writing.specs.declared.own.Own.{Own}
 use Rattle.writing.specs.declared.data.Entry.{Entry}
 use Rattle.writing.specs.Own.{ownIn, ownWords, ownGroups, numberIn}
 use Rattle.writing.specs.FoundLaws.{laid-part, ownOf, own-found, groups-found, fragments-found, Found, dg-found, number-same, groups-once}
-use Rattle.writing.specs.Data.{entryIn, recordsBy, entryRecords, entryPayloads, entryBlocks, signalWords, entrySignal, dataFrom, Tables, EntryReady, DataReady}
+use Rattle.writing.specs.Data.{entryIn, recordsBy, entryRecords, entryPayloads, entryBlocks, signalWords, entrySignal, dataFrom, EntryReady, DataReady}
 
 -- ---- the words hold a group's DG
 pub record HeldGroup (w : List ℕ) (n : ℕ) (fs : List ℕ) (nf : ℕ) (g : SrcGroup) : Type 0 where

@@ -1,15 +1,15 @@
 -- What the words of reading hold of a DG is what the recording has of it.
 use Prim.Native.Nat.{ℕ, zero, suc, _+_, _*_, _-_, _≤_, _<_, min}
-use mathlib.Core.List.{List, [], _∷_, _++_, append-assoc}
+use mathlib.Core.List.{List, [], _∷_, _++_}
 use mathlib.Core.Path.{_≡_, refl, sym, ap, _∙_}
 use mathlib.Core.Logic.{⊎-elim}
-use native.Mathlib.Nat.{zero-add, add-zero, min-eq-left, min-eq-right, min-le-left, min-le-right}
+use native.Mathlib.Nat.{zero-add, add-zero, min-eq-left, min-eq-right, min-le-right}
 use native.Mathlib.Omega.{arith}
 use lib.ListN.{length, getD, take, drop, length-append, length-drop, take-append-drop, drop-of-length-le}
 use lib.Seq.{take-all, take-nil, length-take-le, take-append-le, drop-append-le}
 use Rattle.base.specs.ChoiceLaws.{eq-yes, eq-no}
 use Rattle.base.specs.Blit.{part, blit}
-use Rattle.base.specs.BlitLaws.{length-blit, blit-append, part-blit, part-blit-before, length-part}
+use Rattle.base.specs.BlitLaws.{length-blit, blit-append, part-blit, part-blit-before}
 use Rattle.mdf.specs.Chain.{Fragment}
 use Rattle.mdf.specs.Walk.{Item, dg, cg, cn, levelCG, tally}
 use Rattle.mdf.specs.Group.{DataGroup, addresses, groupsOf, upTo, dataGroupsOf}

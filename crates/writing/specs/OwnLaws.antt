@@ -1,5 +1,5 @@
 -- Laws of what the words of reading hold of a DG.
-use Prim.Native.Nat.{ℕ, zero, suc, _+_, _*_, _-_, _≤_, _<_, min}
+use Prim.Native.Nat.{ℕ, zero, suc, _+_, _-_, _≤_, _<_, min}
 use mathlib.Core.Bool.{Bool, true, false}
 use mathlib.Core.List.{List, [], _∷_}
 use mathlib.Core.Path.{_≡_, refl, sym, ap, _∙_}
@@ -16,7 +16,6 @@ use Rattle.mdf.specs.Walk.{Item, dg, cg, cn, levelCG, tally}
 use Rattle.mdf.specs.Group.{groupsOf, upTo}
 use Rattle.planning.specs.Items.{itemsFrom}
 use Rattle.planning.specs.Span.{pastDG}
-use Rattle.writing.specs.declared.own.Own.{Own}
 use Rattle.writing.specs.Own.{ownPast, ownIn, OwnOf, numberIn}
 
 -- ---- few
