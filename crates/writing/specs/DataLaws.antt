@@ -1,5 +1,5 @@
 -- Laws of the data blocks and signal data of columns: what is asked where they are written, and that they were.
-use Prim.Native.Nat.{ℕ, zero, suc, _+_, _*_, _-_, _%_, _^_, _≤_, _<_}
+use Prim.Native.Nat.{ℕ, suc, _+_, _*_, _-_, _%_, _^_, _≤_, _<_}
 use mathlib.Core.Bool.{true}
 use mathlib.Core.List.{List, [], _∷_, _++_, append-nil, append-assoc}
 use mathlib.Core.Path.{_≡_, refl, sym, ap, _∙_}
@@ -35,7 +35,7 @@ use Rattle.writing.specs.ColumnLaws.{blocks-some}
 use Rattle.writing.specs.Several.{SeveralReady}
 use Rattle.writing.specs.Wrote.{endOf, Wrote}
 use Rattle.writing.specs.WroteLaws.{ordered-end, ordered-back, ordered-first, wrote-none, wrote-block, wrote-append}
-use Rattle.writing.specs.Own.{ownIn, OwnOf, ownWords, ownGroups, numberIn}
+use Rattle.writing.specs.Own.{OwnOf, ownWords, ownGroups, numberIn}
 use Rattle.writing.specs.OwnLaws.{number-at, one-group}
 use Rattle.writing.specs.Data.{entryIn, recordsBy, entryRecords, entryCount, entryPayloads, entryKind, entryBlocks, signalWords, entrySignal, dataFrom, Tables, EntryReady, DataReady}
 

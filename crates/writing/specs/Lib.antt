@@ -41,3 +41,5 @@ pub mod Own
 pub mod OwnLaws
 pub mod Data
 pub mod DataLaws
+pub mod FoundLaws
+pub mod DataReadyLaws

@@ -1,5 +1,5 @@
 -- Laws of what the words of reading hold of a DG.
-use Prim.Native.Nat.{ℕ, zero, suc, _+_, _*_, _-_, _≤_, _<_, min}
+use Prim.Native.Nat.{ℕ, zero, suc, _+_, _-_, _≤_, _<_, min}
 use mathlib.Core.Bool.{Bool, true, false}
 use mathlib.Core.List.{List, [], _∷_}
 use mathlib.Core.Path.{_≡_, refl, sym, ap, _∙_}
@@ -16,7 +16,6 @@ use Rattle.mdf.specs.Walk.{Item, dg, cg, cn, levelCG, tally}
 use Rattle.mdf.specs.Group.{groupsOf, upTo}
 use Rattle.planning.specs.Items.{itemsFrom}
 use Rattle.planning.specs.Span.{pastDG}
-use Rattle.writing.specs.declared.own.Own.{Own}
 use Rattle.writing.specs.Own.{ownPast, ownIn, OwnOf, numberIn}
 
 -- ---- few
@@ -91,11 +90,11 @@ pub record Numbering (gs : List ℕ) (g i : ℕ) : Type 0 where
 pub number-begin : {gs : List ℕ} {g : ℕ} → Numbering gs g 0
 number-begin {gs} {g} = record { room = omega arith; rest = zero-add (numberIn g gs) }
 
-number-hit : (g h : ℕ) (gs : List ℕ) → h ≡ g → numberIn g (h ∷ gs) ≡ 0
+pub number-hit : (g h : ℕ) (gs : List ℕ) → h ≡ g → numberIn g (h ∷ gs) ≡ 0
 unfolding numberIn
 number-hit g h gs e = sym (eq-yes _ _ _ _ e refl)
 
-number-next : (g h : ℕ) (gs : List ℕ) → (h ≡ g → ⊥) → numberIn g (h ∷ gs) ≡ suc (numberIn g gs)
+pub number-next : (g h : ℕ) (gs : List ℕ) → (h ≡ g → ⊥) → numberIn g (h ∷ gs) ≡ suc (numberIn g gs)
 unfolding numberIn
 number-next g h gs e = sym (eq-no _ _ _ _ e refl)
 

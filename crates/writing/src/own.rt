@@ -4,7 +4,6 @@ use planning::words::word;
 use planning::span::{dg_past, end_of, groups_before, own_groups};
 ghost use mathlib.Core.Path.{_≡_};
 ghost use Prim.Native.Nat.{_-_};
-ghost use lib.ListN.{length};
 ghost use Rattle.writing.specs.Own.{OwnOf, numberIn};
 
 // Its fragments from number begin up to number end; before its groups, groups in number, are others, first in number.

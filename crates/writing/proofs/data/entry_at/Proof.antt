@@ -1,6 +1,5 @@
 -- Each field is a word.
 use Rattle.writing.specs.Data.{entryIn}
-use native.Mathlib.Omega.{arith}
 use borrow.Author.Needs.{needs}
 use Rattle.writing.proofs.data.entry_at.Statement.{statement}
 use Rattle.writing.proofs.data.entry_at.Tie as tie

@@ -2,7 +2,6 @@
 use Rattle.base.specs.Blit.{part}
 use Rattle.writing.specs.Own.{ownWords, ownGroups}
 use Rattle.writing.specs.DataLaws.{sorted-ready, sorted-is, several-ready, several-is}
-use native.Mathlib.Omega.{arith}
 use borrow.Author.Needs.{needs}
 use Rattle.writing.proofs.data.write_records.Statement.{statement}
 use Rattle.writing.proofs.data.write_records.Tie as tie
