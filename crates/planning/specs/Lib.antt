@@ -6,6 +6,8 @@ pub mod Items
 pub mod ItemLaws
 pub mod Times
 pub mod TimeLaws
+pub mod Span
+pub mod SpanLaws
 pub mod Planning
 pub mod HeldLaws
 pub mod ChannelLaws

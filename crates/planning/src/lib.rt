@@ -1,5 +1,6 @@
 // Which columns and omissions a recording gets, kept in lent words.
 pub mod words;
+pub mod span;
 pub mod decide;
 pub mod groups;
 pub mod masters;

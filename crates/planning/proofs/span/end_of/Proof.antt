@@ -1,0 +1,59 @@
+-- What is left of the items gives what all of them give.
+use Rattle.planning.specs.SpanLaws.{Ending, end-begin, end-end, end-stop, end-on}
+use Prim.Native.Nat.{_-_}
+use borrow.Author.Needs.{needs}
+use Rattle.planning.proofs.span.end_of.Statement.{statement}
+use Rattle.planning.proofs.span.end_of.Tie as tie
+
+abbrev Inv-loop : tie.InvT-loop
+Inv-loop source n i all m k₀ k = Ending source m i all k
+
+abbrev μ-loop : tie.MeasureT-loop
+μ-loop source n i all m k₀ k = m - k
+
+least-requires : tie.Need-least-requires Inv-loop μ-loop
+least-requires c κs = search needs
+
+loop-holds : tie.Need-loop-holds Inv-loop μ-loop
+loop-holds c = end-begin
+
+add-word : tie.Need-add-word Inv-loop μ-loop
+add-word c = search needs
+
+word-requires : tie.Need-word-requires Inv-loop μ-loop
+word-requires c κs = search needs
+
+sub-result : tie.Need-sub-result Inv-loop μ-loop
+sub-result c = search needs
+
+returns : tie.Need-returns Inv-loop μ-loop
+returns c = end-stop (c .before .before .before .loop .inv) (c .before .before .loop-test .taken) (c .before .word .ensures) (c .if1 .taken) (c .before .before .before .before .least .ensures .0)
+
+add-k : tie.Need-add-k Inv-loop μ-loop
+add-k c = search needs
+
+loop-less : tie.Need-loop-less Inv-loop μ-loop
+loop-less c = search needs
+
+loop-again : tie.Need-loop-again Inv-loop μ-loop
+loop-again c = end-on (c .before .before .before .loop .inv) (c .before .before .loop-test .taken) (c .before .word .ensures) (c .if1 .left)
+
+returns-2 : tie.Need-returns-2 Inv-loop μ-loop
+returns-2 c = end-end (c .before .loop .inv) (c .loop-test .left) (c .before .before .least .ensures .0)
+
+pub end-of-spec : {M : Type 1} → statement M
+end-of-spec =
+    tie.close
+    (tie.spec
+    Inv-loop
+    μ-loop
+    least-requires
+    loop-holds
+    add-word
+    word-requires
+    sub-result
+    returns
+    add-k
+    loop-less
+    loop-again
+    returns-2)

@@ -1,0 +1,229 @@
+-- Laws of the items past a DG: what is left of them gives what all of them give.
+use Prim.Native.Nat.{ℕ, zero, suc, _+_, _-_, _≤_, _<_, min}
+use mathlib.Core.List.{List, [], _∷_}
+use mathlib.Core.Path.{_≡_, refl, sym, ap, _∙_}
+use native.Mathlib.Nat.{le-of-lt, min-eq-left, min-eq-right, le-refl}
+use native.Mathlib.Omega.{arith}
+use lib.ListN.{length, getD}
+use Rattle.base.specs.ChoiceLaws.{eq-yes, eq-no}
+use Rattle.mdf.specs.Walk.{Item, dg, cg, cn, levelCG, tally}
+use Rattle.mdf.specs.Group.{Group, addresses, channelsOf, groupsOf, upTo}
+use Rattle.planning.specs.Items.{item, itemsFrom}
+use Rattle.planning.specs.ItemLaws.{item-cn, item-cg, item-dg, items-open}
+use Rattle.planning.specs.Span.{pastDG}
+
+pub least-left : {a b : ℕ} → a < b → (a ≡ min a b) × (a ≤ a) × (a ≤ b)
+least-left h = (sym (min-eq-left (le-of-lt h)), le-refl _, le-of-lt h)
+
+pub least-right : {a b : ℕ} → b ≤ a → (b ≡ min a b) × (b ≤ a) × (b ≤ b)
+least-right h = (sym (min-eq-right h), h, le-refl _)
+
+no-items : (w : List ℕ) (n k : ℕ) → n ≤ k → itemsFrom w k (n - k) ≡ []
+unfolding itemsFrom
+no-items w n k h = let e : n - k ≡ 0 = omega arith in rw e
+
+-- the items from k on, by the mark of the first
+module _ (w : List ℕ) (n k : ℕ) (h : k < n) {m : ℕ} (e : m ≡ getD w (1536 + k) 0) where
+  pub next-dg : 1 < m → itemsFrom w k (n - k) ≡ dg (getD w k 0) (m - 2) ∷ itemsFrom w (k + 1) (n - (k + 1))
+  next-dg l = rw (items-open w k n e refl h, item-dg m (getD w k 0) (λ z. omega (arith, z)) (λ z. omega (arith, z)))
+
+  pub next-cg : m ≡ 1 → itemsFrom w k (n - k) ≡ cg (getD w k 0) ∷ itemsFrom w (k + 1) (n - (k + 1))
+  next-cg l = rw (items-open w k n e refl h, item-cg m (getD w k 0) l)
+
+  pub next-cn : m ≡ 0 → itemsFrom w k (n - k) ≡ cn (getD w k 0) ∷ itemsFrom w (k + 1) (n - (k + 1))
+  next-cn l = rw (items-open w k n e refl h, item-cn m (getD w k 0) l)
+
+-- ---- how many groups
+pub record Counting (w : List ℕ) (n i k groups : ℕ) : Type 0 where
+  pub few : groups + i ≤ k
+  pub rest : groups + length (groupsOf (itemsFrom w k (n - k))) ≡ length (groupsOf (itemsFrom w i (n - i)))
+
+pub count-begin : {w : List ℕ} {n i : ℕ} → Counting w n i i 0
+count-begin = record { few = omega arith; rest = omega arith }
+
+module _ {w : List ℕ} {n i k groups : ℕ} (t : Counting w n i k groups) where
+  pub count-end : n ≤ k → {l : ℕ} → n ≡ l → groups ≡ length (groupsOf (itemsFrom w i (l - i)))
+  unfolding groupsOf
+  count-end h q = rw (← q) (let e = rw (no-items w n k h) at (t .rest) in omega arith)
+
+  module _ (h : k < n) {m : ℕ} (e : m ≡ getD w (1536 + k) 0) where
+    pub count-stop : 1 < m → {l : ℕ} → n ≡ l → groups ≡ length (groupsOf (itemsFrom w i (l - i)))
+    unfolding groupsOf
+    count-stop l q = rw (← q) (let r = rw (next-dg w n k h e l) at (t .rest) in omega arith)
+
+    count-cn : m ≡ 0 → Counting w n i (k + 1) (groups + m)
+    unfolding groupsOf
+    count-cn q =
+        let f = t .few in
+        let r = rw (next-cn w n k h e q) at (t .rest) in
+        record { few = omega arith; rest = omega arith }
+
+    count-cg : m ≡ 1 → Counting w n i (k + 1) (groups + m)
+    unfolding groupsOf
+    count-cg q =
+        let f = t .few in
+        let r = rw (next-cg w n k h e q) at (t .rest) in
+        record { few = omega arith; rest = omega arith }
+
+    pub count-on : m ≤ 1 → Counting w n i (k + 1) (groups + m)
+    count-on l = go m refl l
+      where
+        go : (x : ℕ) → m ≡ x → x ≤ 1 → Counting w n i (k + 1) (groups + m)
+        go zero q l = count-cn q
+        go (suc zero) q l = count-cg q
+        go (suc (suc x)) q l = absurd (omega arith)
+
+-- ---- the first group
+pub record Seeking (w : List ℕ) (n i k : ℕ) : Type 0 where
+  pub rest : getD (addresses (groupsOf (itemsFrom w k (n - k)))) 0 0 ≡ getD (addresses (groupsOf (itemsFrom w i (n - i)))) 0 0
+
+pub seek-begin : {w : List ℕ} {n i : ℕ} → Seeking w n i i
+seek-begin = record { rest = refl }
+
+module _ {w : List ℕ} {n i k : ℕ} (t : Seeking w n i k) where
+  pub seek-end : n ≤ k → {l : ℕ} → n ≡ l → 0 ≡ getD (addresses (groupsOf (itemsFrom w i (l - i)))) 0 0
+  unfolding groupsOf addresses
+  seek-end h q = rw (← q) (rw (no-items w n k h) at (t .rest))
+
+  module _ (h : k < n) {m : ℕ} (e : m ≡ getD w (1536 + k) 0) where
+    pub seek-stop : 1 < m → {l : ℕ} → n ≡ l → 0 ≡ getD (addresses (groupsOf (itemsFrom w i (l - i)))) 0 0
+    unfolding groupsOf addresses
+    seek-stop l q = rw (← q) (rw (next-dg w n k h e l) at (t .rest))
+
+    pub seek-hit : m ≡ 1 → {a : ℕ} → a ≡ getD w k 0 → {l : ℕ} → n ≡ l → a ≡ getD (addresses (groupsOf (itemsFrom w i (l - i)))) 0 0
+    unfolding groupsOf addresses
+    seek-hit l q z = rw (← z) (q ∙ (rw (next-cg w n k h e l) at (t .rest)))
+
+    pub seek-on : m ≤ 1 → (m ≡ 1 → ⊥) → Seeking w n i (k + 1)
+    unfolding groupsOf addresses
+    seek-on l q =
+        let z : m ≡ 0 = omega arith in
+        record { rest = rw (next-cn w n k h e z) at (t .rest) }
+
+-- ---- the fragments before the next DG's own
+pub record Ending (w : List ℕ) (n i all k : ℕ) : Type 0 where
+  pub rest : upTo all (itemsFrom w k (n - k)) ≡ upTo all (itemsFrom w i (n - i))
+
+pub end-begin : {w : List ℕ} {n i all : ℕ} → Ending w n i all i
+end-begin = record { rest = refl }
+
+module _ {w : List ℕ} {n i all k : ℕ} (t : Ending w n i all k) where
+  pub end-end : n ≤ k → {l : ℕ} → n ≡ l → all ≡ upTo all (itemsFrom w i (l - i))
+  unfolding upTo
+  end-end h q = rw (← q) (rw (no-items w n k h) at (t .rest))
+
+  module _ (h : k < n) {m : ℕ} (e : m ≡ getD w (1536 + k) 0) where
+    pub end-stop : 1 < m → {l : ℕ} → n ≡ l → m - 2 ≡ upTo all (itemsFrom w i (l - i))
+    unfolding upTo
+    end-stop l q = rw (← q) (rw (next-dg w n k h e l) at (t .rest))
+
+    end-cn : m ≡ 0 → Ending w n i all (k + 1)
+    unfolding upTo
+    end-cn q = record { rest = rw (next-cn w n k h e q) at (t .rest) }
+
+    end-cg : m ≡ 1 → Ending w n i all (k + 1)
+    unfolding upTo
+    end-cg q = record { rest = rw (next-cg w n k h e q) at (t .rest) }
+
+    pub end-on : m ≤ 1 → Ending w n i all (k + 1)
+    end-on l = go m refl l
+      where
+        go : (x : ℕ) → m ≡ x → x ≤ 1 → Ending w n i all (k + 1)
+        go zero q l = end-cn q
+        go (suc zero) q l = end-cg q
+        go (suc (suc x)) q l = absurd (omega arith)
+
+-- ---- the item past a DG
+pub record Passing (w : List ℕ) (n d k : ℕ) : Type 0 where
+  pub room : k ≤ n
+  pub rest : pastDG d k (itemsFrom w k (n - k)) ≡ pastDG d 0 (itemsFrom w 0 n)
+
+pub pass-begin : {w : List ℕ} {n d : ℕ} → Passing w n d 0
+pass-begin {n = n} = let e : n - 0 ≡ n = omega arith in record { room = omega arith; rest = rw e }
+
+dg-hit : (d k a n : ℕ) (is : List Item) → a ≡ d → pastDG d k (dg a n ∷ is) ≡ k + 1
+unfolding pastDG
+dg-hit d k a n is h = sym (eq-yes _ _ _ _ h refl)
+
+dg-pass : (d k a n : ℕ) (is : List Item) → (a ≡ d → ⊥) → pastDG d k (dg a n ∷ is) ≡ pastDG d (k + 1) is
+unfolding pastDG
+dg-pass d k a n is h = sym (eq-no _ _ _ _ h refl)
+
+module _ {w : List ℕ} {n d k : ℕ} (t : Passing w n d k) where
+  pub pass-end : n ≤ k → {l : ℕ} → n ≡ l → n ≡ pastDG d 0 (itemsFrom w 0 l)
+  unfolding pastDG
+  pass-end h q =
+      let r = t .room in
+      let z : k ≡ n = omega arith in
+      rw (← q) (sym z ∙ (rw (no-items w n k h) at (t .rest)))
+
+  module _ (h : k < n) {m a : ℕ} (e : m ≡ getD w (1536 + k) 0) (i : a ≡ getD w k 0) where
+    pub pass-hit : 1 < m → a ≡ d → {l : ℕ} → n ≡ l → k + 1 ≡ pastDG d 0 (itemsFrom w 0 l)
+    pass-hit l j q =
+        rw (← q) (sym (dg-hit d k (getD w k 0) (m - 2) (itemsFrom w (k + 1) (n - (k + 1))) (sym i ∙ j)) ∙ (rw (next-dg w n k h e l) at (t .rest)))
+
+    pub pass-other : 1 < m → (a ≡ d → ⊥) → Passing w n d (k + 1)
+    pass-other l j =
+        record {
+          room = omega arith;
+          rest = sym (dg-pass d k (getD w k 0) (m - 2) (itemsFrom w (k + 1) (n - (k + 1))) (λ z. j (i ∙ z))) ∙ (rw (next-dg w n k h e l) at (t .rest));
+        }
+
+    pass-cn : m ≡ 0 → Passing w n d (k + 1)
+    unfolding pastDG
+    pass-cn q = record { room = omega arith; rest = rw (next-cn w n k h e q) at (t .rest) }
+
+    pass-cg : m ≡ 1 → Passing w n d (k + 1)
+    unfolding pastDG
+    pass-cg q = record { room = omega arith; rest = rw (next-cg w n k h e q) at (t .rest) }
+
+    pub pass-on : m ≤ 1 → Passing w n d (k + 1)
+    pass-on l = go m refl l
+      where
+        go : (x : ℕ) → m ≡ x → x ≤ 1 → Passing w n d (k + 1)
+        go zero q l = pass-cn q
+        go (suc zero) q l = pass-cg q
+        go (suc (suc x)) q l = absurd (omega arith)
+
+-- ---- the CG among the first items
+pub record Tallying (w : List ℕ) (n k groups : ℕ) : Type 0 where
+  pub few : groups ≤ k
+  pub rest : groups + tally (levelCG .own) (itemsFrom w k (n - k)) ≡ tally (levelCG .own) (itemsFrom w 0 n)
+
+pub tally-begin : {w : List ℕ} {n : ℕ} → Tallying w n 0 0
+tally-begin {n = n} = let e : n - 0 ≡ n = omega arith in record { few = omega arith; rest = rw e (omega arith) }
+
+module _ {w : List ℕ} {n k groups : ℕ} (t : Tallying w n k groups) where
+  pub tally-end : n ≤ k → {l : ℕ} → n ≡ l → groups ≡ tally (levelCG .own) (itemsFrom w 0 l)
+  unfolding tally
+  tally-end h q = rw (← q) (let e = rw (no-items w n k h) at (t .rest) in omega arith)
+
+  module _ (h : k < n) {m : ℕ} (e : m ≡ getD w (1536 + k) 0) where
+    pub tally-cg : m ≡ 1 → Tallying w n (k + 1) (groups + 1)
+    unfolding tally
+    tally-cg q =
+        let f = t .few in
+        let r = rw (next-cg w n k h e q) at (t .rest) in
+        record { few = omega arith; rest = omega arith }
+
+    tally-cn : m ≡ 0 → Tallying w n (k + 1) groups
+    unfolding tally
+    tally-cn q =
+        let f = t .few in
+        let r = rw (next-cn w n k h e q) at (t .rest) in
+        record { few = omega arith; rest = omega arith }
+
+    tally-dg : 1 < m → Tallying w n (k + 1) groups
+    unfolding tally
+    tally-dg q =
+        let f = t .few in
+        let r = rw (next-dg w n k h e q) at (t .rest) in
+        record { few = omega arith; rest = omega arith }
+
+    pub tally-on : (m ≡ 1 → ⊥) → Tallying w n (k + 1) groups
+    tally-on l = go m refl
+      where
+        go : (x : ℕ) → m ≡ x → Tallying w n (k + 1) groups
+        go zero q = tally-cn q
+        go (suc zero) q = absurd (l q)
+        go (suc (suc x)) q = tally-dg (omega arith)
