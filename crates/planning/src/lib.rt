@@ -8,3 +8,4 @@ pub mod column;
 pub mod timing;
 pub mod planned;
 pub mod stage;
+pub mod data;
