@@ -28,3 +28,5 @@ pub mod RoomLaws
 pub mod ReadBackLaws
 pub mod Outcome
 pub mod OutcomeLaws
+pub mod Answer
+pub mod AnswerLaws

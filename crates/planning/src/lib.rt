@@ -9,3 +9,4 @@ pub mod timing;
 pub mod planned;
 pub mod stage;
 pub mod data;
+pub mod recording;
