@@ -36,7 +36,7 @@ use Rattle.planning.specs.declared.column.Progress.{Progress}
 use Rattle.planning.specs.declared.recording.Planned.{Planned}
 use Rattle.planning.specs.declared.recording.Planned.the-variants.{Refused, Done}
 use Rattle.planning.specs.Items.{itemsFrom}
-use Rattle.planning.specs.Planning.{Gives}
+use Rattle.planning.specs.Planning.{Gives, within}
 use Rattle.planning.specs.Bare.{bareChecked}
 use Rattle.planning.specs.Stage.{Stand, BlocksStage}
 use Rattle.planning.specs.TimeWordLaws.{laid-stand}
@@ -77,9 +77,9 @@ same-over : (s w f : List ℕ) {n n' k k' : ℕ} {is is' : List Item} → n ≡ 
 same-over s w f a b c = rw (a, b, c)
 
 -- the fragments of the walk, then those of signal data
-all-pieces : (fs gs : List Fragment) {f f₀ f1 : List ℕ} → f1 ≡ kept (length fs) gs f → f ≡ blit 0 (fragmentWords fs) f₀ → f1 ≡ blit 0 (fragmentWords (fs ++ gs)) f₀
+all-pieces : (fs gs : List Fragment) (f f₀ f1 : List ℕ) → f1 ≡ kept (length fs) gs f → f ≡ blit 0 (fragmentWords fs) f₀ → f1 ≡ blit 0 (fragmentWords (fs ++ gs)) f₀
 unfolding kept
-all-pieces fs gs {f} {f₀} {f1} a b =
+all-pieces fs gs f f₀ f1 a b =
     let e : 0 + length (fragmentWords fs) ≡ 3 * length fs = omega (arith, length-words fs) in
     a ∙ rw (b, words-append, blit-append, e)
 
@@ -110,6 +110,17 @@ planned-reading s size = go (identified s) (walk s)
     go (ok t) (ok st) = more st (counts s (dataGroups st))
     go (ok t) (refused x p) = refl
     go (refused x p) b = refl
+
+-- the numbers of a plan are bounded
+within-few : (n : ℕ) {r : Progress} {nc no nf : ℕ} → within r (1537 * n) (1537 * n) → r ≡ Progress.Done nc no nf → n ≤ 1536 → (nc ≤ 4194304) × (nf ≤ 1024)
+within-few n {nc = nc} {no} {nf} b q h =
+    let k : within (Progress.Done nc no nf) (1537 * n) (1537 * n) = rw q at b in
+    let i = k .0 in
+    (omega arith, k .2)
+
+pub planned-few : (s src : List ℕ) (n nf : ℕ) (c f c1 f1 : List ℕ) {r : Progress} {nc no nf' : ℕ} → GroupsPlan s src n nf c f r c1 f1 → r ≡ Progress.Done nc no nf'
+  → n ≤ 1536 → (nc ≤ 4194304) × (nf' ≤ 1024)
+planned-few s src n nf c f c1 f1 g q h = within-few n (g .bound) q h
 
 -- ---- the plan of what was read
 module _ (s : List ℕ) (size : ℕ) (src f c : List ℕ) (n nf : ℕ) {r : Progress} (c1 f1 : List ℕ) (g : GroupsPlan s src n nf c f r c1 f1) where
@@ -186,7 +197,7 @@ module _ (s : List ℕ) (size : ℕ) (src f c : List ℕ) (n nf : ℕ) {r : Prog
 
       done : v ≡ Fine → given (Done n nf nc no) src f1 c1 ≡ andThen (arranged s size x) (λ a. ok (keptBy a w₀ f₀ c))
       done z =
-          same-kept (h .items) (h .fragments) (held .columns) (held .omissions) (h .words) (all-pieces (x .source .fragments) (signalFragments (p .columns)) (held .inFragments) (h .pieces)) (held .inColumns)
+          same-kept (h .items) (h .fragments) (held .columns) (held .omissions) (h .words) (all-pieces (x .source .fragments) (signalFragments (p .columns)) f f₀ f1 (held .inFragments) (h .pieces)) (held .inColumns)
           ∙ stage-fine (allDataIn s (p .columns) (dataGroups (x .source))) (blocksIn s size (p .columns)) found (λ a. keptBy a w₀ f₀ c) (ap verdictOf (sym z) ∙ staged)
           ∙ ap (λ u. andThen u (λ a. ok (keptBy a w₀ f₀ c))) (sym opened)
 
@@ -252,16 +263,15 @@ module _ (s w f : List ℕ) (l : sourceWords ≤ length w) (m : fragmentRoom ≤
         t .is (k .recording) w f (k .readIn) ∙ rw (planned-reading s size, k .readIn .is)
 
 -- ---- the words at the end
-module _ (s : List ℕ) (size : ℕ) (w f c : List ℕ) (l : 4096 ≤ length w) (m : 3072 ≤ length f) (n : 6144 ≤ length c)
-  (w' f' c' : List ℕ) {a : Planned} (e : given a w' f' c' ≡ planOver s size w f c) where
+module _ (s : List ℕ) (size : ℕ) (w f c : List ℕ) (l : 4096 ≤ length w) (m : 3072 ≤ length f) (n : 6144 ≤ length c) where
   all-long : planInto s size w f c ≡ leftBy (plannedOf s size) w f c
   unfolding planInto
   all-long = sym (lt-no _ _ _ _ l (lt-no _ _ _ _ m (lt-no _ _ _ _ n refl)))
 
-  pub plan-refused : {y p : ℕ} → a ≡ Refused y p → {w'' f'' c'' : List ℕ} → length w' ≡ length w → length f' ≡ length f → length c' ≡ length c
+  pub plan-refused : (w' f' c' : List ℕ) (a : Planned) → given a w' f' c' ≡ planOver s size w f c → {y p : ℕ} → a ≡ Refused y p → {w'' f'' c'' : List ℕ} → length w' ≡ length w → length f' ≡ length f → length c' ≡ length c
     → w'' ≡ zeros w' → f'' ≡ zeros f' → c'' ≡ zeros c' → planLeft (Refused y p) w'' f'' c'' ≡ planInto s size w f c
   unfolding planOver
-  plan-refused {y} {p} q i j k x z u =
+  plan-refused w' f' c' a e {y} {p} q i j k x z u =
       rw (x, z, u, i, j, k) (go (plannedOf s size) (ap (λ (v : Planned). given v w' f' c') (sym q) ∙ e) ∙ sym all-long)
     where
       go : (v : Checked Arranged) → _≡_ {A = Checked Kept} (refused y p) (andThen v (λ b. ok (keptBy b w f c))) → planLeft (Refused y p) (zeros w) (zeros f) (zeros c) ≡ leftBy v w f c
@@ -271,9 +281,9 @@ module _ (s : List ℕ) (size : ℕ) (w f c : List ℕ) (l : 4096 ≤ length w) 
           let j : p ≡ d = cc in
           rw (i, j)
 
-  pub plan-done : {x y z u : ℕ} → a ≡ Done x y z u → planLeft a w' f' c' ≡ planInto s size w f c
+  pub plan-done : (w' f' c' : List ℕ) (a : Planned) → given a w' f' c' ≡ planOver s size w f c → {x y z u : ℕ} → a ≡ Done x y z u → planLeft a w' f' c' ≡ planInto s size w f c
   unfolding planOver
-  plan-done {x} {y} {z} {u} q = ap (λ (v : Planned). planLeft v w' f' c') q ∙ go (plannedOf s size) (ap (λ (v : Planned). given v w' f' c') (sym q) ∙ e) ∙ sym all-long
+  plan-done w' f' c' a e {x} {y} {z} {u} q = ap (λ (v : Planned). planLeft v w' f' c') q ∙ go (plannedOf s size) (ap (λ (v : Planned). given v w' f' c') (sym q) ∙ e) ∙ sym all-long
     where
       go : (v : Checked Arranged) → _≡_ {A = Checked Kept} (given (Done x y z u) w' f' c') (andThen v (λ b. ok (keptBy b w f c))) → planLeft (Done x y z u) w' f' c' ≡ leftBy v w f c
       go (ok b) o =

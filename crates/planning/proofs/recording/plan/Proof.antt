@@ -1,79 +1,66 @@
+-- Slices long enough, then what planning gives; after a refusal every word is zero.
 use native.Mathlib.Omega.{arith}
-use lib.ListN.{length, length-set}
+use mathlib.Core.Path.{refl}
+use Rattle.base.specs.ChoiceLaws.{lt-yes, lt-no}
+use Rattle.planning.specs.Answer.{planInto}
+use Rattle.planning.specs.AnswerLaws.{plan-refused, plan-done}
 use borrow.Author.Needs.{needs}
 use Rattle.planning.proofs.recording.plan.Statement.{statement}
 use Rattle.planning.proofs.recording.plan.Tie as tie
-use Rattle.planning.proofs.recording.plan.Reads as reads
-use Rattle.planning.proofs.recording.plan.Lts as lts
-use Rattle.planning.proofs.recording.clear.Reads as clear-reads
-use Rattle.planning.proofs.recording.plan_all.Reads as plan-all-reads
 
--- src/recording.rt:82:9
 returns : tie.Need-returns
-returns c = search needs
+unfolding planInto
+returns c = lt-yes _ _ _ _ (omega arith) refl
 
--- src/recording.rt:85:9
 returns-2 : tie.Need-returns-2
-returns-2 c = search needs
+unfolding planInto
+returns-2 c = lt-no _ _ _ _ (omega arith) (lt-yes _ _ _ _ (omega arith) refl)
 
--- src/recording.rt:88:9
 returns-3 : tie.Need-returns-3
-returns-3 c = search needs
+unfolding planInto
+returns-3 c = lt-no _ _ _ _ (omega arith) (lt-no _ _ _ _ (omega arith) (lt-yes _ _ _ _ (omega arith) refl))
 
--- src/recording.rt:90:9
 plan-all-requires : tie.Need-plan-all-requires
 plan-all-requires c κs = search needs
 
--- src/recording.rt:91:31
 enum-known-answer : tie.Need-enum-known-answer
 enum-known-answer c = search needs
 
--- src/recording.rt:92:9
 clear-requires : tie.Need-clear-requires
 clear-requires c κs = search needs
 
--- src/recording.rt:93:9
 clear-requires-2 : tie.Need-clear-requires-2
 clear-requires-2 c κs = search needs
 
--- src/recording.rt:94:9
 clear-requires-3 : tie.Need-clear-requires-3
 clear-requires-3 c κs = search needs
 
--- src/recording.rt:95:9
 same-length : tie.Need-same-length
 same-length c = search needs
 
--- src/recording.rt:95:9
 same-length-2 : tie.Need-same-length-2
 same-length-2 c = search needs
 
--- src/recording.rt:95:9
 same-length-3 : tie.Need-same-length-3
 same-length-3 c = search needs
 
--- src/recording.rt:95:9
 returns-4 : tie.Need-returns-4
-returns-4 c = search needs
+returns-4 c = plan-refused _ _ _ _ _ (omega (arith, c .before .before .before .before .before .before .before .before .before .before .before .before .before .before .before .before .before .before .before .before .before .before .before .before .before .before .before .if1 .left)) (omega (arith, c .before .before .before .before .before .before .before .before .before .before .before .before .before .before .before .before .before .before .before .before .before .before .before .before .before .before .if2 .left)) (omega (arith, c .before .before .before .before .before .before .before .before .before .before .before .before .before .before .before .before .before .before .before .before .before .before .before .before .before .if3 .left)) (c .before .before .before .before .before .before .before .before .before .before .before .before .before .before .before .before .before .before .before .before .before .plan-all .last .1 .1 .0) (c .before .before .before .before .before .before .before .before .before .before .before .before .before .before .before .before .before .before .before .before .before .plan-all .last .1 .1 .1 .0) (c .before .before .before .before .before .before .before .before .before .before .before .before .before .before .before .before .before .before .before .before .before .plan-all .last .1 .1 .1 .1 .0) _ (c .before .before .before .before .before .before .before .before .before .before .before .before .before .before .before .before .before .before .before .before .before .plan-all .ensures) (c .before .before .before .before .before .before .before .before .before .before .before .before .before .answer .given .1) (search needs) (search needs) (search needs) (c .before .before .before .before .before .before .before .before .before .before .clear .ensures) (c .before .before .before .before .before .before .clear2 .ensures) (c .before .before .clear3 .ensures)
 
 enum-told : tie.Need-enum-told
 enum-told c = search needs
 
--- src/recording.rt:77:1
 same-length-4 : tie.Need-same-length-4
 same-length-4 c = search needs
 
--- src/recording.rt:77:1
 same-length-5 : tie.Need-same-length-5
 same-length-5 c = search needs
 
--- src/recording.rt:77:1
 same-length-6 : tie.Need-same-length-6
 same-length-6 c = search needs
 
--- src/recording.rt:77:1
 returns-5 : tie.Need-returns-5
-returns-5 c = search needs
+returns-5 c = plan-done _ _ _ _ _ (omega (arith, c .before .before .before .before .before .before .before .before .before .before .before .before .before .before .if1 .left)) (omega (arith, c .before .before .before .before .before .before .before .before .before .before .before .before .before .if2 .left)) (omega (arith, c .before .before .before .before .before .before .before .before .before .before .before .before .if3 .left)) (c .before .before .before .before .before .before .before .before .plan-all .last .1 .1 .0) (c .before .before .before .before .before .before .before .before .plan-all .last .1 .1 .1 .0) (c .before .before .before .before .before .before .before .before .plan-all .last .1 .1 .1 .1 .0) _ (c .before .before .before .before .before .before .before .before .plan-all .ensures) (c .enum-told .given .1)
 
 pub plan-spec : {M : Type 1} → statement M
 plan-spec =

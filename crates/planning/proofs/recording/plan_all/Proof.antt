@@ -1,56 +1,42 @@
+-- Reading, then the plan of what was read.
 use native.Mathlib.Omega.{arith}
-use lib.ListN.{length, length-set}
+use Rattle.planning.specs.AnswerLaws.{read-few, all-unread, all-planned}
 use borrow.Author.Needs.{needs}
 use Rattle.planning.proofs.recording.plan_all.Statement.{statement}
 use Rattle.planning.proofs.recording.plan_all.Tie as tie
-use Rattle.planning.proofs.recording.plan_all.Reads as reads
-use Rattle.planning.proofs.recording.plan_all.Lts as lts
-use Rattle.planning.proofs.recording.plan_read.Reads as plan-read-reads
-use Rattle.reading.proofs.recording.read.Reads as read-reads
 
--- src/recording.rt:58:9
 read-requires : tie.Need-read-requires
 read-requires c κs = search needs
 
--- src/recording.rt:60:25
 enum-known-met : tie.Need-enum-known-met
 enum-known-met c = search needs
 
--- src/recording.rt:61:22
 enum-known-met-2 : tie.Need-enum-known-met-2
 enum-known-met-2 c = search needs
 
--- src/recording.rt:61:56
 plan-read-requires : tie.Need-plan-read-requires
-plan-read-requires c κs = search needs
+plan-read-requires c κs = (read-few _ _ _ (omega (arith, c .before .before .before .before .before .before .before .before .before .before .before .before .before .before .before .before .before .pre)) (omega (arith, c .before .before .before .before .before .before .before .before .before .before .before .before .before .before .before .before .before .pre)) _ _ (c .before .before .before .before .before .before .before .before .before .before .read .ensures) (c .before .before .before .before .met2 .given .1) .0, read-few _ _ _ (omega (arith, c .before .before .before .before .before .before .before .before .before .before .before .before .before .before .before .before .before .pre)) (omega (arith, c .before .before .before .before .before .before .before .before .before .before .before .before .before .before .before .before .before .pre)) _ _ (c .before .before .before .before .before .before .before .before .before .before .read .ensures) (c .before .before .before .before .met2 .given .1) .1, search needs, search needs)
 
--- src/recording.rt:53:1
 same-length : tie.Need-same-length
 same-length c = search needs
 
--- src/recording.rt:53:1
 same-length-2 : tie.Need-same-length-2
 same-length-2 c = search needs
 
--- src/recording.rt:53:1
 returns : tie.Need-returns
-returns c = search needs
+returns c = all-unread _ _ _ (omega (arith, c .before .before .before .before .before .before .before .before .before .before .before .before .before .before .pre)) (omega (arith, c .before .before .before .before .before .before .before .before .before .before .before .before .before .before .pre)) _ _ (c .before .before .before .before .before .before .before .read .ensures) _ _ (c .before .met .given .1)
 
--- src/recording.rt:53:1
 same-length-3 : tie.Need-same-length-3
 same-length-3 c = search needs
 
--- src/recording.rt:53:1
 same-length-4 : tie.Need-same-length-4
 same-length-4 c = search needs
 
--- src/recording.rt:53:1
 same-length-5 : tie.Need-same-length-5
 same-length-5 c = search needs
 
--- src/recording.rt:53:1
 returns-2 : tie.Need-returns-2
-returns-2 c = search needs
+returns-2 c = all-planned _ _ _ (omega (arith, c .before .before .before .before .before .before .before .before .before .before .before .before .before .before .before .before .before .before .before .before .before .before .pre)) (omega (arith, c .before .before .before .before .before .before .before .before .before .before .before .before .before .before .before .before .before .before .before .before .before .before .pre)) _ _ (c .before .before .before .before .before .before .before .before .before .before .before .before .before .before .before .read .ensures) (c .before .before .before .before .before .before .before .before .before .met2 .given .1) _ _ (c .before .before .before .before .plan-read .ensures)
 
 pub plan-all-spec : {M : Type 1} → statement M
 plan-all-spec =

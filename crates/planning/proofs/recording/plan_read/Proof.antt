@@ -1,72 +1,56 @@
+-- The plan, then its data stage, for whatever recording the words hold.
 use native.Mathlib.Omega.{arith}
-use lib.ListN.{length, length-set}
+use Rattle.planning.specs.AnswerLaws.{planned-few, read-unplanned, read-unstaged, read-planned}
 use borrow.Author.Needs.{needs}
 use Rattle.planning.proofs.recording.plan_read.Statement.{statement}
 use Rattle.planning.proofs.recording.plan_read.Tie as tie
-use Rattle.planning.proofs.recording.plan_read.Reads as reads
-use Rattle.planning.proofs.recording.plan_read.Lts as lts
-use Rattle.planning.proofs.planned.plan_groups.Reads as plan-groups-reads
-use Rattle.planning.proofs.recording.stage_in.Reads as stage-in-reads
 
--- src/recording.rt:39:9
 plan-groups-requires : tie.Need-plan-groups-requires
 plan-groups-requires c κs = search needs
 
--- src/recording.rt:41:29
 enum-known-planned : tie.Need-enum-known-planned
 enum-known-planned c = search needs
 
--- src/recording.rt:42:35
 enum-known-planned-2 : tie.Need-enum-known-planned-2
 enum-known-planned-2 c = search needs
 
--- src/recording.rt:43:17
 stage-in-requires : tie.Need-stage-in-requires
-stage-in-requires c κs = search needs
+stage-in-requires c κs = (search needs, search needs, planned-few _ _ _ _ _ _ _ _ (c .before .before .before .before .before .before .before .before .before .plan-groups .ensures) (c .before .before .before .planned2 .given .1) (omega (arith, c .before .before .before .before .before .before .before .before .before .before .before .before .before .before .before .before .pre)) .0, search needs)
 
--- src/recording.rt:45:34
 enum-known-checked : tie.Need-enum-known-checked
 enum-known-checked c = search needs
 
--- src/recording.rt:46:32
 enum-told : tie.Need-enum-told
 enum-told c = search needs
 
--- src/recording.rt:34:1
 same-length : tie.Need-same-length
 same-length c = search needs
 
--- src/recording.rt:34:1
 same-length-2 : tie.Need-same-length-2
 same-length-2 c = search needs
 
--- src/recording.rt:34:1
 returns : tie.Need-returns
-returns c = search needs
+returns c = read-unplanned _ _ _ _ _ _ _ _ _ (c .before .before .before .before .before .before .before .plan-groups .ensures) (c .before .planned .given .1)
 
--- src/recording.rt:34:1
 same-length-3 : tie.Need-same-length-3
 same-length-3 c = search needs
 
--- src/recording.rt:34:1
 same-length-4 : tie.Need-same-length-4
 same-length-4 c = search needs
 
--- src/recording.rt:34:1
 returns-2 : tie.Need-returns-2
-returns-2 c = search needs
+returns-2 c = read-unstaged _ _ _ _ _ _ _ _ _ (c .before .before .before .before .before .before .before .before .before .before .before .before .before .plan-groups .ensures) (omega (arith, c .before .before .before .before .before .before .before .before .before .before .before .before .before .before .before .before .before .before .before .before .pre)) (omega (arith, c .before .before .before .before .before .before .before .before .before .before .before .before .before .before .before .before .before .before .before .before .pre)) (c .before .before .before .before .before .before .before .planned2 .given .1)
+    (planned-few _ _ _ _ _ _ _ _ (c .before .before .before .before .before .before .before .before .before .before .before .before .before .plan-groups .ensures) (c .before .before .before .before .before .before .before .planned2 .given .1) (omega (arith, c .before .before .before .before .before .before .before .before .before .before .before .before .before .before .before .before .before .before .before .before .pre)) .1) (c .before .before .before .stage-in .ensures) (c .before .checked .given .1)
 
--- src/recording.rt:34:1
 same-length-5 : tie.Need-same-length-5
 same-length-5 c = search needs
 
--- src/recording.rt:34:1
 same-length-6 : tie.Need-same-length-6
 same-length-6 c = search needs
 
--- src/recording.rt:34:1
 returns-3 : tie.Need-returns-3
-returns-3 c = search needs
+returns-3 c = read-planned _ _ _ _ _ _ _ _ _ (c .before .before .before .before .before .before .before .before .before .before .before .before .plan-groups .ensures) (omega (arith, c .before .before .before .before .before .before .before .before .before .before .before .before .before .before .before .before .before .before .before .pre)) (omega (arith, c .before .before .before .before .before .before .before .before .before .before .before .before .before .before .before .before .before .before .before .pre)) (c .before .before .before .before .before .before .planned2 .given .1)
+    (planned-few _ _ _ _ _ _ _ _ (c .before .before .before .before .before .before .before .before .before .before .before .before .plan-groups .ensures) (c .before .before .before .before .before .before .planned2 .given .1) (omega (arith, c .before .before .before .before .before .before .before .before .before .before .before .before .before .before .before .before .before .before .before .pre)) .1) (c .before .before .stage-in .ensures) (c .enum-told .given .1)
 
 pub plan-read-spec : {M : Type 1} → statement M
 plan-read-spec =
