@@ -1,28 +1,39 @@
 -- What was decided and stands in the words gives each part of the file its blocks and its room.
 use Prim.Native.Nat.{ℕ, zero, suc, _+_, _*_, _-_, _≤_, _<_}
-use mathlib.Core.List.{List, [], _∷_, _++_}
+use mathlib.Core.List.{List, [], _∷_, _++_, append-nil, append-assoc}
 use mathlib.Core.Path.{_≡_, refl, sym, ap, subst, _∙_}
 use native.Mathlib.Omega.{arith}
-use lib.ListN.{length, getD, drop, replicate}
+use lib.ListN.{length, length-append, getD, drop, replicate}
 use lib.Seq.{drop-cons}
 use Rattle.base.specs.Blit.{part, blit}
 use Rattle.base.specs.BlitLaws.{length-blit}
 use Rattle.base.specs.Choice.{ifEq}
 use Rattle.base.specs.ChoiceLaws.{eq-yes, eq-no}
-use Rattle.base.specs.Checked.{ok}
+use Rattle.base.specs.Checked.{Checked}
 use Rattle.mdf.specs.Block.{linkAt, sizeAt}
-use Rattle.plan.specs.Copies.{Copy, copyOf, Attachment}
+use Rattle.mdf.specs.Chain.{Fragment}
+use Rattle.mdf.specs.Walk.{Source}
+use Rattle.mdf.specs.Group.{dataGroups}
+use Rattle.mdf.specs.Count.{counts}
+use Rattle.mdf.specs.Words.{countsAt, laidItems, fragmentWords}
+use Rattle.plan.specs.Columns.{Column, Plan}
+use Rattle.plan.specs.PlanWords.{signalFragments, laidPlan}
+use Rattle.base.specs.CheckedLaws.{ok-same}
+use Rattle.plan_laws.specs.ColumnLaws.{signalsOf}
+use Rattle.planning.specs.HeldLaws.{size-is}
+use Rattle.writing.specs.Data.{dataFrom, DataReady}
+use Rattle.writing.specs.DataReadyLaws.{data-blocks, data-ready}
+use Rattle.writing.specs.Answer.{fileFor}
+use Rattle.plan.specs.Copies.{Copy, Attachment}
 use Rattle.plan.specs.CopyWords.{historyAt, placedAt, laidCopies}
 use Rattle.plan.specs.Layout.{Layout, Placed, structurePlace}
 use Rattle.placing.specs.Standing.{copiesIn}
-use Rattle.placing.specs.Answer.{linkOf}
 use Rattle.result.specs.Fill.{Block, block, newLink, copiedBlocks, mdBytes, fhBytes, hdBytes, nextDG, structureBlocks, dataBlocks, nextAttachment, attachmentBlocks}
 use Rattle.result.specs.Ordered.{Ordered}
-use Rattle.result.specs.Result.{Args, Decided, decided, memoOf, firstFH, hdBlock, blocksOf, fileOf}
-use Rattle.copies_laws.specs.AnswerLaws.{Whole}
+use Rattle.result.specs.Result.{Args, Decided, decided, memoOf, firstFH, hdBlock, blocksOf, flat, fileOf}
 use Rattle.copies_laws.specs.Laid.{Laid}
 use Rattle.copies_laws.specs.LengthLaws.{length-copied, length-at, length-hd}
-use Rattle.copies_laws.specs.AttachLaws.{Moved, LaidAt, ownCopies}
+use Rattle.copies_laws.specs.AttachLaws.{LaidAt, ownCopies}
 use Rattle.copies_laws.specs.LayoutLaws.{LaidOut, columns-placed, history-laid, columns-laid, attachments-laid}
 use Rattle.plan_laws.specs.Known.{Known, decided-known}
 use Rattle.guarantee.specs.Theorem.{o, in-image, ordered}
@@ -85,6 +96,39 @@ first-attachment w k count r h =
     let f : count - 0 ≡ count = omega arith in
     h .is k ∙ rw (e, f)
 
+-- ---- equal numbers and words
+new-eq : (text : List ℕ) (time : ℕ) {a b c d : ℕ} → a ≡ c → b ≡ d
+  → block a (mdBytes text) ∷ block b (fhBytes a time) ∷ [] ≡ block c (mdBytes text) ∷ block d (fhBytes c time) ∷ []
+new-eq text time e f = rw (e, f)
+
+front-eq : (s ident : List ℕ) {a b c d a' b' c' d' : ℕ} → a ≡ a' → b ≡ b' → c ≡ c' → d ≡ d'
+  → block 0 ident ∷ block 64 (hdBytes s a b c d) ∷ [] ≡ block 0 ident ∷ block 64 (hdBytes s a' b' c' d') ∷ []
+front-eq s ident e f g h = rw (e, f, g, h)
+
+source-eq : {ns ns' : List ℕ} {st st' : Source} (w : List ℕ) → ns ≡ ns' → st ≡ st'
+  → blit countsAt ns (laidItems (st .items) w) ≡ blit countsAt ns' (laidItems (st' .items) w)
+source-eq w e f = rw (e, f)
+
+fragments-eq : {st st' : Source} (fs : List Fragment) (w : List ℕ) → st ≡ st'
+  → blit 0 (fragmentWords (st .fragments ++ fs)) w ≡ blit 0 (fragmentWords (st' .fragments ++ fs)) w
+fragments-eq fs w e = rw e
+
+plan-eq : {st st' : Source} (p : Plan) (w : List ℕ) → st ≡ st' → laidPlan (length (st .fragments)) p w ≡ laidPlan (length (st' .fragments)) p w
+plan-eq p w e = rw e
+
+data-eq : (s : List ℕ) (size : ℕ) {v v' f f' w w' m m' : List ℕ} {i i' p p' k k' : ℕ} → v ≡ v' → i ≡ i' → f ≡ f' → p ≡ p' → w ≡ w' → m ≡ m' → k ≡ k'
+  → dataFrom s size v i f p w m 0 k ≡ dataFrom s size v' i' f' p' w' m' 0 k'
+data-eq s size a b c d e f g = rw (a, b, c, d, e, f, g)
+
+ready-eq : (s : List ℕ) (size at room : ℕ) {v v' f f' w w' m m' : List ℕ} {i i' p p' k k' : ℕ} → v ≡ v' → i ≡ i' → f ≡ f' → p ≡ p' → w ≡ w' → m ≡ m' → k ≡ k'
+  → DataReady s size v' i' f' p' w' m' k' at room → DataReady s size v i f p w m k at room
+ready-eq s size at room a b c d e f g h = rw (a, b, c, d, e, f, g) h
+
+signals-length : (cs : List Column) → length (signalFragments cs) ≡ signalsOf cs
+unfolding signalFragments signalsOf
+signals-length [] = refl
+signals-length (c ∷ cs) = let r = signals-length cs in simp length-append (rw (← (size-is (c .signalOf)), r))
+
 -- ---- the parts of the file
 module _ {x : Args} {items pieces columns omitted : ℕ} {n : numbers.Numbers} {v f w m : List ℕ} (st : Stands x items pieces columns omitted n v f w m) where
   abbrev s : List ℕ
@@ -139,19 +183,24 @@ module _ {x : Args} {items pieces columns omitted : ℕ} {n : numbers.Numbers} {
   -- ---- what the words give
   long : 8192 ≤ length m
   unfolding laidCopies
-  long = let h = st .by .longD in rw (st .by .inCopies, length-blit, length-blit, length-blit, length-blit) h
+  long = let h = st .by .longD in let e : length m ≡ length (st .d) = ap length (st .by .inCopies) ∙ rw (length-blit, length-blit, length-blit, length-blit) in omega (arith, h, e)
 
   memo-is : copiesIn m (n .copies) ≡ memoOf l
-  memo-is = rw (counted .all) (copies-read laid (st .d) m (st .by .longD) (st .by .inCopies))
+  memo-is = ap (λ (k : ℕ). copiesIn m k) (counted .all) ∙ copies-read laid (st .d) m (st .by .longD) (st .by .inCopies)
 
   chain-is : part historyAt (n .chain) m ≡ l .past .chain
-  chain-is = rw (counted .blocks) (chain-read laid (st .d) m (st .by .longD) (st .by .inCopies))
+  chain-is = ap (λ (k : ℕ). part historyAt k m) (counted .blocks) ∙ chain-read laid (st .d) m (st .by .longD) (st .by .inCopies)
 
   moved-is : attachmentsIn m (n .metadata) (n .attachments) ≡ l .attached .attachments
-  moved-is = rw (counted .next, counted .moved) (attachments-read laid (st .d) m (st .by .longD) (st .by .inCopies))
+  moved-is =
+      ap (λ (k : ℕ). attachmentsIn m k (n .attachments)) (counted .next) ∙ ap (λ (k : ℕ). attachmentsIn m (length (l .metadata .memo)) k) (counted .moved)
+      ∙ attachments-read laid (st .d) m (st .by .longD) (st .by .inCopies)
 
   pub number-placed : columns ≡ length (l .placed)
   number-placed = st .by .columns ∙ sym (ap length (columns-placed laid)) ∙ length-placed (l .placed)
+
+  pub few-attachments : (n .attachments ≤ 64) × (8192 ≤ length m)
+  few-attachments = let q = copies-order laid counted in (q .4, long)
 
   -- the HD's links
   pub front-is : {dg fh first comment : ℕ} → dg ≡ ifEq columns 0 0 (getD m 6656 0) → fh ≡ ifEq (n .chain) 0 (n .fh) (newLink (copiesIn m (n .copies)) (getD m 4352 0))
@@ -160,27 +209,78 @@ module _ {x : Args} {items pieces columns omitted : ℕ} {n : numbers.Numbers} {
   unfolding hdBlock
   front-is {dg} {fh} {first} {comment} a b c e =
       let p : dg ≡ nextDG (l .placed) =
-            a ∙ first-column w m columns ∙ rw number-placed
-              (next-in (length (st .by .source .fragments)) (d .planned) l (st .c) (st .d) w m (st .by .inColumns) (st .by .inCopies) (columns-placed laid)
-                (known .fewColumns) (st .by .longC) (st .by .longD)) in
+            a ∙ first-column w m columns ∙ ap (λ (k : ℕ). nextDG (placedIn w m 0 k)) number-placed
+            ∙ next-in (length (st .by .source .fragments)) (d .planned) l (st .c) (st .d) w m (st .by .inColumns) (st .by .inCopies) (columns-placed laid)
+                (known .fewColumns) (st .by .longC) (st .by .longD) in
       let q : fh ≡ firstFH (memoOf l) (l .past .chain) (l .fh) =
-            b ∙ first-history (copiesIn m (n .copies)) m (n .chain) (n .fh) long ∙ rw (memo-is, chain-is, st .by .numbered .fh) in
+            b ∙ first-history (copiesIn m (n .copies)) m (n .chain) (n .fh) long
+            ∙ ap (λ (k : List Copy). firstFH k (part historyAt (n .chain) m) (n .fh)) memo-is ∙ ap (λ (k : List ℕ). firstFH (memoOf l) k (n .fh)) chain-is
+            ∙ ap (firstFH (memoOf l) (l .past .chain)) (st .by .numbered .fh) in
       let r : first ≡ nextAttachment (l .attached .attachments) = first-attachment m (n .metadata) (n .attachments) first c ∙ ap nextAttachment moved-is in
-      let t : comment ≡ newLink (memoOf l) (linkAt s 64 5) = e ∙ rw memo-is in
-      rw (p, q, r, t)
+      let t : comment ≡ newLink (memoOf l) (linkAt s 64 5) = e ∙ ap (λ (k : List Copy). newLink k (linkAt s 64 5)) memo-is in
+      front-eq s (x .ident) p q r t
 
-  -- ---- each part's blocks and room, where the file is begun
-  module _ {before ys : List Block} {a : ℕ} {out last : List ℕ} where
-    history-same : copiedBlocks s (part historyAt (n .chain) m) (copiesIn m (n .copies)) (n .fh) (part 0 (n .history - 0) (copiesIn m (n .copies))) ≡ partHistory
-    history-same = history-blocks laid counted (st .d) m (st .by .longD) (st .by .inCopies) (n .fh) ∙ rw (st .by .numbered .fh)
+  -- ---- each part's blocks
+  history-same : copiedBlocks s (part historyAt (n .chain) m) (copiesIn m (n .copies)) (n .fh) (part 0 (n .history - 0) (copiesIn m (n .copies))) ≡ partHistory
+  history-same =
+      history-blocks laid counted (st .d) m (st .by .longD) (st .by .inCopies) (n .fh)
+      ∙ ap (λ (k : ℕ). copiedBlocks s (l .past .chain) (memoOf l) k (l .past .made .memo)) (st .by .numbered .fh)
 
-    columns-same : copiedBlocks s (part historyAt (n .chain) m) (copiesIn m (n .copies)) (n .fh) (part (n .history) (n .metadata - n .history) (copiesIn m (n .copies))) ≡ partColumns
-    columns-same = columns-blocks laid counted (st .d) m (st .by .longD) (st .by .inCopies) (n .fh) ∙ rw (st .by .numbered .fh)
+  columns-same : copiedBlocks s (part historyAt (n .chain) m) (copiesIn m (n .copies)) (n .fh) (part (n .history) (n .metadata - n .history) (copiesIn m (n .copies))) ≡ partColumns
+  columns-same =
+      columns-blocks laid counted (st .d) m (st .by .longD) (st .by .inCopies) (n .fh)
+      ∙ ap (λ (k : ℕ). copiedBlocks s (l .past .chain) (memoOf l) k (drop (length (l .past .made .memo)) (l .metadata .memo))) (st .by .numbered .fh)
 
-    attached-same : attachmentBlocks s (part historyAt (n .chain) m) (copiesIn m (n .copies)) (n .fh) (attachmentsIn m (n .metadata) (n .attachments)) ≡ partAttached
-    attached-same = attachments-blocks laid counted (st .d) m (st .by .longD) (st .by .inCopies) (n .fh) ∙ rw (st .by .numbered .fh)
+  attached-same : attachmentBlocks s (part historyAt (n .chain) m) (copiesIn m (n .copies)) (n .fh) (attachmentsIn m (n .metadata) (n .attachments)) ≡ partAttached
+  attached-same =
+      attachments-blocks laid counted (st .d) m (st .by .longD) (st .by .inCopies) (n .fh)
+      ∙ ap (λ (k : ℕ). attachmentBlocks s (l .past .chain) (memoOf l) k (l .attached .attachments)) (st .by .numbered .fh)
 
-    -- what write_copies asks, and what it did
+  new-same : block (n .md) (mdBytes (x .text)) ∷ block (n .fh) (fhBytes (n .md) (x .time)) ∷ [] ≡ partNew
+  new-same = new-eq (x .text) (x .time) (st .by .numbered .md) (st .by .numbered .fh)
+
+  structure-same : structureBlocks s (x .blockSize) (copiesIn m (n .copies)) (placedIn w m 0 columns) (placedIn w m 0 columns) ≡ partStructure
+  structure-same =
+      ap (λ (k : ℕ). structureBlocks s (x .blockSize) (copiesIn m (n .copies)) (placedIn w m 0 k) (placedIn w m 0 k)) number-placed
+      ∙ structure-in (length (st .by .source .fragments)) (d .planned) l (st .c) (st .d) w m (st .by .inColumns) (st .by .inCopies) (columns-placed laid)
+          (known .fewColumns) (st .by .longC) (st .by .longD) s (x .blockSize) (copiesIn m (n .copies))
+      ∙ ap (λ (k : List Copy). structureBlocks s (x .blockSize) k (l .placed) (l .placed)) memo-is
+
+  -- the words of reading and planning, by the steps that are known
+  source-same : st .by .source ≡ known .steps .source
+  source-same = ok-same (sym (st .by .walked) ∙ known .steps .walked)
+
+  numbers-same : st .by .numbers ≡ known .steps .numbers
+  numbers-same = ok-same (sym (st .by .counted) ∙ ap (λ (z : Source). counts s (dataGroups z)) source-same ∙ known .steps .counted)
+
+  words-source : v ≡ blit countsAt (known .steps .numbers) (laidItems (known .steps .source .items) (st .a))
+  words-source = st .by .inSource ∙ source-eq (st .a) numbers-same source-same
+
+  words-fragments : f ≡ blit 0 (fragmentWords (known .steps .source .fragments ++ signalFragments (d .planned .columns))) (st .b)
+  words-fragments = st .by .inFragments ∙ fragments-eq (signalFragments (d .planned .columns)) (st .b) source-same
+
+  words-columns : w ≡ laidPlan (length (known .steps .source .fragments)) (d .planned) (st .c)
+  words-columns = st .by .inColumns ∙ plan-eq (d .planned) (st .c) source-same
+
+  number-items : items ≡ length (known .steps .source .items)
+  number-items = st .by .items ∙ ap (λ (z : Source). length (z .items)) source-same
+
+  number-pieces : pieces ≡ length (known .steps .source .fragments)
+  number-pieces = st .by .fragments ∙ ap (λ (z : Source). length (z .fragments)) source-same
+
+  few-pieces : 3 * length (known .steps .source .fragments ++ signalFragments (d .planned .columns)) ≤ length (st .b)
+  few-pieces =
+      let p = known .planned in
+      let h = length-append (known .steps .source .fragments) (signalFragments (d .planned .columns)) in
+      omega (arith, h, signals-length (d .planned .columns), p .signals, p .few, st .by .longB)
+
+  data-same : dataFrom s (x .blockSize) v items f pieces w m 0 columns ≡ partData
+  data-same =
+      data-eq s (x .blockSize) words-source number-items words-fragments number-pieces words-columns (st .by .inCopies) (st .by .columns)
+      ∙ data-blocks x d known (st .a) (st .b) (st .c) (st .d) (st .by .longA) (st .by .longC) (st .by .longD) few-pieces (columns-placed laid)
+
+  -- ---- each part's room and what was written, where the file is begun
+  module _ (ys : List Block) {before : List Block} {a : ℕ} {out last : List ℕ} where
     pub history-asks : Begun before (partHistory ++ ys) (l .fileSize) a out last
       → (0 ≤ n .history) × (n .history ≤ n .copies) × (n .copies ≤ 2048) × (8192 ≤ length m)
         × Laid s a (part 0 (n .history - 0) (copiesIn m (n .copies))) (length last)
@@ -212,69 +312,99 @@ module _ {x : Args} {items pieces columns omitted : ℕ} {n : numbers.Numbers} {
       → Begun (before ++ partColumns) ys (l .fileSize) r out next
     columns-done b {r} {next} z = begun-next partColumns ys b (subst (λ (bs : List Block). Wrote a bs r last next) columns-same z)
 
-    -- the new MD and FH
-    new-same : {md fh : ℕ} → md ≡ n .md → fh ≡ n .fh → block md (mdBytes (x .text)) ∷ block fh (fhBytes md (x .time)) ∷ [] ≡ partNew
-    new-same e f = rw (e, f, st .by .numbered .md, st .by .numbered .fh)
-
     pub new-asks : Begun before (partNew ++ ys) (l .fileSize) a out last
       → Ordered a (block (n .md) (mdBytes (x .text)) ∷ block (n .fh) (fhBytes (n .md) (x .time)) ∷ []) (length last)
-    new-asks b = subst (λ (bs : List Block). Ordered a bs (length last)) (sym (new-same refl refl)) (begun-room partNew ys b)
+    new-asks b = subst (λ (bs : List Block). Ordered a bs (length last)) (sym new-same) (begun-room partNew ys b)
 
     pub new-done : Begun before (partNew ++ ys) (l .fileSize) a out last → {r : ℕ} {next : List ℕ}
       → Wrote a (block (n .md) (mdBytes (x .text)) ∷ block (n .fh) (fhBytes (n .md) (x .time)) ∷ []) r last next → Begun (before ++ partNew) ys (l .fileSize) r out next
-    new-done b {r} {next} z = begun-next partNew ys b (subst (λ (bs : List Block). Wrote a bs r last next) (new-same refl refl) z)
-
-    -- DG, CG, CN and DL of the columns
-    structure-same : structureBlocks s (x .blockSize) (copiesIn m (n .copies)) (placedIn w m 0 columns) (placedIn w m 0 columns) ≡ partStructure
-    structure-same =
-        rw (memo-is, number-placed)
-          (structure-in (length (st .by .source .fragments)) (d .planned) l (st .c) (st .d) w m (st .by .inColumns) (st .by .inCopies) (columns-placed laid)
-            (known .fewColumns) (st .by .longC) (st .by .longD) s (x .blockSize) (memoOf l))
+    new-done b {r} {next} z = begun-next partNew ys b (subst (λ (bs : List Block). Wrote a bs r last next) new-same z)
 
     pub structure-asks : Begun before (partStructure ++ ys) (l .fileSize) a out last
       → StructureReady s (x .blockSize) w m columns (n .copies) a (length last)
     structure-asks b =
-        rw number-placed
+        subst (λ (k : ℕ). StructureReady s (x .blockSize) w m k (n .copies) a (length last)) (sym number-placed)
           (structure-ready (length (st .by .source .fragments)) (d .planned) l (st .c) (st .d) w m (st .by .inColumns) (st .by .inCopies) (columns-placed laid)
-            (known .fewColumns) (st .by .longC) (st .by .longD) (in-image x d known) (rw memo-is (begun-room partStructure ys b)))
+            (known .fewColumns) (st .by .longC) (st .by .longD) (in-image x d known)
+            (subst (λ (k : List Copy). Ordered a (structureBlocks s (x .blockSize) k (l .placed) (l .placed)) (length last)) (sym memo-is) (begun-room partStructure ys b)))
 
     pub structure-done : Begun before (partStructure ++ ys) (l .fileSize) a out last → {r : ℕ} {next : List ℕ}
       → Wrote a (structureBlocks s (x .blockSize) (copiesIn m (n .copies)) (placedIn w m 0 columns) (placedIn w m 0 columns)) r last next
       → Begun (before ++ partStructure) ys (l .fileSize) r out next
     structure-done b {r} {next} z = begun-next partStructure ys b (subst (λ (bs : List Block). Wrote a bs r last next) structure-same z)
 
-    -- attachments
-    pub attached-asks : Begun before (partAttached ++ ys) (l .fileSize) a out last
+    pub data-asks : Begun before (partData ++ ys) (l .fileSize) a out last → DataReady s (x .blockSize) v items f pieces w m columns a (length last)
+    data-asks b =
+        ready-eq s (x .blockSize) a (length last) words-source number-items words-fragments number-pieces words-columns (st .by .inCopies) (st .by .columns)
+          (data-ready x d known (st .a) (st .b) (st .c) (st .d) (st .by .longA) (st .by .longC) (st .by .longD) few-pieces (columns-placed laid) a (length last)
+            (begun-room partData ys b))
+
+    pub data-done : Begun before (partData ++ ys) (l .fileSize) a out last → {r : ℕ} {next : List ℕ}
+      → Wrote a (dataFrom s (x .blockSize) v items f pieces w m 0 columns) r last next → Begun (before ++ partData) ys (l .fileSize) r out next
+    data-done b {r} {next} z = begun-next partData ys b (subst (λ (bs : List Block). Wrote a bs r last next) data-same z)
+
+  module _ {before : List Block} {a : ℕ} {out last : List ℕ} where
+    ended : Begun before partAttached (l .fileSize) a out last → Begun before (partAttached ++ []) (l .fileSize) a out last
+    ended b = subst (λ (bs : List Block). Begun before bs (l .fileSize) a out last) (sym (append-nil partAttached)) b
+
+    pub attached-asks : Begun before partAttached (l .fileSize) a out last
       → (n .metadata + length (ownCopies (attachmentsIn m (n .metadata) (n .attachments))) ≤ n .copies) × (n .copies ≤ 2048) × (n .attachments ≤ 64) × (8192 ≤ length m)
         × LaidAt s a (attachmentsIn m (n .metadata) (n .attachments)) (length last)
     attached-asks b =
         let q = copies-order laid counted in
         let r : Ordered a (attachmentBlocks s (part historyAt (n .chain) m) (copiesIn m (n .copies)) (n .fh) (attachmentsIn m (n .metadata) (n .attachments))) (length last) =
-              subst (λ (bs : List Block). Ordered a bs (length last)) (sym attached-same) (begun-room partAttached ys b) in
+              subst (λ (bs : List Block). Ordered a bs (length last)) (sym attached-same) (begun-room partAttached [] (ended b)) in
         (attachments-few laid counted (st .d) m (st .by .longD) (st .by .inCopies), q .2, q .4, long,
           laidAt-ordered s _ a (length last) (l .fileSize) _ _ _ _
             (attachments-room laid counted (st .d) m (st .by .longD) (st .by .inCopies) (l .fileSize) (omega arith)) r)
 
-    pub attached-done : Begun before (partAttached ++ ys) (l .fileSize) a out last → {r : ℕ} {next : List ℕ}
+    pub attached-done : Begun before partAttached (l .fileSize) a out last → {r : ℕ} {next : List ℕ}
       → Wrote a (attachmentBlocks s (part historyAt (n .chain) m) (copiesIn m (n .copies)) (n .fh) (attachmentsIn m (n .metadata) (n .attachments))) r last next
-      → Begun (before ++ partAttached) ys (l .fileSize) r out next
-    attached-done b {r} {next} z = begun-next partAttached ys b (subst (λ (bs : List Block). Wrote a bs r last next) attached-same z)
+      → Begun (before ++ partAttached) [] (l .fileSize) r out next
+    attached-done b {r} {next} z = begun-next partAttached [] (ended b) (subst (λ (bs : List Block). Wrote a bs r last next) attached-same z)
 
   -- ---- the first part and the end
-  pub front-room : (out : List ℕ) → n .«file_size» ≤ length out → (length (x .ident) ≡ 64) × (168 ≤ length out)
+  abbrev pub afterFront : List Block
+  afterFront = partHistory ++ (partNew ++ (partColumns ++ (partStructure ++ (partData ++ partAttached))))
+
+  front-end : endOf 0 partFront ≡ 168
   unfolding endOf hdBlock
+  front-end =
+      let e = length-hd s (nextDG (l .placed)) (firstFH (memoOf l) (l .past .chain) (l .fh)) (nextAttachment (l .attached .attachments)) (newLink (memoOf l) (linkAt s 64 5)) in
+      omega (arith, e)
+
+  pub front-room : (out : List ℕ) → n .«file_size» ≤ length out → (length (x .ident) ≡ 64) × (168 ≤ length out)
   front-room out h =
       let i = known .steps .lent .identLength in
       let e = st .by .numbered .fileSize in
-      let r = ordered-end 0 partFront (l .fileSize) (ordered-first 0 partFront _ (l .fileSize) all-ordered) in
-      let k : endOf 0 partFront ≡ 168 = front-end in
-      (i, omega (arith, r .1, k, e, h))
-    where
-      front-end : endOf 0 partFront ≡ 168
-      front-end = let e = length-hd s (nextDG (l .placed)) (firstFH (memoOf l) (l .past .chain) (l .fh)) (nextAttachment (l .attached .attachments)) (newLink (memoOf l) (linkAt s 64 5)) in omega (arith, e)
+      let r = ordered-end 0 partFront (l .fileSize) (ordered-first 0 partFront afterFront (l .fileSize) all-ordered) in
+      (i, omega (arith, r .1, front-end, e, h))
 
   pub front-done : {out next : List ℕ} {r : ℕ} {bs : List Block} → n .«file_size» ≤ length out → bs ≡ partFront → Wrote 0 bs r out next
-    → Begun partFront (partHistory ++ (partNew ++ (partColumns ++ (partStructure ++ (partData ++ partAttached))))) (l .fileSize) r out next
+    → Begun partFront afterFront (l .fileSize) r out next
   front-done {out} {next} {r} h e z =
       let k = st .by .numbered .fileSize in
-      begun-next partFront _ (begun-none _ (l .fileSize) out all-ordered (omega (arith, k, h))) (subst (λ (bs : List Block). Wrote 0 bs r out next) e z)
+      begun-next partFront afterFront (begun-none (partFront ++ afterFront) (l .fileSize) out all-ordered (omega (arith, k, h)))
+        (subst (λ (bs : List Block). Wrote 0 bs r out next) e z)
+
+  -- all blocks, as they were written
+  abbrev pub written : List Block
+  written = (((((partFront ++ partHistory) ++ partNew) ++ partColumns) ++ partStructure) ++ partData) ++ partAttached
+
+  written-all : written ≡ blocksOf x l
+  written-all = simp append-assoc (sym whole)
+
+  pub end-room : {a : ℕ} {out last : List ℕ} → Begun written [] (l .fileSize) a out last → (a ≤ n .«file_size») × (n .«file_size» ≤ length last)
+  end-room b = let e = begun-end b in let k = st .by .numbered .fileSize in (omega (arith, e .0, k), omega (arith, e .1, k))
+
+  pub file-done : {a : ℕ} {out last final : List ℕ} → Begun written [] (l .fileSize) a out last → final ≡ blit a (replicate (n .«file_size» - a) 0) last
+    → final ≡ blit 0 (fileFor x (decided x)) out
+  unfolding fileOf
+  file-done {a} {out} {last} {final} b e =
+      let k = st .by .numbered .fileSize in
+      let z : final ≡ blit a (replicate (l .fileSize - a) 0) last = e ∙ ap (λ (j : ℕ). blit a (replicate (j - a) 0) last) k in
+      begun-all b z ∙ ap (λ (bs : List Block). blit 0 (flat 0 bs (l .fileSize)) out) written-all
+      ∙ ap (λ (r : Checked Decided). blit 0 (fileFor x r) out) (sym (st .by .is))
+
+  pub file-same : {a : ℕ} {out last final : List ℕ} (xs : List ℕ) → Begun written [] (l .fileSize) a out last → final ≡ blit a xs last → length final ≡ length out
+  file-same {a} {out} {last} xs b e = ap length e ∙ length-blit a xs last ∙ ap length (b .wrote .bytes) ∙ length-blit 0 _ out

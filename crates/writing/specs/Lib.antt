@@ -36,10 +36,10 @@ pub mod Answer
 pub mod Finish
 pub mod FinishLaws
 pub mod ClearLaws
-pub mod FileLaws
 pub mod Own
 pub mod OwnLaws
 pub mod Data
 pub mod DataLaws
 pub mod FoundLaws
 pub mod DataReadyLaws
+pub mod FileLaws

@@ -1,3 +1,4 @@
+use Rattle.writing.specs.StructureLaws.{link-new}
 use native.Mathlib.Omega.{arith}
 use lib.ListN.{length, length-set}
 use borrow.Author.Needs.{needs}
@@ -18,7 +19,7 @@ new-link-requires c κs = search needs
 
 -- src/file.rt:46:1
 returns : tie.Need-returns
-returns c = search needs
+returns c = link-new _ _ _ (c .new-link .ensures) (c .before .link-at .ensures)
 
 pub comment-of-spec : {M : Type 1} → statement M
 comment-of-spec = tie.close (tie.spec link-at-requires new-link-requires returns)

@@ -1,3 +1,5 @@
+use mathlib.Core.Path.{refl}
+use Rattle.base.specs.ChoiceLaws.{eq-yes, eq-no}
 use native.Mathlib.Omega.{arith}
 use lib.ListN.{length, length-set}
 use borrow.Author.Needs.{needs}
@@ -9,7 +11,7 @@ use Rattle.planning.proofs.words.word.Reads as word-reads
 
 -- src/file.rt:29:9
 returns : tie.Need-returns
-returns c = search needs
+returns c = eq-yes _ _ _ _ (c .if1 .taken) refl
 
 -- src/file.rt:31:5
 word-requires : tie.Need-word-requires
@@ -17,7 +19,7 @@ word-requires c κs = search needs
 
 -- src/file.rt:25:1
 returns-2 : tie.Need-returns-2
-returns-2 c = search needs
+returns-2 c = eq-no _ _ _ _ (c .before .if1 .left) (c .word .ensures)
 
 pub first-column-spec : {M : Type 1} → statement M
 first-column-spec = tie.close (tie.spec returns word-requires returns-2)
