@@ -16,7 +16,7 @@ use Rattle.plan.specs.Columns.{Column, Omission, Plan, Signal, unsigned, signal
 use Rattle.plan.specs.PlanWords.{columnWords, columnsWords, omissionPairs, fragmentsIn, signalFragments, laidPlan}
 use Rattle.planning.specs.Planning.{Base, Held}
 
-size-is : (d : Signal) → sizeOfSignal d ≡ length (fragmentsIn d)
+pub size-is : (d : Signal) → sizeOfSignal d ≡ length (fragmentsIn d)
 size-is unsigned = refl
 size-is (signalData fs) = refl
 

@@ -16,6 +16,8 @@ pub mod BudgetLaws
 pub mod Stage
 pub mod TimeWordLaws
 pub mod StageLaws
+pub mod DataWords
+pub mod DataWordsLaws
 pub mod SettleLaws
 pub mod Planned
 pub mod PlannedLaws
@@ -26,3 +28,5 @@ pub mod RoomLaws
 pub mod ReadBackLaws
 pub mod Outcome
 pub mod OutcomeLaws
+pub mod Answer
+pub mod AnswerLaws

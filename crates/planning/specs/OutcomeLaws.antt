@@ -62,6 +62,54 @@ gives-outcome n w f (ok q) r w' f' g =
       → outcome r w' f' ≡ leaves (Done (length (q .columns)) (length (q .omissions)) (q .fragments)) (laidPlan n q w) (kept n (signalFragments (q .columns)) f)
     done q x y z e a b c i j = rw (e, a, b, c, i, j)
 
+-- a plan that the words hold, with its numbers; n fragments were found in the walk
+pub record PlanHeld (n : ℕ) (q : Plan) (nc no nf : ℕ) (w f w' f' : List ℕ) : Type 0 where
+  pub columns : nc ≡ length (q .columns)
+  pub omissions : no ≡ length (q .omissions)
+  pub room : nc ≤ 512
+  pub signals : nf ≡ n + length (signalFragments (q .columns))
+  pub inColumns : w' ≡ laidPlan n q w
+  pub inFragments : f' ≡ kept n (signalFragments (q .columns)) f
+
+pub record PlanIs (o : Checked Plan) (n nc no nf : ℕ) (w f w' f' : List ℕ) : Type 0 where
+  pub plan : Plan
+  pub is : o ≡ ok plan
+  pub held : PlanHeld n plan nc no nf w f w' f'
+
+held-bare : (n : ℕ) (w f : List ℕ) (q : Plan) {nc no nf : ℕ} {w' f' : List ℕ} → Held (record { found = n; words = w; fragments = f }) (barePlan q) nc no nf w' f'
+  → PlanHeld n q nc no nf w f w' f'
+held-bare n w f q h =
+    record {
+      columns = sym (h .columns) ∙ length-bare (q .columns);
+      omissions = sym (h .omissions);
+      room = h .room;
+      signals = h .signals ∙ ap (λ fs. n + length fs) (signals-bare (q .columns));
+      inColumns = h .inColumns ∙ laid-bare n q w;
+      inFragments = h .inFragments ∙ ap (λ fs. kept n fs f) (signals-bare (q .columns));
+    }
+
+pub gives-plan : (n : ℕ) (w f : List ℕ) (o : Checked Plan) {r : Progress} {nc no nf : ℕ} {w' f' : List ℕ}
+  → Gives (record { found = n; words = w; fragments = f }) (bareChecked o) r w' f' → r ≡ Done nc no nf → PlanIs o n nc no nf w f w' f'
+unfolding gives
+gives-plan n w f (refused x p) g e = absurd (let q = g .by in let z : _≡_ {A = ℕ} 0 1 = cc in omega arith)
+gives-plan n w f (ok q) {nc = nc} {no} {nf} {w'} {f'} g e =
+    let t = g .by in
+    let i = t .is in
+    let a : t .nc ≡ nc = cc in
+    let b : t .no ≡ no = cc in
+    let c : t .nf ≡ nf = cc in
+    record { plan = q; is = refl; held = held-bare n w f q (rw (a, b, c) at (t .held)) }
+
+pub gives-none : (n : ℕ) (w f : List ℕ) (o : Checked Plan) {r : Progress} {x p : ℕ} {w' f' : List ℕ}
+  → Gives (record { found = n; words = w; fragments = f }) (bareChecked o) r w' f' → r ≡ Refused x p → o ≡ refused x p
+unfolding gives
+gives-none n w f (refused y q) {x = x} {p} g e =
+    let b = g .by in
+    let i : y ≡ x = cc in
+    let j : q ≡ p = cc in
+    rw (i, j)
+gives-none n w f (ok q) g e = absurd (let t = g .by in let i = t .is in let z : _≡_ {A = ℕ} 0 1 = cc in omega arith)
+
 -- the groups of a recording that was read into words
 module _ (s : List ℕ) (st : Source) (ns : List ℕ) (walked : walk s ≡ ok st) (counted : counts s (dataGroups st) ≡ ok ns) (w₀ : List ℕ) (long : 4096 ≤ length w₀) where
   abbrev kept-words : List ℕ
@@ -78,6 +126,14 @@ module _ (s : List ℕ) (st : Source) (ns : List ℕ) (walked : walk s ≡ ok st
       let o = open-groups (st .items) (walk-open s st walked) in
       omega arith
 
+  -- the items stand in the words
+  pub read-items : itemsFrom kept-words 0 (length (st .items)) ≡ st .items
+  read-items =
+      let h = walk-sound s st walked in
+      let n = numbers in
+      let cg = h .fewCG in
+      items-back kept-words 0 (st .items) (laid-items (st .items) ns w₀ long (few-items (st .items) (h .fewDG) (h .fewCG) (h .fewCN)) cg (omega arith))
+
   pub read-groups : groupsIn kept-words (length (st .items)) ≡ bares all
   read-groups =
       let h = walk-sound s st walked in
@@ -85,19 +141,23 @@ module _ (s : List ℕ) (st : Source) (ns : List ℕ) (walked : walk s ≡ ok st
       let few = few-items (st .items) (h .fewDG) (h .fewCG) (h .fewCN) in
       let cg = h .fewCG in
       groups-flat kept-words ns (length (st .items)) st
-        (items-back kept-words 0 (st .items) (laid-items (st .items) ns w₀ long few cg (omega arith)))
+        read-items
         (laid-counts (st .items) ns w₀ long few cg (omega arith))
         (walk-open s st walked) (omega arith)
 
   -- planning over those words is the recording's plan
-  pub planned-read : {r : Progress} {w f w' f' : List ℕ} → GroupsPlan s kept-words (length (st .items)) (length (st .fragments)) w f r w' f'
-    → outcome r w' f' ≡ laidOutcome (plan s (length (st .fragments)) all) (length (st .fragments)) w f
+  pub read-gives : {r : Progress} {w f w' f' : List ℕ} → GroupsPlan s kept-words (length (st .items)) (length (st .fragments)) w f r w' f'
+    → Gives (record { found = length (st .fragments); words = w; fragments = f }) (bareChecked (plan s (length (st .fragments)) all)) r w' f'
   unfolding plan
-  planned-read {r} {w} {f} {w'} {f'} g =
+  read-gives {r} {w} {f} {w'} {f'} g =
       let n = length (st .fragments) in
       let room = all-room s (bares all) in
       let few = groups-known s st ns walked counted .fewChannels in
       let c = ap (λ l. length l) (channels-bare all) in
       let e = read-groups in
-      gives-outcome n w f (plan s n all) r w' f'
-        (rw (← plan-bare s n all) (rw e at (g .is (record { found = n; words = w; fragments = f }) (nothing n) (held-nothing n w f) (rw e (omega arith)))))
+      rw (← plan-bare s n all) (rw e at (g .is (record { found = n; words = w; fragments = f }) (nothing n) (held-nothing n w f) (rw e (omega arith))))
+
+  pub planned-read : {r : Progress} {w f w' f' : List ℕ} → GroupsPlan s kept-words (length (st .items)) (length (st .fragments)) w f r w' f'
+    → outcome r w' f' ≡ laidOutcome (plan s (length (st .fragments)) all) (length (st .fragments)) w f
+  planned-read {r} {w} {f} {w'} {f'} g =
+      gives-outcome (length (st .fragments)) w f (plan s (length (st .fragments)) all) r w' f' (read-gives g)

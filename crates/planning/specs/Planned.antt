@@ -1,5 +1,5 @@
 -- What the code answers for a group and for all groups, for every plan that stands in the words with room for their columns.
-use Prim.Native.Nat.{ℕ, _+_, _≤_}
+use Prim.Native.Nat.{ℕ, _+_, _*_, _≤_}
 use mathlib.Core.List.{List, [], _∷_}
 use lib.ListN.{length}
 use Rattle.plan.specs.Columns.{SrcGroup, Plan, masterOf, ownMaster, planGroup, planGroups}
@@ -28,5 +28,6 @@ pub record GroupPlan (s src : List ℕ) (n i g d records nc no nf : ℕ) (w f : 
     → Gives b (planGroup s (groupsIn src n) (groupOf d g (channelsIn src n i) records) p) r w' f'
 
 pub record GroupsPlan (s src : List ℕ) (n nf : ℕ) (w f : List ℕ) (r : Progress) (w' f' : List ℕ) : Type 0 where
+  pub bound : within r (1537 * n) (1537 * n)
   pub is : (b : Base) (p : Plan) → Held b p 0 0 nf w f → reserved s (groupsIn src n) p + othersIn s (groupsIn src n) ≤ 512
     → Gives b (planGroups s (groupsIn src n) (groupsIn src n) p) r w' f'

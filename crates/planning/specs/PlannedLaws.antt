@@ -176,7 +176,11 @@ module _ {s src : List ℕ} {n nf₀ : ℕ} {w₀ f₀ : List ℕ} {i g d nc no 
   pub groups-end : n ≤ i → GroupsPlan s src n nf₀ w₀ f₀ (Done nc no nf) w f
   unfolding gives
   groups-end h =
+      let u = t .upTo in
+      let v = t .fewColumns in
+      let x = t .fewOmitted in
       record {
+        bound = (omega arith, omega arith, t .fewFragments);
         is = λ b p j y.
           let r = t .now b p j y in
           let q : planGroups s (groupsIn src n) (groupsIn src n) p ≡ ok (r .plan) =
@@ -235,6 +239,7 @@ module _ {s src : List ℕ} {n nf₀ : ℕ} {w₀ f₀ : List ℕ} {i g d nc no 
       unfolding gives
       groups-refused {x} {x'} v =
           record {
+            bound = tt;
             is = λ b p j y.
               let o : planGroups s (groupsIn src n) (groupsIn src n) p ≡ refused x x' =
                 sym (step-rest b p j y) ∙ ap (λ u. andThen u (planGroups s (groupsIn src n) later)) (gives-refused (step-gives b p j y) v) in

@@ -18,7 +18,7 @@ least-left h = (sym (min-eq-left (le-of-lt h)), le-refl _, le-of-lt h)
 pub least-right : {a b : ℕ} → b ≤ a → (b ≡ min a b) × (b ≤ a) × (b ≤ b)
 least-right h = (sym (min-eq-right h), h, le-refl _)
 
-no-items : (w : List ℕ) (n k : ℕ) → n ≤ k → itemsFrom w k (n - k) ≡ []
+pub no-items : (w : List ℕ) (n k : ℕ) → n ≤ k → itemsFrom w k (n - k) ≡ []
 unfolding itemsFrom
 no-items w n k h = let e : n - k ≡ 0 = omega arith in rw e
 

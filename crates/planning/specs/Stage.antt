@@ -11,7 +11,7 @@ use Rattle.fields.specs.Answer.{verdictOf}
 use Rattle.plan.specs.Channel.{width, both}
 use Rattle.plan.specs.Columns.{Column}
 use Rattle.plan.specs.PlanWords.{columnsWords}
-use Rattle.plan.specs.Data.{anyNonempty, blocksIn}
+use Rattle.plan.specs.Data.{blocksIn}
 
 -- columns that stand in words from number k on; n fragments are kept before theirs
 pub record Stand (w : List ℕ) (n k : ℕ) (cs : List Column) : Type 0 where
@@ -21,9 +21,6 @@ unfoldable pub nonemptyIn : List ℕ → List ℕ → ℕ → ℕ → Bool
 nonemptyIn s w k d =
     both (eqb (getD w (8 * k + 2) 0) d)
     (both (ltb 0 (width s (getD w (8 * k + 1) 0) (getD w (8 * k) 0))) (ltb 0 (getD w (8 * k + 3) 0)))
-
-pub record NonemptyStage (s w : List ℕ) (k d : ℕ) (r : Bool) : Type 0 where
-  pub is : (n : ℕ) (cs : List Column) → Stand w n 0 cs → length cs ≡ k → r ≡ anyNonempty s d cs
 
 pub record BlocksStage (s w : List ℕ) (k size : ℕ) (r : Check) : Type 0 where
   pub is : (n : ℕ) (cs : List Column) → Stand w n 0 cs → length cs ≡ k → verdictOf r ≡ blocksIn s size cs

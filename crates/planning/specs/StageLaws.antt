@@ -19,7 +19,7 @@ use Rattle.plan.specs.Columns.{Column, sizeOfSignal}
 use Rattle.plan.specs.PlanWords.{columnWords, columnsWords, timeWord, signalWord}
 use Rattle.plan.specs.Geometry.{blockCount}
 use Rattle.plan.specs.Data.{isNonempty, anyNonempty, blocksIn}
-use Rattle.planning.specs.Stage.{Stand, nonemptyIn, NonemptyStage, BlocksStage}
+use Rattle.planning.specs.Stage.{Stand, nonemptyIn, BlocksStage}
 use Rattle.planning.specs.TimeWordLaws.{stand-rest}
 
 -- ---- the words of column k
@@ -29,7 +29,7 @@ pub record Reads (w : List ℕ) (k : ℕ) (c : Column) : Type 0 where
   pub ofDG : getD w (8 * k + 2) 0 ≡ c .group .dataGroup .at
   pub records : getD w (8 * k + 3) 0 ≡ c .group .records
 
-stand-reads : (w : List ℕ) (n k : ℕ) (c : Column) (cs : List Column) → Stand w n k (c ∷ cs) → Reads w k c
+pub stand-reads : (w : List ℕ) (n k : ℕ) (c : Column) (cs : List Column) → Stand w n k (c ∷ cs) → Reads w k c
 unfolding columnsWords columnWords
 stand-reads w n k c cs h =
     record {
@@ -105,22 +105,10 @@ module _ (s w : List ℕ) (k d : ℕ) {x : ℕ} (e : x ≡ getD w (8 * k + 2) 0)
     unfolding nonemptyIn
     nonempty-by q u = rw (← e, eq-eqb x d h, ← i, ← j, ← l, lt-ltb 0 y q, u)
 
-nonempty-open : (s w : List ℕ) (k d : ℕ) (c : Column) (cs : List Column) → Reads w k c
+pub nonempty-open : (s w : List ℕ) (k d : ℕ) (c : Column) (cs : List Column) → Reads w k c
   → anyNonempty s d (c ∷ cs) ≡ pick (nonemptyIn s w k d) true (anyNonempty s d cs)
 unfolding anyNonempty isNonempty nonemptyIn
 nonempty-open s w k d c cs h = rw (h .channel, h .group, h .ofDG, h .records)
-
-module _ (s : List ℕ) (d : ℕ) {w : List ℕ} {nc k : ℕ} (t : LeftIn (anyNonempty s d) w nc k) where
-  pub any-end : nc ≤ k → NonemptyStage s w nc d false
-  unfolding anyNonempty
-  any-end h = record { is = left-end t h }
-
-  module _ (h : k < nc) {b : Bool} (e : b ≡ nonemptyIn s w k d) where
-    pub any-hit : b ≡ true → NonemptyStage s w nc d true
-    any-hit q = record { is = left-stop t h true (λ c cs r. sym (nonempty-open s w k d c cs r ∙ rw (← e, q))) }
-
-    pub any-on : b ≡ false → LeftIn (anyNonempty s d) w nc (k + 1)
-    any-on q = left-next t h (λ c cs r. nonempty-open s w k d c cs r ∙ rw (← e, q))
 
 -- ---- the number of blocks
 blocks-over : (s : List ℕ) (size : ℕ) (c : Column) (cs : List Column) → 4294967295 < blockCount size (width s (c .group .at) (c .channel)) (c .group .records)

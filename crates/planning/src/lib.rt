@@ -8,3 +8,5 @@ pub mod column;
 pub mod timing;
 pub mod planned;
 pub mod stage;
+pub mod data;
+pub mod recording;

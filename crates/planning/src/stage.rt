@@ -4,7 +4,8 @@ use channels::{width_of, block_count};
 use crate::words::word;
 ghost use mathlib.Core.Path.{_≡_};
 ghost use Prim.Native.Nat.{_≤_};
-ghost use Rattle.planning.specs.Stage.{nonemptyIn, NonemptyStage, BlocksStage};
+ghost use Rattle.planning.specs.Stage.{nonemptyIn, BlocksStage};
+ghost use Rattle.planning.specs.DataWords.{nonemptyOver};
 
 // Column k is from the DG at d and has bytes.
 fn is_nonempty(image: &[u8], columns: &[u64], k: u64, d: u64) -> bool
@@ -25,7 +26,7 @@ fn is_nonempty(image: &[u8], columns: &[u64], k: u64, d: u64) -> bool
 // Some of the n columns is.
 pub(crate) fn any_nonempty(image: &[u8], columns: &[u64], n: u64, d: u64) -> bool
     requires { ⌜ n ≤ 4194304 ⌝ }
-    ensures { λ r. ⌜ NonemptyStage (now (image .entry)) (now (columns .entry)) n d r ⌝ }
+    ensures { λ r. ⌜ r ≡ nonemptyOver (now (image .entry)) (now (columns .entry)) d 0 n ⌝ }
 {
     let mut k: u64 = 0;
     while k < n {

@@ -1,0 +1,119 @@
+-- A recording read and planned: what is decided before its layout, and what is left of it in the three lent slices.
+use Prim.Native.Nat.{ℕ, _≤_}
+use mathlib.Core.List.{List, _++_}
+use mathlib.Core.Path.{_≡_}
+use lib.ListN.{length, replicate}
+use Rattle.base.specs.Choice.{ifLt}
+use Rattle.base.specs.Blit.{blit}
+use Rattle.base.specs.Checked.{Checked, ok, refused, andThen}
+use Rattle.fields.specs.declared.Check.{Check}
+use Rattle.fields.specs.Answer.{verdictOf}
+use Rattle.mdf.specs.Identification.{identified}
+use Rattle.mdf.specs.Walk.{Source, walk}
+use Rattle.mdf.specs.Group.{dataGroups}
+use Rattle.mdf.specs.Count.{counts}
+use Rattle.mdf.specs.Words.{countsAt, laidItems, fragmentWords}
+use Rattle.plan.specs.Columns.{Column, Plan, srcGroups, plan}
+use Rattle.plan.specs.PlanWords.{signalFragments, laidPlan}
+use Rattle.plan.specs.Data.{allDataIn, blocksIn}
+use Rattle.reading.specs.Reading.{Recording, reading, zeros}
+use Rattle.planning.specs.declared.recording.Planned.{Planned}
+use Rattle.planning.specs.declared.recording.Planned.the-variants.{Refused, Done}
+use Rattle.planning.specs.Items.{itemsFrom}
+use Rattle.planning.specs.Stage.{Stand}
+use Rattle.planning.specs.DataWords.{allDataOver}
+
+-- what was met, the number of records of each group, and the plan
+pub record Arranged : Type 0 where
+  pub source : Source
+  pub numbers : List ℕ
+  pub planned : Plan
+
+-- "identification (4, 5, 6, 7); HD; DG by DG ..; counts DG by DG ..; planning; DG by DG data ..; block counts (19)", for data blocks of so many bytes
+unfoldable pub plannedOf : List ℕ → ℕ → Checked Arranged
+plannedOf s size =
+    andThen (identified s) (λ _.
+    andThen (walk s) (λ st.
+    andThen (counts s (dataGroups st)) (λ ns.
+    andThen (plan s (length (st .fragments)) (srcGroups (dataGroups st) ns)) (λ p.
+    andThen (allDataIn s (p .columns) (dataGroups st)) (λ _.
+    andThen (blocksIn s size (p .columns)) (λ _.
+    ok (record { source = st; numbers = ns; planned = p })))))))
+
+-- the answer, and the words of the source, of fragments and of columns at the end
+pub data PlanLeft : Type 0 where
+  planLeft : Planned → List ℕ → List ℕ → List ℕ → PlanLeft
+
+-- "Work slices are zero after every return except refusal 1"; where planning succeeds they hold the recording and its plan
+abbrev pub leftBy : Checked Arranged → List ℕ → List ℕ → List ℕ → PlanLeft
+leftBy (refused number place) w f c = planLeft (Refused number place) (zeros w) (zeros f) (zeros c)
+leftBy (ok a) w f c =
+    planLeft (Done (length (a .source .items)) (length (a .source .fragments)) (length (a .planned .columns)) (length (a .planned .omissions)))
+    (blit countsAt (a .numbers) (laidItems (a .source .items) w))
+    (blit 0 (fragmentWords (a .source .fragments ++ signalFragments (a .planned .columns))) f)
+    (laidPlan (length (a .source .fragments)) (a .planned) c)
+
+abbrev pub columnRoom : ℕ
+columnRoom = 6144
+
+-- "1, 0: a work slice too short": it "changes nothing"
+unfoldable pub planInto : List ℕ → ℕ → List ℕ → List ℕ → List ℕ → PlanLeft
+planInto s size w f c =
+    ifLt (length w) 4096 (planLeft (Refused 1 0) w f c)
+    (ifLt (length f) 3072 (planLeft (Refused 1 0) w f c)
+    (ifLt (length c) columnRoom (planLeft (Refused 1 0) w f c)
+    (leftBy (plannedOf s size) w f c)))
+
+-- ---- the same before any clearing: a refusal, or the numbers and words
+pub record Kept : Type 0 where
+  pub items : ℕ
+  pub fragments : ℕ
+  pub columns : ℕ
+  pub omissions : ℕ
+  pub words : List ℕ
+  pub pieces : List ℕ
+  pub plans : List ℕ
+
+abbrev pub given : Planned → List ℕ → List ℕ → List ℕ → Checked Kept
+given (Refused x p) w f c = refused x p
+given (Done n nf nc no') w f c = ok (record { items = n; fragments = nf; columns = nc; omissions = no'; words = w; pieces = f; plans = c })
+
+abbrev pub keptBy : Arranged → List ℕ → List ℕ → List ℕ → Kept
+keptBy a w f c = record {
+  items = length (a .source .items);
+  fragments = length (a .source .fragments);
+  columns = length (a .planned .columns);
+  omissions = length (a .planned .omissions);
+  words = blit countsAt (a .numbers) (laidItems (a .source .items) w);
+  pieces = blit 0 (fragmentWords (a .source .fragments ++ signalFragments (a .planned .columns))) f;
+  plans = laidPlan (length (a .source .fragments)) (a .planned) c
+}
+
+unfoldable pub planOver : List ℕ → ℕ → List ℕ → List ℕ → List ℕ → Checked Kept
+planOver s size w f c = andThen (plannedOf s size) (λ a. ok (keptBy a w f c))
+
+-- the plan of a recording and its data stage
+unfoldable pub arranged : List ℕ → ℕ → Recording → Checked Arranged
+arranged s size r =
+    andThen (plan s (length (r .source .fragments)) (srcGroups (dataGroups (r .source)) (r .counts))) (λ p.
+    andThen (allDataIn s (p .columns) (dataGroups (r .source))) (λ _.
+    andThen (blocksIn s size (p .columns)) (λ _.
+    ok (record { source = r .source; numbers = r .counts; planned = p }))))
+
+-- the data stage and the block counts, for all columns that stand in the words
+pub record StageOver (s : List ℕ) (size : ℕ) (src f w : List ℕ) (n nf nc : ℕ) (r : Check) : Type 0 where
+  pub is : (m : ℕ) (cs : List Column) → Stand w m 0 cs → length cs ≡ nc
+    → verdictOf r ≡ andThen (allDataOver s w f nf nc (itemsFrom src 0 n)) (λ _. blocksIn s size cs)
+
+-- a recording that the words hold
+pub record ReadIn (s src f : List ℕ) (n nf : ℕ) (r : Recording) (w₀ f₀ : List ℕ) : Type 0 where
+  pub is : reading s ≡ ok r
+  pub long : 4096 ≤ length w₀
+  pub items : n ≡ length (r .source .items)
+  pub fragments : nf ≡ length (r .source .fragments)
+  pub words : src ≡ blit countsAt (r .counts) (laidItems (r .source .items) w₀)
+  pub pieces : f ≡ blit 0 (fragmentWords (r .source .fragments)) f₀
+
+-- its plan and data stage, whichever recording the words hold
+pub record PlanRead (s : List ℕ) (size : ℕ) (src f c : List ℕ) (n nf : ℕ) (r : Planned) (f' c' : List ℕ) : Type 0 where
+  pub is : (x : Recording) (w₀ f₀ : List ℕ) → ReadIn s src f n nf x w₀ f₀ → given r src f' c' ≡ andThen (arranged s size x) (λ a. ok (keptBy a w₀ f₀ c))
