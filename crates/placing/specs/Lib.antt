@@ -18,3 +18,5 @@ pub mod ColumnsLaws
 pub mod Laying
 pub mod LayingLaws
 pub mod BoundedLaws
+pub mod Decision
+pub mod DecisionLaws
