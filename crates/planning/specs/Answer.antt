@@ -2,7 +2,7 @@
 use Prim.Native.Nat.{ℕ, _≤_}
 use mathlib.Core.List.{List, _++_}
 use mathlib.Core.Path.{_≡_}
-use lib.ListN.{length, replicate}
+use lib.ListN.{length}
 use Rattle.base.specs.Choice.{ifLt}
 use Rattle.base.specs.Blit.{blit}
 use Rattle.base.specs.Checked.{Checked, ok, refused, andThen}

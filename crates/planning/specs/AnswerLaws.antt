@@ -1,7 +1,6 @@
 -- From reading, the plan and the data stage to the whole of planning.
-use Prim.{tt}
-use Prim.Native.Nat.{ℕ, zero, suc, _+_, _*_, _-_, _≤_, _<_}
-use mathlib.Core.List.{List, [], _∷_, _++_}
+use Prim.Native.Nat.{ℕ, _+_, _*_, _≤_}
+use mathlib.Core.List.{List, _++_}
 use mathlib.Core.Path.{_≡_, refl, sym, ap, _∙_, subst}
 use native.Mathlib.Omega.{arith}
 use lib.ListN.{length}
@@ -18,18 +17,17 @@ use Rattle.mdf.specs.Identification.{identified}
 use Rattle.mdf.specs.Walk.{Item, Source, walk}
 use Rattle.mdf.specs.Group.{dataGroups}
 use Rattle.mdf.specs.Count.{counts}
-use Rattle.mdf.specs.Words.{sourceWords, countsAt, laidItems, fragmentWords}
+use Rattle.mdf.specs.Words.{sourceWords, fragmentWords}
 use Rattle.chains.specs.Kept.{kept}
 use Rattle.chains.specs.KeptLaws.{length-words, words-append}
-use Rattle.plan.specs.Columns.{SrcGroup, Column, Plan, srcGroups, plan}
-use Rattle.plan.specs.PlanWords.{signalFragments, laidPlan}
+use Rattle.plan.specs.Columns.{Plan, srcGroups, plan}
+use Rattle.plan.specs.PlanWords.{signalFragments}
 use Rattle.plan.specs.Data.{allDataIn, blocksIn}
 use Rattle.plan_laws.specs.Answers.{with-ok}
 use Rattle.plan_laws.specs.WalkLaws.{walk-sound}
 use Rattle.plan_laws.specs.SourceLaws.{groups-known}
 use Rattle.reading.specs.declared.answer.Read.{Read}
 use Rattle.reading.specs.CheckedLaws.{ok≢refused}
-use Rattle.reading.specs.Holding.{Stands}
 use Rattle.reading.specs.Reading as read
 use Rattle.reading.specs.Reading.{Recording, reading, readOver, readInto, fragmentRoom, zeros}
 use Rattle.planning.specs.declared.column.Progress.{Progress}
@@ -41,11 +39,11 @@ use Rattle.planning.specs.Bare.{bareChecked}
 use Rattle.planning.specs.Stage.{Stand, BlocksStage}
 use Rattle.planning.specs.TimeWordLaws.{laid-stand}
 use Rattle.planning.specs.Planned.{GroupsPlan}
-use Rattle.planning.specs.ReadBackLaws.{items-back, laid-items, few-items}
+use Rattle.planning.specs.ReadBackLaws.{few-items}
 use Rattle.planning.specs.OutcomeLaws.{read-gives, read-items, PlanHeld, PlanIs, gives-plan, gives-none}
 use Rattle.planning.specs.DataWords.{allDataOver}
 use Rattle.planning.specs.DataWordsLaws.{Filled, data-filled, several-counted}
-use Rattle.planning.specs.Answer.{Arranged, plannedOf, planLeft, leftBy, columnRoom, planInto, Kept, given, keptBy, planOver, arranged, StageOver, ReadIn, PlanRead}
+use Rattle.planning.specs.Answer.{Arranged, plannedOf, planLeft, leftBy, planInto, Kept, given, keptBy, planOver, arranged, StageOver, ReadIn, PlanRead}
 
 -- ---- the data stage, then the block counts
 module _ (s : List ℕ) (size : ℕ) (src f w : List ℕ) (n nf nc : ℕ) {v : Check} (e : verdictOf v ≡ allDataOver s w f nf nc (itemsFrom src 0 n)) where

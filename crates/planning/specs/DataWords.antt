@@ -5,7 +5,7 @@ use mathlib.Core.Bool.{Bool, true, false}
 use lib.ListN.{length, getD}
 use Rattle.base.specs.Choice.{pick, ifLt, ifEq}
 use Rattle.base.specs.Blit.{part}
-use Rattle.base.specs.Checked.{Checked, ok, refused, andThen, Verdict, fine}
+use Rattle.base.specs.Checked.{andThen, Verdict, fine}
 use Rattle.mdf.specs.Walk.{Item, dg, cg, cn}
 use Rattle.mdf.specs.Group.{addresses, groupsOf, upTo}
 use Rattle.mdf.specs.Words.{fragmentsOf}

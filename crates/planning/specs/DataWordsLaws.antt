@@ -1,6 +1,6 @@
 -- Laws of the data stage out of words: one for each way of the code, and that the stage is that of the columns and fragments which stand in the words.
 use Prim.Native.Nat.{ℕ, zero, suc, _+_, _*_, _-_, _≤_, _<_, min}
-use mathlib.Core.List.{List, [], _∷_, _++_}
+use mathlib.Core.List.{List, [], _∷_}
 use mathlib.Core.Bool.{Bool, true, false}
 use mathlib.Core.Path.{_≡_, refl, sym, ap, _∙_}
 use native.Mathlib.Nat.{zero-add, le-of-lt, min-eq-left, min-eq-right, min-le-right}
@@ -10,16 +10,16 @@ use borrow.Rule.Slice.PartMut.{midOf}
 use lib.ListN.{length, getD, take, drop, length-append, length-drop}
 use lib.Seq.{take-all}
 use lib.Dec.{ltb}
-use Rattle.base.specs.Choice.{pick, ifLt, ifEq}
+use Rattle.base.specs.Choice.{pick, ifEq}
 use Rattle.base.specs.ChoiceLaws.{lt-yes, lt-no, eq-yes, eq-no}
 use Rattle.base.specs.Blit.{part}
-use Rattle.base.specs.Checked.{Checked, ok, refused, andThen, Verdict, fine}
+use Rattle.base.specs.Checked.{ok, refused, andThen, Verdict, fine}
 use Rattle.fields.specs.declared.Check.{Check}
 use Rattle.fields.specs.declared.Check.the-variants.{Fine, Refused}
 use Rattle.fields.specs.Answer.{verdictOf}
 use Rattle.mdf.specs.Chain.{Fragment}
 use Rattle.mdf.specs.Walk.{Item, dg, cg, cn}
-use Rattle.mdf.specs.Group.{Group, DataGroup, addresses, groupsOf, upTo, dataGroupsOf}
+use Rattle.mdf.specs.Group.{DataGroup, addresses, groupsOf, upTo, dataGroupsOf}
 use Rattle.mdf.specs.Words.{fragmentWords, fragmentsOf}
 use Rattle.mdf.specs.Records.{rangesIn, sortedIn, unsortedFrames}
 use Rattle.mdf.specs.Count.{countGroups}
@@ -29,7 +29,7 @@ use Rattle.plan.specs.PlanWords.{columnWords, columnsWords, signalWord, fragmen
 use Rattle.plan.specs.Data.{anyNonempty, recordsIn, signalIn, signalsIn, dataIn, allDataIn}
 use Rattle.result.specs.Guarantee.{In, here, there}
 use Rattle.plan_laws.specs.Answers.{with-ok}
-use Rattle.plan_laws.specs.GroupLaws.{Counted, no-more, and-more, addresses-length}
+use Rattle.plan_laws.specs.GroupLaws.{Counted, and-more, addresses-length}
 use Rattle.reading.specs.Holding.{Stands}
 use Rattle.reading.specs.StandsLaws.{stands-front, stands-back, stands-at, stands-as, stands-part}
 use Rattle.reading.specs.ItemLaws.{part-fragments}
@@ -38,7 +38,7 @@ use Rattle.planning.specs.SpanLaws.{no-items, next-dg, next-cg, next-cn}
 use Rattle.planning.specs.HeldLaws.{size-is}
 use Rattle.planning.specs.Stage.{Stand, nonemptyIn}
 use Rattle.planning.specs.TimeWordLaws.{stand-rest}
-use Rattle.planning.specs.StageLaws.{Reads, stand-reads, nonempty-open}
+use Rattle.planning.specs.StageLaws.{stand-reads, nonempty-open}
 use Rattle.planning.specs.DataWords.{nonemptyOver, rangesOver, signalOver, signalsOver, recordsOver, dataOver, allDataOver}
 
 -- ---- a nonempty column

@@ -1,5 +1,5 @@
 -- The code's answer for the groups in words is that of the recording's plan.
-use Prim.Native.Nat.{ℕ, zero, suc, _+_, _*_, _-_, _≤_, _<_}
+use Prim.Native.Nat.{ℕ, suc, _+_, _≤_}
 use mathlib.Core.List.{List, [], _∷_}
 use mathlib.Core.Path.{_≡_, refl, sym, ap, _∙_}
 use native.Mathlib.Nat.{add-zero}
@@ -8,28 +8,26 @@ use lib.ListN.{length}
 use Rattle.base.specs.Blit.{blit}
 use Rattle.base.specs.Checked.{Checked, ok, refused}
 use Rattle.mdf.specs.Walk.{Source, walk, levelCG, tally}
-use Rattle.mdf.specs.Group.{dataGroups, groupsOf}
+use Rattle.mdf.specs.Group.{dataGroups}
 use Rattle.mdf.specs.Count.{counts}
 use Rattle.mdf.specs.Words.{countsAt, laidItems}
 use Rattle.chains.specs.Kept.{kept}
 use Rattle.chains.specs.KeptLaws.{kept-none}
-use Rattle.plan.specs.Columns.{SrcGroup, Column, Plan, srcGroups, planGroups, plan}
+use Rattle.plan.specs.Columns.{SrcGroup, Column, Plan, srcGroups, plan}
 use Rattle.plan.specs.PlanWords.{columnsWords, omissionPairs, signalFragments, laidPlan}
 use Rattle.plan_laws.specs.WalkLaws.{walk-sound, walk-open}
-use Rattle.plan_laws.specs.GroupLaws.{allChannels}
 use Rattle.plan_laws.specs.SourceLaws.{groups-known}
 use Rattle.planning.specs.declared.column.Progress.{Progress}
 use Rattle.planning.specs.declared.column.Progress.the-variants.{Refused, Done}
 use Rattle.planning.specs.Items.{itemsFrom, groupsIn}
-use Rattle.planning.specs.Planning.{Base, Held, Went, gives, Gives}
-use Rattle.planning.specs.Timing.{waiting}
-use Rattle.planning.specs.Planned.{othersIn, reserved, GroupsPlan}
+use Rattle.planning.specs.Planning.{Held, gives, Gives}
+use Rattle.planning.specs.Planned.{GroupsPlan}
 use Rattle.planning.specs.Bare.{bares, bareColumns, barePlan, bareChecked}
 use Rattle.planning.specs.BareLaws.{plan-bare, laid-bare, signals-bare}
 use Rattle.planning.specs.FlatLaws.{groups-flat}
 use Rattle.planning.specs.RoomLaws.{all-room, channels-bare}
 use Rattle.planning.specs.ReadBackLaws.{items-back, laid-items, laid-counts, few-items, groups-counted, open-groups}
-use Rattle.planning.specs.Outcome.{Outcome, stops, leaves, outcome, laidOutcome}
+use Rattle.planning.specs.Outcome.{leaves, outcome, laidOutcome}
 
 -- before planning
 abbrev nothing : ℕ → Plan

@@ -1,14 +1,14 @@
 -- Laws of the items past a DG: what is left of them gives what all of them give.
 use Prim.Native.Nat.{ℕ, zero, suc, _+_, _-_, _≤_, _<_, min}
 use mathlib.Core.List.{List, [], _∷_}
-use mathlib.Core.Path.{_≡_, refl, sym, ap, _∙_}
+use mathlib.Core.Path.{_≡_, refl, sym, _∙_}
 use native.Mathlib.Nat.{le-of-lt, min-eq-left, min-eq-right, le-refl}
 use native.Mathlib.Omega.{arith}
 use lib.ListN.{length, getD}
 use Rattle.base.specs.ChoiceLaws.{eq-yes, eq-no}
 use Rattle.mdf.specs.Walk.{Item, dg, cg, cn, levelCG, tally}
-use Rattle.mdf.specs.Group.{Group, addresses, channelsOf, groupsOf, upTo}
-use Rattle.planning.specs.Items.{item, itemsFrom}
+use Rattle.mdf.specs.Group.{addresses, groupsOf, upTo}
+use Rattle.planning.specs.Items.{itemsFrom}
 use Rattle.planning.specs.ItemLaws.{item-cn, item-cg, item-dg, items-open}
 use Rattle.planning.specs.Span.{pastDG}
 

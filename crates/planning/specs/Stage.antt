@@ -1,11 +1,10 @@
 -- The data stage, for all columns that stand in the words.
 use Prim.Native.Nat.{ℕ, _+_, _*_, _<_}
-use mathlib.Core.List.{List, [], _∷_}
+use mathlib.Core.List.{List}
 use mathlib.Core.Bool.{Bool}
 use mathlib.Core.Path.{_≡_}
 use lib.ListN.{length, getD}
 use lib.Dec.{eqb, ltb}
-use Rattle.base.specs.Checked.{Verdict}
 use Rattle.fields.specs.declared.Check.{Check}
 use Rattle.fields.specs.Answer.{verdictOf}
 use Rattle.plan.specs.Channel.{width, both}

@@ -1,22 +1,20 @@
 -- Laws of the data stage: what is left of the columns gives what all of them give.
-use Prim.Native.Nat.{ℕ, zero, suc, _+_, _*_, _-_, _≤_, _<_}
-use mathlib.Core.List.{List, [], _∷_, _++_}
-use mathlib.Core.Bool.{Bool, true, false}
-use mathlib.Core.Path.{_≡_, refl, sym, ap, _∙_}
+use Prim.Native.Nat.{ℕ, _+_, _*_, _≤_, _<_}
+use mathlib.Core.List.{List, [], _∷_}
+use mathlib.Core.Bool.{true, false}
+use mathlib.Core.Path.{_≡_, refl, sym, _∙_}
 use native.Mathlib.Nat.{add-zero}
 use native.Mathlib.Omega.{arith}
 use borrow.Author.Tests.{eq-eqb, ne-eqb, lt-ltb, le-ltb}
 use lib.ListN.{length, getD}
-use lib.Dec.{eqb, ltb}
-use Rattle.base.specs.Choice.{pick, ifLt}
+use lib.Dec.{ltb}
+use Rattle.base.specs.Choice.{pick}
 use Rattle.base.specs.ChoiceLaws.{lt-yes, lt-no}
-use Rattle.base.specs.Checked.{refused, Verdict, fine}
-use Rattle.fields.specs.declared.Check.{Check}
+use Rattle.base.specs.Checked.{refused}
 use Rattle.fields.specs.declared.Check.the-variants.{Fine, Refused}
-use Rattle.fields.specs.Answer.{verdictOf}
-use Rattle.plan.specs.Channel.{width, both}
+use Rattle.plan.specs.Channel.{width}
 use Rattle.plan.specs.Columns.{Column, sizeOfSignal}
-use Rattle.plan.specs.PlanWords.{columnWords, columnsWords, timeWord, signalWord}
+use Rattle.plan.specs.PlanWords.{columnWords, columnsWords}
 use Rattle.plan.specs.Geometry.{blockCount}
 use Rattle.plan.specs.Data.{isNonempty, anyNonempty, blocksIn}
 use Rattle.planning.specs.Stage.{Stand, nonemptyIn, BlocksStage}
