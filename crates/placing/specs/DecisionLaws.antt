@@ -8,7 +8,7 @@ use lib.ListN.{length, length-append, replicate}
 use Rattle.base.specs.Blit.{blit}
 use Rattle.base.specs.BlitLaws.{length-blit}
 use Rattle.base.specs.Choice.{ifLt, ifEq}
-use Rattle.base.specs.ChoiceLaws.{lt-yes, lt-no, eq-yes, eq-no}
+use Rattle.base.specs.ChoiceLaws.{lt-yes, lt-no, lt-back, eq-yes, eq-no, eq-first}
 use Rattle.base.specs.Checked.{Checked, ok, refused, andThen, Verdict, fine}
 use Rattle.base.specs.CheckedLaws.{refused≢ok, ok-same, then-ok, then-fine}
 use Rattle.base.specs.Field.{leAt}
@@ -29,7 +29,8 @@ use Rattle.fields.specs.Answer.{verdictOf}
 use Rattle.plan_laws.specs.Lists.{occurs}
 use Rattle.plan_laws.specs.GroupLaws.{allAddresses}
 use Rattle.plan_laws.specs.SourceLaws.{Groups, groups-known}
-use Rattle.plan_laws.specs.PlanLaws.{Planned, signalsOf, plan-known, plan-source, plan-fits, plan-few, plan-signals}
+use Rattle.plan_laws.specs.ColumnLaws.{signalsOf}
+use Rattle.plan_laws.specs.PlanLaws.{Planned, plan-known, plan-source, plan-fits, plan-few, plan-signals}
 use Rattle.payload_laws.specs.CountLaws.{member}
 use Rattle.payload_laws.specs.ColumnLaws.{ready}
 use Rattle.payload_laws.specs.SignalLaws.{column-signal}
@@ -73,7 +74,7 @@ decided-rest x =
       steps (plan s (length (st .fragments)) (srcGroups (dataGroups st) ns)) _ k
         ∙ same-steps (plan s (length (st .fragments)) (srcGroups (dataGroups st) ns)) _ _ (λ p.
       steps (allDataIn s (p .columns) (dataGroups st)) _ k ∙ same-steps (allDataIn s (p .columns) (dataGroups st)) _ _ (λ _.
-      steps (blocksIn s (x .blockSize) (p .columns)) _ k))))))))))
+      steps (blocksIn s (x .blockSize) (p .columns)) _ k)))))))))
 
 -- ---- the lent slices
 module _ (ident text : List ℕ) where
@@ -127,24 +128,24 @@ pub record PlannedIn (s : List ℕ) (size i nf nc no' : ℕ) (w f c w' f' c' : L
   pub inFragments : f' ≡ blit 0 (fragmentWords (told .source .fragments ++ signalFragments (told .planned .columns))) f
   pub inColumns : c' ≡ laidPlan (length (told .source .fragments)) (told .planned) c
 
-planned-by : {s : List ℕ} {size i nf nc no' : ℕ} {w f c w' f' c' : List ℕ} (v : Checked Arranged) → plannedOf s size ≡ v
+planned-by : (s : List ℕ) (size i nf nc no' : ℕ) (w f c w' f' c' : List ℕ) (v : Checked Arranged) → plannedOf s size ≡ v
   → planLeft (planned.Done i nf nc no') w' f' c' ≡ leftBy v w f c → PlannedIn s size i nf nc no' w f c w' f' c'
-planned-by (refused x y) p z = absurd (done≢refused z)
-planned-by (ok a) p z =
+planned-by s size i nf nc no' w f c w' f' c' (refused x y) p z = absurd (done≢refused z)
+planned-by s size i nf nc no' w f c w' f' c' (ok a) p z =
     record { told = a; is = p; items = cc; fragments = cc; columns = cc; omissions = cc; inSource = cc; inFragments = cc; inColumns = cc }
 
-refused-by : {s : List ℕ} {size x y : ℕ} {w f c w' f' c' : List ℕ} (v : Checked Arranged) → plannedOf s size ≡ v
+refused-by : (s : List ℕ) (size x y : ℕ) (w f c w' f' c' : List ℕ) (v : Checked Arranged) → plannedOf s size ≡ v
   → planLeft (planned.Refused x y) w' f' c' ≡ leftBy v w f c → plannedOf s size ≡ refused x y
-refused-by (refused n m) p z = let a : n ≡ _ = cc in let b : m ≡ _ = cc in p ∙ rw (a, b)
-refused-by (ok a) p z = absurd (refused≢done z)
+refused-by s size x y w f c w' f' c' (refused n m) p z = let a : n ≡ x = cc in let b : m ≡ y = cc in p ∙ rw (a, b)
+refused-by s size x y w f c w' f' c' (ok a) p z = absurd (refused≢done z)
 
-module _ {s : List ℕ} {size : ℕ} {w f c w' f' c' : List ℕ} {r : answer.Planned} (e : planLeft r w' f' c' ≡ planInto s size w f c)
+module _ (s : List ℕ) (size : ℕ) (w f c w' f' c' : List ℕ) (r : answer.Planned) (e : planLeft r w' f' c' ≡ planInto s size w f c)
   (l : 8192 ≤ length w) (m : 8192 ≤ length f) (n : 8192 ≤ length c) where
   pub plans-done : {i nf nc no' : ℕ} → r ≡ planned.Done i nf nc no' → PlannedIn s size i nf nc no' w f c w' f' c'
-  plans-done q = planned-by (plannedOf s size) refl (rw q at (e ∙ sym (plan-into s size w f c l m n)))
+  plans-done {i} {nf} {nc} {no'} q = planned-by s size i nf nc no' w f c w' f' c' (plannedOf s size) refl (rw q at (e ∙ sym (plan-into s size w f c l m n)))
 
   pub plans-refused : {x y : ℕ} → r ≡ planned.Refused x y → plannedOf s size ≡ refused x y
-  plans-refused q = refused-by (plannedOf s size) refl (rw q at (e ∙ sym (plan-into s size w f c l m n)))
+  plans-refused {x} {y} q = refused-by s size x y w f c w' f' c' (plannedOf s size) refl (rw q at (e ∙ sym (plan-into s size w f c l m n)))
 
 -- ---- the steps of planning
 pub record ArrangedBy (s : List ℕ) (size : ℕ) (a : Arranged) : Type 0 where
@@ -256,3 +257,130 @@ module _ (s : List ℕ) (size text : ℕ) where
       pub rest-laid : {a : Arranged} {v : Layout} → plannedOf s size ≡ ok a → layout s size text (a .planned .columns) ≡ ok v
         → rest s size text ≡ ok (record { groups = srcGroups (dataGroups (a .source)) (a .numbers); planned = a .planned; laidOut = v })
       rest-laid e f = opened ∙ rw (e, f)
+
+-- ---- what the layout gives
+pub unlaid : (m m' : List ℕ) (r : Laid) (v : Checked Layout) {n p : ℕ} → Lays m m' r v → r ≡ laid.Refused n p → v ≡ refused n p
+unlaid m m' r v z e = subst (λ (r : Laid). Lays m m' r v) e z
+
+pub rest-in : (s : List ℕ) (size text : ℕ) → (size ≡ 0 → ⊥) → length s ≤ 4294967296 → {i nf nc no' : ℕ} {w f c w' f' c' : List ℕ} (t : PlannedIn s size i nf nc no' w f c w' f' c')
+  → {m m' : List ℕ} {r : Laid} {n : Numbers} → Lays m m' r (layout s size text (t .told .planned .columns)) → r ≡ laid.Done n
+  → RestIn s size text i nf nc no' n w f c m w' f' c' m'
+rest-in s size text h l t {m} {m'} {r} {n} z e =
+    let y : LaidOut m m' n (layout s size text (t .told .planned .columns)) = subst (λ (q : Laid). Lays m m' q (layout s size text (t .told .planned .columns))) e z in
+    let b = arranged-by s size (t .told) (t .is) in
+    record {
+      told = record { groups = srcGroups (dataGroups (t .told .source)) (t .told .numbers); planned = t .told .planned; laidOut = y .told };
+      is = rest-laid s size text h l (t .is) (y .is);
+      source = t .told .source;
+      walked = b .walked;
+      numbers = t .told .numbers;
+      counted = b .counted;
+      items = t .items;
+      fragments = t .fragments;
+      columns = t .columns;
+      omissions = t .omissions;
+      numbered = y .numbered;
+      inSource = t .inSource;
+      inFragments = t .inFragments;
+      inColumns = t .inColumns }
+
+-- ---- the whole
+module _ (a b c d : List ℕ) where
+  pub short-first : length a < 8192 → workIn (four a b c d) ≡ refused 1 0
+  unfolding workIn
+  short-first h = sym (lt-yes _ _ _ _ h refl)
+
+  pub short-second : 8192 ≤ length a → length b < 8192 → workIn (four a b c d) ≡ refused 1 0
+  unfolding workIn
+  short-second h i = sym (lt-no _ _ _ _ h (lt-yes _ _ _ _ i refl))
+
+  pub short-third : 8192 ≤ length a → 8192 ≤ length b → length c < 8192 → workIn (four a b c d) ≡ refused 1 0
+  unfolding workIn
+  short-third h i j = sym (lt-no _ _ _ _ h (lt-no _ _ _ _ i (lt-yes _ _ _ _ j refl)))
+
+  pub short-fourth : 8192 ≤ length a → 8192 ≤ length b → 8192 ≤ length c → length d < 8192 → workIn (four a b c d) ≡ refused 1 0
+  unfolding workIn
+  short-fourth h i j k = sym (lt-no _ _ _ _ h (lt-no _ _ _ _ i (lt-no _ _ _ _ j (lt-yes _ _ _ _ k refl))))
+
+  pub work-fine : 8192 ≤ length a → 8192 ≤ length b → 8192 ≤ length c → 8192 ≤ length d → workIn (four a b c d) ≡ fine
+  unfolding workIn
+  work-fine h i j k = sym (lt-no _ _ _ _ h (lt-no _ _ _ _ i (lt-no _ _ _ _ j (lt-no _ _ _ _ k refl))))
+
+pub short-work : (x : Args) {ws : List (List ℕ)} → workIn ws ≡ refused 1 0 → RefusedIn x 1 0 ws ws
+short-work x e = record { is = rw e; words = rw e }
+
+lent-same : (image : List ℕ) (size : ℕ) (ident text : List ℕ) → lentIn (untimed image size ident text) ≡ lentIn (untimed [] 0 ident text)
+unfolding lentIn
+lent-same image size ident text = refl
+
+module _ (image : List ℕ) (size : ℕ) (ident text : List ℕ) (ws : List (List ℕ)) (fits : workIn ws ≡ fine) (r : Check)
+  (e : verdictOf r ≡ lentIn (untimed [] 0 ident text)) where
+  abbrev x : Args
+  x = untimed image size ident text
+
+  lent-is : lentIn x ≡ verdictOf r
+  lent-is = lent-same image size ident text ∙ sym e
+
+  pub lent-refused : {n p : ℕ} → r ≡ check.Refused n p → RefusedIn x n p ws ws
+  unfolding decided
+  lent-refused {n} {p} q =
+      let k : lentIn x ≡ refused n p = lent-is ∙ rw q in
+      record { is = rw (fits, k); words = rw (fits, k) }
+
+  module _ (q : r ≡ check.Fine) where
+    lent-passes : lentIn x ≡ fine
+    lent-passes = lent-is ∙ rw q
+
+    decided-is : decided x ≡ rest image size (length text)
+    decided-is = decided-rest x ∙ rw lent-passes
+
+    pub text-fits : length text ≤ 4096
+    unfolding lentIn
+    text-fits =
+        let a = eq-first _ _ _ _ lent-passes refused≢ok in
+        let b = eq-first _ _ _ _ (a .1) refused≢ok in
+        let c = eq-first _ _ _ _ (b .1) refused≢ok in
+        lt-back _ _ _ _ (c .1) refused≢ok .0
+
+    pub rest-refused : {n p : ℕ} {ws' : List (List ℕ)} → rest image size (length text) ≡ refused n p → ws' ≡ zeros ws → RefusedIn x n p ws ws'
+    rest-refused k z = record { is = rw (fits, decided-is, k); words = z ∙ rw (fits, lent-passes) }
+
+    pub rest-decided : {i f k o : ℕ} {n : Numbers} {a b c d a' b' c' d' : List ℕ} → 8192 ≤ length a → 8192 ≤ length b → 8192 ≤ length c → 8192 ≤ length d
+      → RestIn image size (length text) i f k o n a b c d a' b' c' d' → DecidedIn x i f k o n a b c d a' b' c' d'
+    rest-decided la lb lc ld t =
+        record {
+          told = t .told;
+          is = decided-is ∙ t .is;
+          source = t .source;
+          walked = t .walked;
+          numbers = t .numbers;
+          counted = t .counted;
+          items = t .items;
+          fragments = t .fragments;
+          columns = t .columns;
+          omissions = t .omissions;
+          numbered = t .numbered;
+          longA = la;
+          longB = lb;
+          longC = lc;
+          longD = ld;
+          inSource = t .inSource;
+          inFragments = t .inFragments;
+          inColumns = t .inColumns }
+
+-- answers taken apart
+pub rests-refused : (s : List ℕ) (size text : ℕ) (a b c d : List ℕ) (r : Decision) (a' b' c' d' : List ℕ) {n p : ℕ}
+  → DecidesRest s size text a b c d r a' b' c' d' → r ≡ Refused n p → rest s size text ≡ refused n p
+rests-refused s size text a b c d r a' b' c' d' h e = subst (λ (r : Decision). DecidesRest s size text a b c d r a' b' c' d') e h
+
+pub cleared : (a b c d a' b' c' d' a'' b'' c'' d'' : List ℕ) → length a' ≡ length a → length b' ≡ length b → length c' ≡ length c → length d' ≡ length d
+  → a'' ≡ replicate (length a') 0 → b'' ≡ replicate (length b') 0 → c'' ≡ replicate (length c') 0 → d'' ≡ replicate (length d') 0
+  → four a'' b'' c'' d'' ≡ zeros (four a b c d)
+unfolding zeros
+cleared a b c d a' b' c' d' a'' b'' c'' d'' la lb lc ld e f g h = rw (e, f, g, h, la, lb, lc, ld)
+
+pub decides-some : (x : Args) (s : List ℕ) (size text : ℕ) (a b c d a' b' c' d' : List ℕ) (r : Decision) {i g k o : ℕ} {n : Numbers}
+  → DecidesRest s size text a b c d r a' b' c' d' → r ≡ Done i g k o n
+  → (RestIn s size text i g k o n a b c d a' b' c' d' → DecidedIn x i g k o n a b c d a' b' c' d') → Decides x a b c d r a' b' c' d'
+decides-some x s size text a b c d a' b' c' d' r h e f =
+    subst (λ (q : Decision). Decides x a b c d q a' b' c' d') (sym e) (f (subst (λ (q : Decision). DecidesRest s size text a b c d q a' b' c' d') e h))
