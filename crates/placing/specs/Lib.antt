@@ -18,3 +18,6 @@ pub mod ColumnsLaws
 pub mod Laying
 pub mod LayingLaws
 pub mod BoundedLaws
+pub mod Decision
+pub mod ClearLaws
+pub mod DecisionLaws

@@ -6,3 +6,4 @@ pub mod history;
 pub mod attachments;
 pub mod columns;
 pub mod layout;
+pub mod decide;

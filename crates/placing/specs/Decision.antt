@@ -1,0 +1,95 @@
+-- What is decided before anything is written, and how it stands in the work words.
+use Prim.Native.Nat.{ℕ, _≤_}
+use mathlib.Core.List.{List, [], _∷_, _++_}
+use mathlib.Core.Path.{_≡_}
+use lib.ListN.{length}
+use Rattle.base.specs.Blit.{blit}
+use Rattle.base.specs.Choice.{ifLt, ifEq}
+use Rattle.base.specs.Checked.{Checked, ok, refused, andThen, Verdict, fine}
+use Rattle.mdf.specs.Walk.{Source, walk}
+use Rattle.mdf.specs.Group.{dataGroups}
+use Rattle.mdf.specs.Count.{counts}
+use Rattle.mdf.specs.Words.{countsAt, laidItems, fragmentWords}
+use Rattle.plan.specs.Columns.{srcGroups}
+use Rattle.plan.specs.Layout.{layout}
+use Rattle.plan.specs.PlanWords.{signalFragments, laidPlan}
+use Rattle.result.specs.Result.{Args, Decided, lentIn, decided, workIn, zeros}
+use Rattle.planning.specs.Answer.{plannedOf}
+use Rattle.placing.specs.declared.layout.Numbers.{Numbers}
+use Rattle.placing.specs.Laying.{Numbered}
+use Rattle.placing.specs.declared.decide.Decision.{Decision}
+use Rattle.placing.specs.declared.decide.Decision.the-variants.{Refused, Done}
+
+-- a call's arguments but the time
+abbrev pub untimed : List ℕ → ℕ → List ℕ → List ℕ → Args
+untimed image size ident text = record { image = image; blockSize = size; ident = ident; text = text; time = 0 }
+
+-- the four work slices
+abbrev pub four : List ℕ → List ℕ → List ℕ → List ℕ → List (List ℕ)
+four a b c d = a ∷ b ∷ c ∷ d ∷ []
+
+-- all but the first: what is decided of the image, for a block size and a history text of n bytes
+unfoldable pub rest : List ℕ → ℕ → ℕ → Checked Decided
+rest s size n =
+    andThen (ifEq size 0 (refused 2 0) fine) (λ _.
+    andThen (ifLt 4294967296 (length s) (refused 3 0) fine) (λ _.
+    andThen (plannedOf s size) (λ a.
+    andThen (layout s size n (a .planned .columns)) (λ l.
+    ok (record { groups = srcGroups (dataGroups (a .source)) (a .numbers); planned = a .planned; laidOut = l })))))
+
+-- what was decided stands in the words: of reading, of the fragments, of the plan and of the layout (the numbers have the last), each laid over what they were
+pub record DecidedIn (x : Args) (i f k o : ℕ) (n : Numbers) (a b c d a' b' c' d' : List ℕ) : Type 0 where
+  pub told : Decided
+  pub is : decided x ≡ ok told
+  pub source : Source
+  pub walked : walk (x .image) ≡ ok source
+  pub numbers : List ℕ
+  pub counted : counts (x .image) (dataGroups source) ≡ ok numbers
+  pub items : i ≡ length (source .items)
+  pub fragments : f ≡ length (source .fragments)
+  pub columns : k ≡ length (told .planned .columns)
+  pub omissions : o ≡ length (told .planned .omissions)
+  pub numbered : Numbered (told .laidOut) d d' n
+  pub longA : 8192 ≤ length a
+  pub longB : 8192 ≤ length b
+  pub longC : 8192 ≤ length c
+  pub longD : 8192 ≤ length d
+  pub inSource : a' ≡ blit countsAt numbers (laidItems (source .items) a)
+  pub inFragments : b' ≡ blit 0 (fragmentWords (source .fragments ++ signalFragments (told .planned .columns))) b
+  pub inColumns : c' ≡ laidPlan (length (source .fragments)) (told .planned) c
+
+-- the same of all but the first
+pub record RestIn (s : List ℕ) (size text : ℕ) (i f k o : ℕ) (n : Numbers) (a b c d a' b' c' d' : List ℕ) : Type 0 where
+  pub told : Decided
+  pub is : rest s size text ≡ ok told
+  pub source : Source
+  pub walked : walk s ≡ ok source
+  pub numbers : List ℕ
+  pub counted : counts s (dataGroups source) ≡ ok numbers
+  pub items : i ≡ length (source .items)
+  pub fragments : f ≡ length (source .fragments)
+  pub columns : k ≡ length (told .planned .columns)
+  pub omissions : o ≡ length (told .planned .omissions)
+  pub numbered : Numbered (told .laidOut) d d' n
+  pub inSource : a' ≡ blit countsAt numbers (laidItems (source .items) a)
+  pub inFragments : b' ≡ blit 0 (fragmentWords (source .fragments ++ signalFragments (told .planned .columns))) b
+  pub inColumns : c' ≡ laidPlan (length (source .fragments)) (told .planned) c
+
+-- "Work slices are zero after every return except refusal 1, which changes nothing."
+abbrev pub workLeft : Verdict → List (List ℕ) → List (List ℕ)
+workLeft (refused number place) ws = ws
+workLeft (ok u) ws = zeros ws
+
+-- a refusal, and the words that it leaves
+pub record RefusedIn (x : Args) (number place : ℕ) (ws ws' : List (List ℕ)) : Type 0 where
+  pub is : andThen (workIn ws) (λ _. decided x) ≡ refused number place
+  pub words : ws' ≡ workLeft (andThen (workIn ws) (λ _. lentIn x)) ws
+
+abbrev pub Decides : Args → List ℕ → List ℕ → List ℕ → List ℕ → Decision → List ℕ → List ℕ → List ℕ → List ℕ → Type 0
+Decides x a b c d (Refused number place) a' b' c' d' = RefusedIn x number place (four a b c d) (four a' b' c' d')
+Decides x a b c d (Done items fragments columns omissions n) a' b' c' d' = DecidedIn x items fragments columns omissions n a b c d a' b' c' d'
+
+-- of all but the first; after a refusal the words are not said
+abbrev pub DecidesRest : List ℕ → ℕ → ℕ → List ℕ → List ℕ → List ℕ → List ℕ → Decision → List ℕ → List ℕ → List ℕ → List ℕ → Type 0
+DecidesRest s size text a b c d (Refused number place) a' b' c' d' = rest s size text ≡ refused number place
+DecidesRest s size text a b c d (Done items fragments columns omissions n) a' b' c' d' = RestIn s size text items fragments columns omissions n a b c d a' b' c' d'
