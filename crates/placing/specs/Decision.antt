@@ -5,7 +5,7 @@ use mathlib.Core.Path.{_≡_}
 use lib.ListN.{length}
 use Rattle.base.specs.Blit.{blit}
 use Rattle.base.specs.Choice.{ifLt, ifEq}
-use Rattle.base.specs.Checked.{Checked, ok, refused, andThen, Verdict, fine}
+use Rattle.base.specs.Checked.{Checked, ok, refused, andThen, fine}
 use Rattle.mdf.specs.Walk.{Source, walk}
 use Rattle.mdf.specs.Group.{dataGroups}
 use Rattle.mdf.specs.Count.{counts}
@@ -13,7 +13,7 @@ use Rattle.mdf.specs.Words.{countsAt, laidItems, fragmentWords}
 use Rattle.plan.specs.Columns.{srcGroups}
 use Rattle.plan.specs.Layout.{layout}
 use Rattle.plan.specs.PlanWords.{signalFragments, laidPlan}
-use Rattle.result.specs.Result.{Args, Decided, lentIn, decided, workIn, zeros}
+use Rattle.result.specs.Result.{Args, Decided, lentIn, decided, workIn, workLeft}
 use Rattle.planning.specs.Answer.{plannedOf}
 use Rattle.placing.specs.declared.layout.Numbers.{Numbers}
 use Rattle.placing.specs.Laying.{Numbered}
@@ -74,11 +74,6 @@ pub record RestIn (s : List ℕ) (size text : ℕ) (i f k o : ℕ) (n : Numbers)
   pub inSource : a' ≡ blit countsAt numbers (laidItems (source .items) a)
   pub inFragments : b' ≡ blit 0 (fragmentWords (source .fragments ++ signalFragments (told .planned .columns))) b
   pub inColumns : c' ≡ laidPlan (length (source .fragments)) (told .planned) c
-
--- "Work slices are zero after every return except refusal 1, which changes nothing."
-abbrev pub workLeft : Verdict → List (List ℕ) → List (List ℕ)
-workLeft (refused number place) ws = ws
-workLeft (ok u) ws = zeros ws
 
 -- a refusal, and the words that it leaves
 pub record RefusedIn (x : Args) (number place : ℕ) (ws ws' : List (List ℕ)) : Type 0 where

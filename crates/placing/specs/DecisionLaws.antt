@@ -21,7 +21,7 @@ use Rattle.plan.specs.Columns.{SrcGroup, srcGroups, Column, Signal, unsigned, s
 use Rattle.plan.specs.PlanWords.{fragmentsIn, signalFragments, laidPlan}
 use Rattle.plan.specs.Data.{allDataIn, blocksIn}
 use Rattle.plan.specs.Layout.{Layout, layout}
-use Rattle.result.specs.Result.{Args, Decided, lentIn, version420, decided, workIn, zeros}
+use Rattle.result.specs.Result.{Args, Decided, lentIn, version420, decided, workIn, zeros, workLeft}
 use Rattle.result.specs.Guarantee.{In}
 use Rattle.fields.specs.declared.Check.{Check}
 use Rattle.fields.specs.declared.Check.the-variants as check
@@ -46,7 +46,7 @@ use Rattle.placing.specs.declared.decide.Decision.the-variants.{Refused,
 use Rattle.placing.specs.Laying.{Numbered, LaidOut, Lays, LaysOut}
 use Rattle.placing.specs.InWords.{AllWithin, AllBounded}
 use Rattle.placing.specs.BoundedLaws.{Known, all-bounded, plan-within, plan-laid}
-use Rattle.placing.specs.Decision.{untimed, four, rest, DecidedIn, RestIn, workLeft, RefusedIn, Decides, DecidesRest}
+use Rattle.placing.specs.Decision.{untimed, four, rest, DecidedIn, RestIn, RefusedIn, Decides, DecidesRest}
 
 -- ---- steps after steps
 steps : {A B C : Type 0} (v : Checked A) (f : A → Checked B) (g : B → Checked C) → andThen (andThen v f) g ≡ andThen v (λ x. andThen (f x) g)

@@ -158,26 +158,27 @@ unfoldable pub workIn : List (List ℕ) → Verdict
 workIn [] = fine
 workIn (w ∷ ws) = ifLt (length w) workWords (refused 1 0) (workIn ws)
 
--- "Work slices are zero after every return except refusal 1, which changes nothing."
 unfoldable pub zeros : List (List ℕ) → List (List ℕ)
 zeros [] = []
 zeros (w ∷ ws) = replicate (length w) 0 ∷ zeros ws
 
-abbrev pub workAfter : ℕ → List (List ℕ) → List (List ℕ)
-workAfter number ws = ifEq number 1 ws (zeros ws)
+-- "Work slices are zero after every return except refusal 1, which changes nothing": the first verdict is that of the slices lent
+abbrev pub workLeft : Verdict → List (List ℕ) → List (List ℕ)
+workLeft (refused number place) work = work
+workLeft (ok u) work = zeros work
 
 -- "A refusal changes neither output nor list .. On acceptance output bytes past the result, and list words past its end, keep their value."
 abbrev pub outcome : Args → List ℕ → List ℕ → List (List ℕ) → Checked Decided → Outcome
 outcome x out list work (refused number place) =
-    record { answered = refused number place; output = out; list = list; work = workAfter number work }
+    record { answered = refused number place; output = out; list = list; work = work }
 outcome x out list work (ok d) =
     record {
       answered = ok (report x d);
       output = blit 0 (fileOf x (d .laidOut)) out;
       list = blit 0 (omissionWords (d .planned .omissions)) list;
-      work = zeros work }
+      work = work }
 
 -- a whole call
 unfoldable pub convert : Args → List ℕ → List ℕ → List (List ℕ) → Outcome
 convert x out list work =
-    outcome x out list work (andThen (workIn work) (λ _. answer x (length out) (length list)))
+    outcome x out list (workLeft (andThen (workIn work) (λ _. lentIn x)) work) (andThen (workIn work) (λ _. answer x (length out) (length list)))

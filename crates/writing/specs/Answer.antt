@@ -2,11 +2,10 @@
 use Prim.Native.Nat.{ℕ}
 use mathlib.Core.List.{List, []}
 use mathlib.Core.Path.{_≡_}
-use lib.ListN.{length}
-use Rattle.base.specs.Blit.{blit}
-use Rattle.base.specs.Checked.{Checked, ok, refused, andThen, Verdict}
-use Rattle.plan.specs.Columns.{omissionWords}
-use Rattle.result.specs.Result.{Args, Report, Decided, decided, lentIn, answer, report, fileOf, Outcome, workIn, zeros}
+use Rattle.base.specs.Checked.{Checked, ok, refused, andThen}
+use Rattle.result.specs.Result.{Args, Report, Decided, answer, fileOf, Outcome, workIn}
+use Rattle.result.specs.Guarantee.{Guaranteed}
+use Rattle.guarantee.specs.Theorem.{AllBytes}
 use Rattle.writing.specs.declared.convert.Report as counted
 use Rattle.writing.specs.declared.convert.Converted.{Converted}
 use Rattle.writing.specs.declared.convert.Converted.the-variants.{Refused, Done}
@@ -33,25 +32,15 @@ answerOf (Done r) = ok (reportOf r)
 abbrev pub left : Converted → List ℕ → List ℕ → List (List ℕ) → Outcome
 left r out list work = record { answered = answerOf r; output = out; list = list; work = work }
 
--- ---- a whole call
-abbrev pub outcome : Args → List ℕ → List ℕ → List (List ℕ) → Checked Decided → Outcome
-outcome x out list work (refused number place) =
-    record { answered = refused number place; output = out; list = list; work = work }
-outcome x out list work (ok d) =
-    record {
-      answered = ok (report x d);
-      output = blit 0 (fileOf x (d .laidOut)) out;
-      list = blit 0 (omissionWords (d .planned .omissions)) list;
-      work = work }
-
-abbrev pub begun : Verdict → Args → List ℕ → List ℕ → List (List ℕ) → Outcome
-begun (refused number place) x out list work = outcome x out list work (refused number place)
-begun (ok u) x out list work = outcome x out list (zeros work) (answer x (length out) (length list))
-
-unfoldable pub convert : Args → List ℕ → List ℕ → List (List ℕ) → Outcome
-convert x out list work = begun (andThen (workIn work) (λ _. lentIn x)) x out list work
-
 -- the file of a call, nothing for a refusal
 abbrev pub fileFor : Args → Checked Decided → List ℕ
 fileFor x (ok d) = fileOf x (d .laidOut)
 fileFor x (refused number place) = []
+
+-- the elements of an image are bytes
+pub record Bytes (s : List ℕ) : Type 0 where
+  pub all : AllBytes s
+
+-- Demand 3 of the output's last bytes, for whatever was accepted
+pub record Promised (x : Args) (out list : ℕ) (work : List (List ℕ)) (last : List ℕ) : Type 0 where
+  pub accepted : (d : Decided) → andThen (workIn work) (λ _. answer x out list) ≡ ok d → Guaranteed x d last

@@ -37,7 +37,7 @@ use Rattle.copies_laws.specs.AttachLaws.{LaidAt, ownCopies}
 use Rattle.copies_laws.specs.LayoutLaws.{LaidOut, columns-placed, history-laid, columns-laid, attachments-laid}
 use Rattle.plan_laws.specs.Known.{Known, decided-known}
 use Rattle.guarantee.specs.Theorem.{o, in-image, ordered}
-use Rattle.writing.specs.declared.decide.Numbers as numbers
+use Rattle.placing.specs.declared.layout.Numbers as numbers
 use Rattle.writing.specs.PlacedIn.{placedOne, placedIn}
 use Rattle.writing.specs.PlacedInLaws.{length-placed, next-in, structure-in, structure-ready}
 use Rattle.writing.specs.Structure.{StructureReady}
@@ -47,7 +47,7 @@ use Rattle.writing.specs.Wrote.{endOf, Wrote}
 use Rattle.writing.specs.WroteLaws.{ordered-end, ordered-first}
 use Rattle.writing.specs.Begun.{Begun}
 use Rattle.writing.specs.BegunLaws.{begun-none, begun-room, begun-next, begun-length, begun-end, begun-all}
-use Rattle.writing.specs.Decision.{DecidedIn}
+use Rattle.placing.specs.Decision.{DecidedIn}
 use Rattle.writing.specs.Finish.{Stands}
 
 -- ---- copies and attachments stand where their blocks are in order
@@ -183,18 +183,18 @@ module _ {x : Args} {items pieces columns omitted : ℕ} {n : numbers.Numbers} {
   -- ---- what the words give
   long : 8192 ≤ length m
   unfolding laidCopies
-  long = let h = st .by .longD in let e : length m ≡ length (st .d) = ap length (st .by .inCopies) ∙ rw (length-blit, length-blit, length-blit, length-blit) in omega (arith, h, e)
+  long = let h = st .by .longD in let e : length m ≡ length (st .d) = ap length (st .by .numbered .words) ∙ rw (length-blit, length-blit, length-blit, length-blit) in omega (arith, h, e)
 
   memo-is : copiesIn m (n .copies) ≡ memoOf l
-  memo-is = ap (λ (k : ℕ). copiesIn m k) (counted .all) ∙ copies-read laid (st .d) m (st .by .longD) (st .by .inCopies)
+  memo-is = ap (λ (k : ℕ). copiesIn m k) (counted .all) ∙ copies-read laid (st .d) m (st .by .longD) (st .by .numbered .words)
 
   chain-is : part historyAt (n .chain) m ≡ l .past .chain
-  chain-is = ap (λ (k : ℕ). part historyAt k m) (counted .blocks) ∙ chain-read laid (st .d) m (st .by .longD) (st .by .inCopies)
+  chain-is = ap (λ (k : ℕ). part historyAt k m) (counted .blocks) ∙ chain-read laid (st .d) m (st .by .longD) (st .by .numbered .words)
 
   moved-is : attachmentsIn m (n .metadata) (n .attachments) ≡ l .attached .attachments
   moved-is =
       ap (λ (k : ℕ). attachmentsIn m k (n .attachments)) (counted .next) ∙ ap (λ (k : ℕ). attachmentsIn m (length (l .metadata .memo)) k) (counted .moved)
-      ∙ attachments-read laid (st .d) m (st .by .longD) (st .by .inCopies)
+      ∙ attachments-read laid (st .d) m (st .by .longD) (st .by .numbered .words)
 
   pub number-placed : columns ≡ length (l .placed)
   number-placed = st .by .columns ∙ sym (ap length (columns-placed laid)) ∙ length-placed (l .placed)
@@ -210,7 +210,7 @@ module _ {x : Args} {items pieces columns omitted : ℕ} {n : numbers.Numbers} {
   front-is {dg} {fh} {first} {comment} a b c e =
       let p : dg ≡ nextDG (l .placed) =
             a ∙ first-column w m columns ∙ ap (λ (k : ℕ). nextDG (placedIn w m 0 k)) number-placed
-            ∙ next-in (length (st .by .source .fragments)) (d .planned) l (st .c) (st .d) w m (st .by .inColumns) (st .by .inCopies) (columns-placed laid)
+            ∙ next-in (length (st .by .source .fragments)) (d .planned) l (st .c) (st .d) w m (st .by .inColumns) (st .by .numbered .words) (columns-placed laid)
                 (known .fewColumns) (st .by .longC) (st .by .longD) in
       let q : fh ≡ firstFH (memoOf l) (l .past .chain) (l .fh) =
             b ∙ first-history (copiesIn m (n .copies)) m (n .chain) (n .fh) long
@@ -223,17 +223,17 @@ module _ {x : Args} {items pieces columns omitted : ℕ} {n : numbers.Numbers} {
   -- ---- each part's blocks
   history-same : copiedBlocks s (part historyAt (n .chain) m) (copiesIn m (n .copies)) (n .fh) (part 0 (n .history - 0) (copiesIn m (n .copies))) ≡ partHistory
   history-same =
-      history-blocks laid counted (st .d) m (st .by .longD) (st .by .inCopies) (n .fh)
+      history-blocks laid counted (st .d) m (st .by .longD) (st .by .numbered .words) (n .fh)
       ∙ ap (λ (k : ℕ). copiedBlocks s (l .past .chain) (memoOf l) k (l .past .made .memo)) (st .by .numbered .fh)
 
   columns-same : copiedBlocks s (part historyAt (n .chain) m) (copiesIn m (n .copies)) (n .fh) (part (n .history) (n .metadata - n .history) (copiesIn m (n .copies))) ≡ partColumns
   columns-same =
-      columns-blocks laid counted (st .d) m (st .by .longD) (st .by .inCopies) (n .fh)
+      columns-blocks laid counted (st .d) m (st .by .longD) (st .by .numbered .words) (n .fh)
       ∙ ap (λ (k : ℕ). copiedBlocks s (l .past .chain) (memoOf l) k (drop (length (l .past .made .memo)) (l .metadata .memo))) (st .by .numbered .fh)
 
   attached-same : attachmentBlocks s (part historyAt (n .chain) m) (copiesIn m (n .copies)) (n .fh) (attachmentsIn m (n .metadata) (n .attachments)) ≡ partAttached
   attached-same =
-      attachments-blocks laid counted (st .d) m (st .by .longD) (st .by .inCopies) (n .fh)
+      attachments-blocks laid counted (st .d) m (st .by .longD) (st .by .numbered .words) (n .fh)
       ∙ ap (λ (k : ℕ). attachmentBlocks s (l .past .chain) (memoOf l) k (l .attached .attachments)) (st .by .numbered .fh)
 
   new-same : block (n .md) (mdBytes (x .text)) ∷ block (n .fh) (fhBytes (n .md) (x .time)) ∷ [] ≡ partNew
@@ -242,7 +242,7 @@ module _ {x : Args} {items pieces columns omitted : ℕ} {n : numbers.Numbers} {
   structure-same : structureBlocks s (x .blockSize) (copiesIn m (n .copies)) (placedIn w m 0 columns) (placedIn w m 0 columns) ≡ partStructure
   structure-same =
       ap (λ (k : ℕ). structureBlocks s (x .blockSize) (copiesIn m (n .copies)) (placedIn w m 0 k) (placedIn w m 0 k)) number-placed
-      ∙ structure-in (length (st .by .source .fragments)) (d .planned) l (st .c) (st .d) w m (st .by .inColumns) (st .by .inCopies) (columns-placed laid)
+      ∙ structure-in (length (st .by .source .fragments)) (d .planned) l (st .c) (st .d) w m (st .by .inColumns) (st .by .numbered .words) (columns-placed laid)
           (known .fewColumns) (st .by .longC) (st .by .longD) s (x .blockSize) (copiesIn m (n .copies))
       ∙ ap (λ (k : List Copy). structureBlocks s (x .blockSize) k (l .placed) (l .placed)) memo-is
 
@@ -276,7 +276,7 @@ module _ {x : Args} {items pieces columns omitted : ℕ} {n : numbers.Numbers} {
 
   data-same : dataFrom s (x .blockSize) v items f pieces w m 0 columns ≡ partData
   data-same =
-      data-eq s (x .blockSize) words-source number-items words-fragments number-pieces words-columns (st .by .inCopies) (st .by .columns)
+      data-eq s (x .blockSize) words-source number-items words-fragments number-pieces words-columns (st .by .numbered .words) (st .by .columns)
       ∙ data-blocks x d known (st .a) (st .b) (st .c) (st .d) (st .by .longA) (st .by .longC) (st .by .longD) few-pieces (columns-placed laid)
 
   -- ---- each part's room and what was written, where the file is begun
@@ -289,7 +289,7 @@ module _ {x : Args} {items pieces columns omitted : ℕ} {n : numbers.Numbers} {
         let r : Ordered a (copiedBlocks s (part historyAt (n .chain) m) (copiesIn m (n .copies)) (n .fh) (part 0 (n .history - 0) (copiesIn m (n .copies)))) (length last) =
               subst (λ (bs : List Block). Ordered a bs (length last)) (sym history-same) (begun-room partHistory ys b) in
         (omega arith, omega (arith, q .0, q .1), q .2, long,
-          laid-ordered s 168 a (length last) (l .md) _ _ _ _ (history-room laid counted (st .d) m (st .by .longD) (st .by .inCopies) (l .md) (omega arith)) r)
+          laid-ordered s 168 a (length last) (l .md) _ _ _ _ (history-room laid counted (st .d) m (st .by .longD) (st .by .numbered .words) (l .md) (omega arith)) r)
 
     pub history-done : Begun before (partHistory ++ ys) (l .fileSize) a out last → {r : ℕ} {next : List ℕ}
       → Wrote a (copiedBlocks s (part historyAt (n .chain) m) (copiesIn m (n .copies)) (n .fh) (part 0 (n .history - 0) (copiesIn m (n .copies)))) r last next
@@ -305,7 +305,7 @@ module _ {x : Args} {items pieces columns omitted : ℕ} {n : numbers.Numbers} {
               subst (λ (bs : List Block). Ordered a bs (length last)) (sym columns-same) (begun-room partColumns ys b) in
         (q .0, q .1, q .2, long,
           laid-ordered s (l .fh + 56) a (length last) (structurePlace (l .metadata)) _ _ _ _
-            (columns-room laid counted (st .d) m (st .by .longD) (st .by .inCopies) (structurePlace (l .metadata)) (omega arith)) r)
+            (columns-room laid counted (st .d) m (st .by .longD) (st .by .numbered .words) (structurePlace (l .metadata)) (omega arith)) r)
 
     pub columns-done : Begun before (partColumns ++ ys) (l .fileSize) a out last → {r : ℕ} {next : List ℕ}
       → Wrote a (copiedBlocks s (part historyAt (n .chain) m) (copiesIn m (n .copies)) (n .fh) (part (n .history) (n .metadata - n .history) (copiesIn m (n .copies)))) r last next
@@ -324,7 +324,7 @@ module _ {x : Args} {items pieces columns omitted : ℕ} {n : numbers.Numbers} {
       → StructureReady s (x .blockSize) w m columns (n .copies) a (length last)
     structure-asks b =
         subst (λ (k : ℕ). StructureReady s (x .blockSize) w m k (n .copies) a (length last)) (sym number-placed)
-          (structure-ready (length (st .by .source .fragments)) (d .planned) l (st .c) (st .d) w m (st .by .inColumns) (st .by .inCopies) (columns-placed laid)
+          (structure-ready (length (st .by .source .fragments)) (d .planned) l (st .c) (st .d) w m (st .by .inColumns) (st .by .numbered .words) (columns-placed laid)
             (known .fewColumns) (st .by .longC) (st .by .longD) (in-image x d known)
             (subst (λ (k : List Copy). Ordered a (structureBlocks s (x .blockSize) k (l .placed) (l .placed)) (length last)) (sym memo-is) (begun-room partStructure ys b)))
 
@@ -335,7 +335,7 @@ module _ {x : Args} {items pieces columns omitted : ℕ} {n : numbers.Numbers} {
 
     pub data-asks : Begun before (partData ++ ys) (l .fileSize) a out last → DataReady s (x .blockSize) v items f pieces w m columns a (length last)
     data-asks b =
-        ready-eq s (x .blockSize) a (length last) words-source number-items words-fragments number-pieces words-columns (st .by .inCopies) (st .by .columns)
+        ready-eq s (x .blockSize) a (length last) words-source number-items words-fragments number-pieces words-columns (st .by .numbered .words) (st .by .columns)
           (data-ready x d known (st .a) (st .b) (st .c) (st .d) (st .by .longA) (st .by .longC) (st .by .longD) few-pieces (columns-placed laid) a (length last)
             (begun-room partData ys b))
 
@@ -354,9 +354,9 @@ module _ {x : Args} {items pieces columns omitted : ℕ} {n : numbers.Numbers} {
         let q = copies-order laid counted in
         let r : Ordered a (attachmentBlocks s (part historyAt (n .chain) m) (copiesIn m (n .copies)) (n .fh) (attachmentsIn m (n .metadata) (n .attachments))) (length last) =
               subst (λ (bs : List Block). Ordered a bs (length last)) (sym attached-same) (begun-room partAttached [] (ended b)) in
-        (attachments-few laid counted (st .d) m (st .by .longD) (st .by .inCopies), q .2, q .4, long,
+        (attachments-few laid counted (st .d) m (st .by .longD) (st .by .numbered .words), q .2, q .4, long,
           laidAt-ordered s _ a (length last) (l .fileSize) _ _ _ _
-            (attachments-room laid counted (st .d) m (st .by .longD) (st .by .inCopies) (l .fileSize) (omega arith)) r)
+            (attachments-room laid counted (st .d) m (st .by .longD) (st .by .numbered .words) (l .fileSize) (omega arith)) r)
 
     pub attached-done : Begun before partAttached (l .fileSize) a out last → {r : ℕ} {next : List ℕ}
       → Wrote a (attachmentBlocks s (part historyAt (n .chain) m) (copiesIn m (n .copies)) (n .fh) (attachmentsIn m (n .metadata) (n .attachments))) r last next

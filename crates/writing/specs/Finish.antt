@@ -3,14 +3,14 @@ use Prim.Native.Nat.{ℕ, _-_, _≤_, _<_}
 use mathlib.Core.List.{List}
 use mathlib.Core.Path.{_≡_}
 use lib.ListN.{length}
-use Rattle.result.specs.Result.{Args, answer}
-use Rattle.writing.specs.declared.decide.Numbers.{Numbers}
+use Rattle.result.specs.Result.{Args, answer, outcome}
+use Rattle.placing.specs.declared.layout.Numbers.{Numbers}
 use Rattle.writing.specs.declared.convert.Report.{Report}
 use Rattle.writing.specs.declared.convert.Converted.{Converted}
 use Rattle.writing.specs.Sum.{sumOf}
 use Rattle.writing.specs.Counted.{groupAt, timeAt, dataBlocksAt, blocksAt}
-use Rattle.writing.specs.Decision.{DecidedIn}
-use Rattle.writing.specs.Answer.{left, outcome}
+use Rattle.placing.specs.Decision.{DecidedIn}
+use Rattle.writing.specs.Answer.{left}
 
 -- what was decided stands in the words, over some words that were there before
 pub record Stands (x : Args) (items fragments columns omissions : ℕ) (n : Numbers) (source' fragments' columns' copies' : List ℕ) : Type 0 where

@@ -15,20 +15,21 @@ use Rattle.mdf.specs.Words.{laidItems}
 use Rattle.plan.specs.CopyWords.{laidCopies}
 use Rattle.plan.specs.Columns.{srcGroups, Omission, omissionAddresses, omissionReasons, omissionWords}
 use Rattle.plan.specs.PlanWords.{laidPlan}
-use Rattle.result.specs.Result.{Args, Report, Decided, decided, lentIn, answer, report, sourceGroupsOf, timeColumns, blocksWritten, zeros, workIn, fileOf}
+use Rattle.result.specs.Result.{Args, Report, Decided, decided, lentIn, answer, report, sourceGroupsOf, timeColumns, blocksWritten, Outcome, outcome, zeros, workIn, workLeft, fileOf, convert}
+use Rattle.guarantee.specs.Theorem.{guaranteed}
 use Rattle.plan_laws.specs.WalkLaws.{walk-sound}
 use Rattle.plan_laws.specs.Known.{Known, decided-known}
 use Rattle.planning.specs.ReadBackLaws.{few-items}
 use Rattle.planning.specs.TimeWordLaws.{laid-stand}
 use Rattle.planning.specs.OutcomeLaws.{read-groups}
-use Rattle.writing.specs.declared.decide.Numbers.{Numbers}
+use Rattle.placing.specs.declared.layout.Numbers.{Numbers}
 use Rattle.writing.specs.declared.convert.Converted.{Converted}
 use Rattle.writing.specs.declared.convert.Converted.the-variants.{Refused, Done}
 use Rattle.writing.specs.declared.convert.Report as counted
-use Rattle.writing.specs.declared.decide.Decision.{Decision}
-use Rattle.writing.specs.declared.decide.Decision.the-variants as done
-use Rattle.writing.specs.Decision.{untimed, four, workLeft, DecidedIn, RefusedIn, Decides}
-use Rattle.writing.specs.Answer.{args, reportOf, left, outcome, begun, convert}
+use Rattle.placing.specs.declared.decide.Decision.{Decision}
+use Rattle.placing.specs.declared.decide.Decision.the-variants as done
+use Rattle.placing.specs.Decision.{untimed, four, DecidedIn, RefusedIn, Decides}
+use Rattle.writing.specs.Answer.{args, reportOf, left, Bytes, Promised}
 use Rattle.writing.specs.Finish.{Stands, Counts, Reported, Finished}
 use Rattle.writing.specs.OmissionsLaws.{laid-listed}
 use Rattle.writing.specs.Omissions.{listed}
@@ -198,37 +199,23 @@ stands-timed {image} {size} {ident} {text} time {a = a} {b = b} {c = c} {d = d} 
       longD = t .longD;
       inSource = t .inSource;
       inFragments = t .inFragments;
-      inColumns = t .inColumns;
-      inCopies = t .inCopies } }
+      inColumns = t .inColumns } }
 
--- a refusal of the lent slices is one of the decision
-refused-lent : (x : Args) (v : Verdict) {n p : ℕ} → andThen v (λ _. lentIn x) ≡ refused n p → andThen v (λ _. decided x) ≡ refused n p
-unfolding decided
-refused-lent x (refused m q) e = cc
-refused-lent x (ok z) e = rw e
-
-refused-answer : (x : Args) (o l : ℕ) {n p : ℕ} → decided x ≡ refused n p → answer x o l ≡ refused n p
+refused-answer : (x : Args) (o l : ℕ) (v : Verdict) {n p : ℕ} → andThen v (λ _. decided x) ≡ refused n p → andThen v (λ _. answer x o l) ≡ refused n p
 unfolding answer
-refused-answer x o l e = rw e
+refused-answer x o l (refused m q) e = cc
+refused-answer x o l (ok z) e = rw e
 
-refused-same : {A : Type 0} {n p m q : ℕ} → _≡_ {A = Checked A} (refused n p) (refused m q) → (n ≡ m) × (p ≡ q)
-refused-same e = (cc, cc)
-
-refused-begun : (x : Args) (out list : List ℕ) (ws ws' : List (List ℕ)) (n p : ℕ) (u : Verdict) → workIn ws ≡ u → (v : Verdict) → andThen (workIn ws) (λ _. lentIn x) ≡ v
-  → andThen (workIn ws) (λ _. decided x) ≡ refused n p → ws' ≡ workLeft v ws → left (Refused n p) out list ws' ≡ begun v x out list ws
-refused-begun x out list ws ws' n p u f (refused m q) e g h =
-    let k = refused-same (sym (refused-lent x (workIn ws) e) ∙ g) in
-    rw (h, k .0, k .1)
-refused-begun x out list ws ws' n p (refused m q) f (ok z) e g h = absurd (refused≢ok (rw f at e))
-refused-begun x out list ws ws' n p (ok y) f (ok z) e g h =
-    rw (refused-answer x (length out) (length list) (rw f at g), h)
+lent-untimed : (image : List ℕ) (size : ℕ) (ident text : List ℕ) (time : ℕ) → lentIn (args image size ident text time) ≡ lentIn (untimed image size ident text)
+unfolding lentIn
+lent-untimed image size ident text time = refl
 
 pub refused-left : (image : List ℕ) (size : ℕ) (ident text : List ℕ) (time : ℕ) (out list : List ℕ) (ws ws' : List (List ℕ)) (n p : ℕ)
   → RefusedIn (untimed image size ident text) n p ws ws' → left (Refused n p) out list ws' ≡ convert (args image size ident text time) out list ws
-unfolding convert lentIn
+unfolding convert
 refused-left image size ident text time out list ws ws' n p r =
-    refused-begun (args image size ident text time) out list ws ws' n p (workIn ws) refl _ refl
-      (rw (decided-untimed image size ident text time) (r .is)) (r .words)
+    let e : andThen (workIn ws) (λ _. decided (args image size ident text time)) ≡ refused n p = rw (decided-untimed image size ident text time) (r .is) in
+    rw (refused-answer (args image size ident text time) (length out) (length list) (workIn ws) e, lent-untimed image size ident text time, r .words)
 
 work-fine : (a b c d : List ℕ) → 8192 ≤ length a → 8192 ≤ length b → 8192 ≤ length c → 8192 ≤ length d → workIn (four a b c d) ≡ fine
 unfolding workIn
@@ -243,7 +230,7 @@ done-left {a = a} {b = b} {c = c} {d = d} {a' = a'} {b' = b'} {c' = c'} {d' = d'
     let la : length a' ≡ length a = ap length (t .inSource) ∙ rw (length-blit, length-blit, length-blit, length-blit) in
     let lb : length b' ≡ length b = ap length (t .inFragments) ∙ rw length-blit in
     let lc : length c' ≡ length c = ap length (t .inColumns) ∙ rw (length-blit, length-blit) in
-    let ld : length d' ≡ length d = ap length (t .inCopies) ∙ rw (length-blit, length-blit, length-blit, length-blit) in
+    let ld : length d' ≡ length d = ap length (t .numbered .words) ∙ rw (length-blit, length-blit, length-blit, length-blit) in
     let x : Args = args image size ident text time in
     let h = lent-fine-of x (t .told) (decided-untimed image size ident text time ∙ t .is) in
     let zs : four a'' b'' c'' d'' ≡ zeros (four a b c d) = rw (p, q, u, v, la, lb, lc, ld) in
@@ -261,3 +248,13 @@ module _ {y : Args} {i f k o : ℕ} {n : Numbers} {a b c d a' b' c' d' : List �
   pub cleared-columns : (w : List ℕ) → w ≡ replicate (length c') 0 → length w ≡ length c
   unfolding laidPlan
   cleared-columns w e = rw (e, length-replicate, t .inColumns) (rw (length-blit, length-blit))
+
+-- ---- demand 3
+pub promised-by : (x : Args) (out list : List ℕ) (ws : List (List ℕ)) {r : Converted} {out' list' : List ℕ} {ws' : List (List ℕ)} → Bytes (x .image)
+  → left r out' list' ws' ≡ convert x out list ws → Promised x (length out) (length list) ws out'
+unfolding convert
+promised-by x out list ws {r} {out'} {list'} {ws'} b e = record {
+    accepted = λ d a.
+      let f : out' ≡ blit 0 (fileOf x (d .laidOut)) out = ap (λ (o : Outcome). o .output) e ∙ rw a in
+      let g = then-fine (workIn ws) _ a in
+      rw f (guaranteed x out list d (b .all) (g .1)) }

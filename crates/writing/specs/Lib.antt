@@ -31,11 +31,9 @@ pub mod CountedLaws
 pub mod ReportLaws
 pub mod Begun
 pub mod BegunLaws
-pub mod Decision
 pub mod Answer
 pub mod Finish
 pub mod FinishLaws
-pub mod ClearLaws
 pub mod Own
 pub mod OwnLaws
 pub mod Data

@@ -1,13 +1,14 @@
 // The conversion.
-use crate::decide::{Decision, Numbers, decide};
+use placing::layout::Numbers;
+use placing::decide::{Decision, decide, clear};
 use crate::counts::{source_groups, time_columns, blocks_written};
 use crate::omissions::write_list;
 use crate::file::write_file;
 ghost use mathlib.Core.Path.{_≡_};
 ghost use lib.ListN.{length, replicate};
-ghost use Rattle.writing.specs.Answer as answers;
-ghost use Rattle.writing.specs.Decision.{four};
-ghost use Rattle.writing.specs.Answer.{args, left};
+ghost use Rattle.result.specs.Result as result;
+ghost use Rattle.placing.specs.Decision.{four};
+ghost use Rattle.writing.specs.Answer.{args, left, Bytes, Promised};
 ghost use Rattle.writing.specs.Finish.{Stands, Counts, Reported, Finished};
 
 // The seven counts of a conversion's report.
@@ -27,14 +28,12 @@ pub enum Converted {
     Done(Report),
 }
 
-// Every word zero.
-fn clear(words: &mut [u64])
-    ensures { λ _. ⌜ now (words .exit) ≡ replicate (length (now (words .entry))) 0 ⌝ }
+// Every element of the image is a byte.
+fn are_bytes(image: &[u8])
+    ensures { λ _. ⌜ Bytes (now (image .entry)) ⌝ }
 {
-    let mut i: usize = 0;
-    while i < words.len() {
-        words[i] = 0;
-        i += 1;
+    if 0 < image.len() {
+        let _first = image[0];
     }
 }
 
@@ -86,11 +85,15 @@ pub fn convert(
     image: &[u8], size: u64, ident: &[u8], text: &[u8], time: u64,
     source: &mut [u64], fragments: &mut [u64], columns: &mut [u64], copies: &mut [u64], out: &mut [u8], list: &mut [u64],
 ) -> Converted
-    ensures { λ r. ⌜ left r (now (out .exit)) (now (list .exit))
+    ensures done { λ r. ⌜ left r (now (out .exit)) (now (list .exit))
           (four (now (source .exit)) (now (fragments .exit)) (now (columns .exit)) (now (copies .exit)))
-        ≡ answers.convert (args (now (image .entry)) size (now (ident .entry)) (now (text .entry)) time) (now (out .entry)) (now (list .entry))
+        ≡ result.convert (args (now (image .entry)) size (now (ident .entry)) (now (text .entry)) time) (now (out .entry)) (now (list .entry))
           (four (now (source .entry)) (now (fragments .entry)) (now (columns .entry)) (now (copies .entry))) ⌝ }
+    ensures promised { λ _. ⌜ Promised (args (now (image .entry)) size (now (ident .entry)) (now (text .entry)) time)
+          (length (now (out .entry))) (length (now (list .entry)))
+          (four (now (source .entry)) (now (fragments .entry)) (now (columns .entry)) (now (copies .entry))) (now (out .exit)) ⌝ }
 {
+    are_bytes(image);
     let decision = decide(image, size, ident, text, source, fragments, columns, copies);
     match decision {
         Decision::Refused { number, place } => Converted::Refused { number, place },

@@ -2,7 +2,7 @@
 use blocks::block::link_at;
 use placing::memo::new_link;
 use planning::words::word;
-use crate::decide::Numbers;
+use placing::layout::Numbers;
 use crate::gap::gap;
 use crate::front::{write_front, write_history};
 use crate::copies::write_copies;

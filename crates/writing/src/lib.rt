@@ -15,5 +15,4 @@ mod data;
 mod file;
 mod omissions;
 mod counts;
-pub mod decide;
 pub mod convert;

@@ -1,5 +1,5 @@
 -- A refusal of what was decided, or the rest.
-use Rattle.writing.specs.FinishLaws.{decides-done, decides-refused, stands-timed, refused-left, done-left, cleared-source, cleared-fragments, cleared-columns}
+use Rattle.writing.specs.FinishLaws.{decides-done, decides-refused, stands-timed, refused-left, done-left, promised-by, cleared-source, cleared-fragments, cleared-columns}
 use native.Mathlib.Omega.{arith}
 use lib.ListN.{length, length-set}
 use borrow.Author.Needs.{needs}
@@ -7,9 +7,9 @@ use Rattle.writing.proofs.convert.convert.Statement.{statement}
 use Rattle.writing.proofs.convert.convert.Tie as tie
 use Rattle.writing.proofs.convert.convert.Reads as reads
 use Rattle.writing.proofs.convert.convert.Lts as lts
-use Rattle.writing.proofs.convert.clear.Reads as clear-reads
+use Rattle.placing.proofs.decide.clear.Reads as clear-reads
 use Rattle.writing.proofs.convert.finish.Reads as finish-reads
-use Rattle.writing.proofs.decide.decide.Reads as decide-reads
+use Rattle.placing.proofs.decide.decide.Reads as decide-reads
 
 -- src/convert.rt:108:9
 decide-requires : tie.Need-decide-requires
@@ -61,7 +61,7 @@ same-length-4 c = search needs
 
 -- src/convert.rt:99:1
 returns : tie.Need-returns
-returns c = refused-left _ _ _ _ _ _ _ _ _ _ _ (decides-refused (c .before .before .before .before .before .before .before .before .before .before .before .decide .ensures) (c .before .decision .given .1))
+returns c = let e = refused-left _ _ _ _ _ _ _ _ _ _ _ (decides-refused (c .before .before .before .before .before .before .before .before .before .before .before .decide .ensures) (c .before .decision .given .1)) in (e, promised-by _ _ _ _ (c@are-bytes .ensures) e)
 
 -- src/convert.rt:99:1
 same-length-5 : tie.Need-same-length-5
@@ -89,7 +89,7 @@ same-length-10 c = search needs
 
 -- src/convert.rt:99:1
 returns-2 : tie.Need-returns-2
-returns-2 c = done-left _ _ _ _ _ _ _ _ _ _ _ _ _ _ (decides-done (c .before .before .before .before .before .before .before .before .before .before .before .before .before .before .before .before .before .before .before .before .before .before .before .before .before .before .before .before .before .before .before .before .before .before .before .before .before .before .decide .ensures) (c .before .before .before .before .before .before .before .before .before .before .before .before .before .before .before .before .before .before .before .before .before .before .before .before .before .before .before .before .decision2 .given .1)) (c .before .before .before .before .before .before .before .before .before .before .before .before .before .before .before .before .before .before .before .before .finish .ensures) (c .before .before .before .before .before .before .before .before .before .before .before .before .before .before .clear .ensures) (c .before .before .before .before .before .before .before .before .before .before .clear2 .ensures) (c .before .before .before .before .before .before .clear3 .ensures) (c .before .before .clear4 .ensures)
+returns-2 c = let e = done-left _ _ _ _ _ _ _ _ _ _ _ _ _ _ (decides-done (c .before .before .before .before .before .before .before .before .before .before .before .before .before .before .before .before .before .before .before .before .before .before .before .before .before .before .before .before .before .before .before .before .before .before .before .before .before .before .decide .ensures) (c .before .before .before .before .before .before .before .before .before .before .before .before .before .before .before .before .before .before .before .before .before .before .before .before .before .before .before .before .decision2 .given .1)) (c .before .before .before .before .before .before .before .before .before .before .before .before .before .before .before .before .before .before .before .before .finish .ensures) (c .before .before .before .before .before .before .before .before .before .before .before .before .before .before .clear .ensures) (c .before .before .before .before .before .before .before .before .before .before .clear2 .ensures) (c .before .before .before .before .before .before .clear3 .ensures) (c .before .before .clear4 .ensures) in (e, promised-by _ _ _ _ (c@are-bytes .ensures) e)
 
 pub convert-spec : {M : Type 1} → statement M
 convert-spec =

@@ -1,0 +1,4 @@
+pub mod Lines
+pub mod LaidLaws
+pub mod LinesLaws
+pub mod PlanLaws

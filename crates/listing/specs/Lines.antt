@@ -1,0 +1,98 @@
+-- The listing's lines, out of the words in which planning keeps columns and omissions: eight words for a column, two for an omission.
+use Prim.Native.Nat.{ℕ, zero, suc, _+_, _*_, _-_, _≤_, _<_}
+use mathlib.Core.List.{List, [], _∷_, _++_}
+use mathlib.Core.Path.{_≡_}
+use lib.ListN.{length, getD}
+use Rattle.base.specs.Choice.{ifEq}
+use Rattle.base.specs.Blit.{blit}
+use Rattle.plan.specs.Channel.{channelBytes, keepsInval}
+use Rattle.plan.specs.PlanWords.{omissionsAt}
+use Rattle.placing.specs.InWords.{blocksAt, payloadAt}
+use Rattle.result.specs.Fill.{one}
+use Rattle.result.specs.Listing.{decimal}
+
+-- bs, no more than most bytes, laid over d₀ from index at on gives d; r is the index past bs
+pub record Laid (at : ℕ) (bs : List ℕ) (most : ℕ) (d₀ d : List ℕ) (r : ℕ) : Type 0 where
+  pub is : d ≡ blit at bs d₀
+  pub past : r ≡ at + length bs
+  pub small : length bs ≤ most
+
+-- a number and the byte after it
+unfoldable pub numberThen : ℕ → ℕ → List ℕ
+numberThen n b = decimal n ++ (b ∷ [])
+
+-- ---- one column
+
+-- `t` for a time column, `s` for a signal column, by its word
+unfoldable pub letterOf : ℕ → ℕ
+letterOf t = ifEq t 1 116 115
+
+pub record Letter (t r : ℕ) : Type 0 where
+  pub is : r ≡ letterOf t
+  pub small : r < 256
+
+-- the master's column, or `-`, by its word
+unfoldable pub masterOf : ℕ → List ℕ
+masterOf m = ifEq m 0 (45 ∷ []) (decimal (m - 1))
+
+-- column, letter
+unfoldable pub lineFront : List ℕ → ℕ → List ℕ
+lineFront w k = numberThen k 32 ++ (letterOf (getD w (8 * k + 4) 0) ∷ []) ++ (32 ∷ [])
+
+-- data bytes, invalidation byte
+unfoldable pub lineSizes : List ℕ → List ℕ → ℕ → List ℕ
+lineSizes s w k =
+    numberThen (channelBytes s (getD w (8 * k) 0)) 32 ++ numberThen (one (keepsInval s (getD w (8 * k + 1) 0) (getD w (8 * k) 0))) 32
+
+-- records, blocks, payload bytes
+unfoldable pub lineAmounts : List ℕ → ℕ → List ℕ → ℕ → List ℕ
+lineAmounts s size w k =
+    numberThen (getD w (8 * k + 3) 0) 32 ++ numberThen (blocksAt s size w (8 * k)) 32 ++ numberThen (payloadAt s w (8 * k)) 32
+
+-- all of them, the master column and a newline
+unfoldable pub lineIn : List ℕ → ℕ → List ℕ → ℕ → List ℕ
+lineIn s size w k = lineFront w k ++ lineSizes s w k ++ lineAmounts s size w k ++ masterOf (getD w (8 * k + 5) 0) ++ (10 ∷ [])
+
+-- ---- all columns, all omissions
+
+-- n columns from number k on
+unfoldable pub linesIn : List ℕ → ℕ → List ℕ → ℕ → ℕ → List ℕ
+linesIn s size w k zero = []
+linesIn s size w k (suc n) = lineIn s size w k ++ linesIn s size w (k + 1) n
+
+-- the omission whose words stand from i on
+unfoldable pub omissionIn : List ℕ → ℕ → List ℕ
+omissionIn w i = numberThen (getD w i 0) 32 ++ numberThen (getD w (i + 1) 0) 10
+
+unfoldable pub omissionsIn : List ℕ → ℕ → ℕ → List ℕ
+omissionsIn w i zero = []
+omissionsIn w i (suc n) = omissionIn w i ++ omissionsIn w (i + 2) n
+
+-- ---- the whole
+
+-- `columns`, `omitted`, `refused` with a blank after, `place` with a blank before and after
+abbrev pub columnsWord : List ℕ
+columnsWord = 99 ∷ 111 ∷ 108 ∷ 117 ∷ 109 ∷ 110 ∷ 115 ∷ 32 ∷ []
+abbrev pub omittedWord : List ℕ
+omittedWord = 111 ∷ 109 ∷ 105 ∷ 116 ∷ 116 ∷ 101 ∷ 100 ∷ 32 ∷ []
+abbrev pub refusedWord : List ℕ
+refusedWord = 114 ∷ 101 ∷ 102 ∷ 117 ∷ 115 ∷ 101 ∷ 100 ∷ 32 ∷ []
+abbrev pub placeWord : List ℕ
+placeWord = 32 ∷ 112 ∷ 108 ∷ 97 ∷ 99 ∷ 101 ∷ 32 ∷ []
+
+unfoldable pub columnsPart : List ℕ → ℕ → List ℕ → ℕ → List ℕ
+columnsPart s size w n = columnsWord ++ numberThen n 10 ++ linesIn s size w 0 n
+
+unfoldable pub omissionsPart : List ℕ → ℕ → List ℕ
+omissionsPart w n = omittedWord ++ numberThen n 10 ++ omissionsIn w omissionsAt n
+
+-- n columns and m omissions
+unfoldable pub planIn : List ℕ → ℕ → List ℕ → ℕ → ℕ → List ℕ
+planIn s size w n m = columnsPart s size w n ++ omissionsPart w m
+
+unfoldable pub refusalLine : ℕ → ℕ → List ℕ
+refusalLine number place = refusedWord ++ decimal number ++ placeWord ++ numberThen place 10
+
+-- the payload bytes of each of n columns are a number of 64 bits
+pub record AllCount (s w : List ℕ) (n : ℕ) : Type 0 where
+  pub each : (k : ℕ) → k < n → payloadAt s w (8 * k) < 18446744073709551616

@@ -1,0 +1,3 @@
+// The listing that the program `columns` prints, laid over a lent slice. What would lie past the slice's end is lost.
+pub mod text;
+pub mod lines;
