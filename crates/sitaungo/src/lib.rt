@@ -1,0 +1,51 @@
+// The conversion, for programs that link it.
+use writing::convert::{Converted, convert};
+ghost use mathlib.Core.Path.{_≡_};
+ghost use lib.ListN.{length};
+ghost use Rattle.result.specs.Result as result;
+ghost use Rattle.placing.specs.Decision.{four};
+ghost use Rattle.writing.specs.Answer.{args, Promised};
+ghost use Rattle.sitaungo.specs.Answer.{left};
+
+// Whether the recording was accepted; document 01's refusal with number and place where it was not; the report's seven counts where it was.
+#[repr(C)]
+pub struct Outcome {
+    pub accepted: bool,
+    pub number: u64,
+    pub place: u64,
+    pub source_groups: u64,
+    pub time_groups: u64,
+    pub signal_groups: u64,
+    pub shared_time_groups: u64,
+    pub data_blocks: u64,
+    pub metadata_size: u64,
+    pub file_size: u64,
+}
+
+// One recording into one file: `convert` of the crate writing.
+#[no_mangle]
+pub extern "C" fn sitaungo_convert(
+    image: &[u8], size: u64, ident: &[u8], text: &[u8], time: u64,
+    source: &mut [u64], fragments: &mut [u64], columns: &mut [u64], copies: &mut [u64], out: &mut [u8], list: &mut [u64],
+) -> Outcome
+    ensures done { λ r. ⌜ left r (now (out .exit)) (now (list .exit))
+          (four (now (source .exit)) (now (fragments .exit)) (now (columns .exit)) (now (copies .exit)))
+        ≡ result.convert (args (now (image .entry)) size (now (ident .entry)) (now (text .entry)) time) (now (out .entry)) (now (list .entry))
+          (four (now (source .entry)) (now (fragments .entry)) (now (columns .entry)) (now (copies .entry))) ⌝ }
+    ensures promised { λ _. ⌜ Promised (args (now (image .entry)) size (now (ident .entry)) (now (text .entry)) time)
+          (length (now (out .entry))) (length (now (list .entry)))
+          (four (now (source .entry)) (now (fragments .entry)) (now (columns .entry)) (now (copies .entry))) (now (out .exit)) ⌝ }
+{
+    let answer = convert(image, size, ident, text, time, source, fragments, columns, copies, out, list);
+    match answer {
+        Converted::Refused { number, place } => Outcome {
+            accepted: false, number, place,
+            source_groups: 0, time_groups: 0, signal_groups: 0, shared_time_groups: 0, data_blocks: 0, metadata_size: 0, file_size: 0,
+        },
+        Converted::Done(r) => Outcome {
+            accepted: true, number: 0, place: 0,
+            source_groups: r.source_groups, time_groups: r.time_groups, signal_groups: r.signal_groups,
+            shared_time_groups: r.shared_time_groups, data_blocks: r.data_blocks, metadata_size: r.metadata_size, file_size: r.file_size,
+        },
+    }
+}
