@@ -1,5 +1,5 @@
 -- The listing of a whole call: what is written, and what the work slices are left with.
-use Prim.Native.Nat.{ℕ, _+_, _*_}
+use Prim.Native.Nat.{ℕ, _+_, _*_, _≤_}
 use mathlib.Core.List.{List}
 use mathlib.Core.Path.{_≡_}
 use lib.ListN.{length}
@@ -19,8 +19,9 @@ answerIn s size w n m bytes out list =
 abbrev pub listingOf : Args → ℕ → ℕ → List (List ℕ) → List ℕ
 listingOf x out list ws = listing x (andThen (workIn ws) (λ _. answer x out list))
 
--- it stands at the front of the lines, r is its length; the slices are as after a conversion
+-- it stands at the front of the lines, r is its length, 119,354 at most; the slices are as after a conversion
 pub record Listed (x : Args) (out list : ℕ) (ws : List (List ℕ)) (lines : List ℕ) (r : ℕ) (lines' : List ℕ) (ws' : List (List ℕ)) : Type 0 where
   pub is : lines' ≡ blit 0 (listingOf x out list ws) lines
   pub long : r ≡ length (listingOf x out list ws)
+  pub small : r ≤ 119354
   pub words : ws' ≡ workLeft (andThen (workIn ws) (λ _. lentIn x)) ws

@@ -152,6 +152,7 @@ module _ {x : Args} {i f k o : ℕ} {n : Numbers} {a b c d a' b' c' d' : List �
       record {
         is = rw w (y .is);
         long = rw w (rw zero-add at (y .past));
+        small = omega (arith, y .past, y .small);
         words = rw (w, lent-fine) zs }
 
 -- ---- a refusal before anything was decided
@@ -168,4 +169,5 @@ refused-listed {x} {n} {p} {ws} out list t z =
     record {
       is = rw e (y .is);
       long = rw e (y .past ∙ zero-add _);
+      small = omega (arith, z .past, z .small);
       words = t .words }
