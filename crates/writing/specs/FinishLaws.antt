@@ -250,11 +250,16 @@ module _ {y : Args} {i f k o : ℕ} {n : Numbers} {a b c d a' b' c' d' : List �
   cleared-columns w e = rw (e, length-replicate, t .inColumns) (rw (length-blit, length-blit))
 
 -- ---- demand 3
-pub promised-by : (x : Args) (out list : List ℕ) (ws : List (List ℕ)) {r : Converted} {out' list' : List ℕ} {ws' : List (List ℕ)} → Bytes (x .image)
-  → left r out' list' ws' ≡ convert x out list ws → Promised x (length out) (length list) ws out'
+pub promised-by : (x : Args) (out list : List ℕ) (ws : List (List ℕ)) {y : Outcome} → Bytes (x .image)
+  → y ≡ convert x out list ws → Promised x (length out) (length list) ws (y .output)
 unfolding convert
-promised-by x out list ws {r} {out'} {list'} {ws'} b e = record {
+promised-by x out list ws {y} b e = record {
     accepted = λ d a.
-      let f : out' ≡ blit 0 (fileOf x (d .laidOut)) out = ap (λ (o : Outcome). o .output) e ∙ rw a in
+      let f : y .output ≡ blit 0 (fileOf x (d .laidOut)) out = ap (λ (o : Outcome). o .output) e ∙ rw a in
       let g = then-fine (workIn ws) _ a in
       rw f (guaranteed x out list d (b .all) (g .1)) }
+
+-- an empty image has no other elements
+pub none-bytes : (s : List ℕ) → length s ≤ 0 → Bytes s
+none-bytes [] h = record { all = λ i. omega arith }
+none-bytes (a ∷ s) h = absurd (omega arith)

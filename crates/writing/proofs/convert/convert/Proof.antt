@@ -12,6 +12,9 @@ use Rattle.writing.proofs.convert.finish.Reads as finish-reads
 use Rattle.placing.proofs.decide.decide.Reads as decide-reads
 
 -- src/convert.rt:108:9
+are-bytes-requires : tie.Need-are-bytes-requires
+are-bytes-requires c κs = search needs
+
 decide-requires : tie.Need-decide-requires
 decide-requires c κs = search needs
 
@@ -61,7 +64,7 @@ same-length-4 c = search needs
 
 -- src/convert.rt:99:1
 returns : tie.Need-returns
-returns c = let e = refused-left _ _ _ _ _ _ _ _ _ _ _ (decides-refused (c .before .before .before .before .before .before .before .before .before .before .before .decide .ensures) (c .before .decision .given .1)) in (e, promised-by _ _ _ _ (c@are-bytes .ensures) e)
+returns c = let e = refused-left _ _ _ _ _ _ _ _ _ _ _ (decides-refused (c .before .before .before .before .before .before .before .before .before .before .before .decide .ensures) (c .before .decision .given .1)) in (e, promised-by _ _ _ _ (c .before .before .before .before .before .before .before .before .before .before .before .before .before .before .before .before .are-bytes .ensures) e)
 
 -- src/convert.rt:99:1
 same-length-5 : tie.Need-same-length-5
@@ -89,12 +92,13 @@ same-length-10 c = search needs
 
 -- src/convert.rt:99:1
 returns-2 : tie.Need-returns-2
-returns-2 c = let e = done-left _ _ _ _ _ _ _ _ _ _ _ _ _ _ (decides-done (c .before .before .before .before .before .before .before .before .before .before .before .before .before .before .before .before .before .before .before .before .before .before .before .before .before .before .before .before .before .before .before .before .before .before .before .before .before .before .decide .ensures) (c .before .before .before .before .before .before .before .before .before .before .before .before .before .before .before .before .before .before .before .before .before .before .before .before .before .before .before .before .decision2 .given .1)) (c .before .before .before .before .before .before .before .before .before .before .before .before .before .before .before .before .before .before .before .before .finish .ensures) (c .before .before .before .before .before .before .before .before .before .before .before .before .before .before .clear .ensures) (c .before .before .before .before .before .before .before .before .before .before .clear2 .ensures) (c .before .before .before .before .before .before .clear3 .ensures) (c .before .before .clear4 .ensures) in (e, promised-by _ _ _ _ (c@are-bytes .ensures) e)
+returns-2 c = let e = done-left _ _ _ _ _ _ _ _ _ _ _ _ _ _ (decides-done (c .before .before .before .before .before .before .before .before .before .before .before .before .before .before .before .before .before .before .before .before .before .before .before .before .before .before .before .before .before .before .before .before .before .before .before .before .before .before .decide .ensures) (c .before .before .before .before .before .before .before .before .before .before .before .before .before .before .before .before .before .before .before .before .before .before .before .before .before .before .before .before .decision2 .given .1)) (c .before .before .before .before .before .before .before .before .before .before .before .before .before .before .before .before .before .before .before .before .finish .ensures) (c .before .before .before .before .before .before .before .before .before .before .before .before .before .before .clear .ensures) (c .before .before .before .before .before .before .before .before .before .before .clear2 .ensures) (c .before .before .before .before .before .before .clear3 .ensures) (c .before .before .clear4 .ensures) in (e, promised-by _ _ _ _ (c .before .before .before .before .before .before .before .before .before .before .before .before .before .before .before .before .before .before .before .before .before .before .before .before .before .before .before .before .before .before .before .before .before .before .before .before .before .before .before .before .before .before .before .are-bytes .ensures) e)
 
 pub convert-spec : {M : Type 1} → statement M
 convert-spec =
     tie.close
     (tie.spec
+    are-bytes-requires
     decide-requires
     enum-known-decision
     enum-known-decision-2
