@@ -5,6 +5,30 @@ use borrow.Author.Needs.{needs}
 use Rattle.columns.proofs.show.Statement.{statement}
 use Rattle.columns.proofs.show.Tie as tie
 
+slice-aggregate-convert : tie.Need-slice-aggregate-convert
+slice-aggregate-convert c = search needs
+
+slice-aggregate-convert-2 : tie.Need-slice-aggregate-convert-2
+slice-aggregate-convert-2 c = search needs
+
+slice-aggregate-convert-3 : tie.Need-slice-aggregate-convert-3
+slice-aggregate-convert-3 c = search needs
+
+slice-aggregate-convert-4 : tie.Need-slice-aggregate-convert-4
+slice-aggregate-convert-4 c = search needs
+
+slice-aggregate-convert-5 : tie.Need-slice-aggregate-convert-5
+slice-aggregate-convert-5 c = search needs
+
+slice-aggregate-convert-6 : tie.Need-slice-aggregate-convert-6
+slice-aggregate-convert-6 c = search needs
+
+slice-aggregate-convert-7 : tie.Need-slice-aggregate-convert-7
+slice-aggregate-convert-7 c = search needs
+
+convert-requires : tie.Need-convert-requires
+convert-requires c κs = search needs
+
 slice-aggregate-list : tie.Need-slice-aggregate-list
 slice-aggregate-list c = search needs
 
@@ -42,6 +66,14 @@ pub show-spec : {M : Type 1} → statement M
 show-spec =
     tie.close
     (tie.spec
+    slice-aggregate-convert
+    slice-aggregate-convert-2
+    slice-aggregate-convert-3
+    slice-aggregate-convert-4
+    slice-aggregate-convert-5
+    slice-aggregate-convert-6
+    slice-aggregate-convert-7
+    convert-requires
     slice-aggregate-list
     slice-aggregate-list-2
     slice-aggregate-list-3
