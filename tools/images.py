@@ -1,5 +1,6 @@
 #!/usr/bin/env python3
-"""Writes the small recordings of crates/inspect: data/, args (their names) and stdout (what reading finds in each).
+"""Writes the small recordings of crates/inspect: data/, args (their names) and stdout (what reading finds in each); and those of
+crates/columns: stdin (document 01's example), data/, args and stdout (the lines of each).
 
 What is expected is written down here beside each image, from document 01, and not computed by the converter.
 Run from the repository's root: tools/images.py
@@ -34,8 +35,8 @@ class Image:
         self.bytes += b
         return at
 
-    def hd(self, dg):
-        self.bytes[64:168] = block(b"HD", [dg, 0, 0, 0, 0, 0], bytes(32))
+    def hd(self, dg, history=0, attachment=0, comment=0):
+        self.bytes[64:168] = block(b"HD", [dg, history, 0, attachment, 0, comment], bytes(32))
         return bytes(self.bytes)
 
 
@@ -189,12 +190,145 @@ cg = m.put(block(b"CG", [0, cn, 0, 0, 0, 0], cg_data(samples=1)))
 dg = m.put(block(b"DG", [0, cg, 0, 0], bytes(8)))
 case("name-under-24", m.hd(dg), "refused 4 place %d" % name)
 
-folder = os.path.join("crates", "inspect")
-os.makedirs(os.path.join(folder, "data"), exist_ok=True)
-for name, image, line in CASES:
-    with open(os.path.join(folder, "data", name), "wb") as f:
-        f.write(image)
-with open(os.path.join(folder, "args"), "w") as f:
-    f.writelines(name + "\n" for name, _, _ in CASES)
-with open(os.path.join(folder, "stdout"), "w") as f:
-    f.writelines(name + " " + line + "\n" for name, _, line in CASES)
+READ = CASES
+
+# ---- listings: one line for a count, one for each column, one for each omission
+CASES = []
+
+
+def channel(m, after=0, kind=0, byte=0, bits=8, bit=0, flags=0, position=0, below=0, signal=0):
+    return m.put(block(b"CN", [after, below, 0, 0, 0, signal, 0, 0], cn_data(kind, bit, byte, bits, flags, position)))
+
+
+def lines(columns, omitted=()):
+    return "\n".join(["columns %d" % len(columns), *columns, "omitted %d" % len(omitted), *omitted])
+
+
+# document 01's example
+m = Image()
+dt = m.put(block(b"DT", [], bytes(range(140))))
+cn = channel(m, byte=4, bits=16, flags=2)
+cn = channel(m, after=cn, kind=2, bits=32)
+cg = m.put(block(b"CG", [0, cn, 0, 0, 0, 0], cg_data(samples=6, inval=1)))
+dg = m.put(block(b"DG", [0, cg, dt, 0], bytes(8)))
+EXAMPLE = m.hd(dg), lines(["0 t 4 0 20 2 80 -", "1 s 2 1 20 2 60 0"])
+
+case("empty", Image().hd(0), lines([]))
+case("not-mdf", b"MDF    x" + Image().hd(0)[8:], "refused 5 place 0")
+case("too-long", bytes(65537), "input too long")
+case("full-length", Image().hd(0) + bytes(65536 - 168), lines([]))
+
+# reasons 2 to 7, and a bit offset over 7
+m = Image()
+dt = m.put(block(b"DT", [], bytes(8)))
+storage = m.put(block(b"CG", [0] * 6, cg_data(record_id=2, flags=1)))
+ca = m.put(block(b"CA", [0], bytes(16)))
+part = channel(m)
+r7 = channel(m, kind=1, bits=64, signal=storage)
+r6 = channel(m, after=r7, below=part)
+r5 = channel(m, after=r6, below=ca)
+r4 = channel(m, after=r5, kind=4)
+r3 = channel(m, after=r4, kind=2)
+wide = channel(m, after=r3, bits=1, bit=8)
+r2 = channel(m, after=wide, byte=7, bits=9)
+cn = channel(m, after=r2, kind=3)
+cg = m.put(block(b"CG", [storage, cn, 0, 0, 0, 0], cg_data(record_id=1, samples=8)))
+dg = m.put(block(b"DG", [0, cg, 0, 0], bytes([1]) + bytes(7)))
+case("reasons", m.hd(dg), lines(["0 t 0 0 0 0 0 -"], ["%d 2" % r2, "%d 2" % wide, "%d 3" % r3, "%d 4" % r4, "%d 5" % r5, "%d 6" % r6, "%d 7" % r7]))
+
+# reason 1: a remote master of a group with another count; the channel still has its column
+m = Image()
+one = m.put(block(b"DT", [], bytes(4)))
+two = m.put(block(b"DT", [], bytes(6)))
+time = channel(m, kind=2)
+first = m.put(block(b"CG", [0, time, 0, 0, 0, 0], cg_data(samples=1)))
+cn = channel(m)
+other = m.put(block(b"CG", [0, cn, 0, 0, 0, 0, first], cg_data(samples=1, flags=8)))
+d2 = m.put(block(b"DG", [0, other, two, 0], bytes(8)))
+d1 = m.put(block(b"DG", [d2, first, one, 0], bytes(8)))
+case("another-count", m.hd(d1), lines(["0 t 1 0 4 1 4 -", "1 s 1 0 6 1 6 -"], ["%d 1" % other]))
+
+# the same with equal counts: the signal column names the other group's time column
+m = Image()
+one = m.put(block(b"DT", [], bytes(4)))
+time = channel(m, kind=2)
+first = m.put(block(b"CG", [0, time, 0, 0, 0, 0], cg_data(samples=1)))
+cn = channel(m)
+other = m.put(block(b"CG", [0, cn, 0, 0, 0, 0, first], cg_data(samples=1, flags=8)))
+d2 = m.put(block(b"DG", [0, other, one, 0], bytes(8)))
+d1 = m.put(block(b"DG", [d2, first, one, 0], bytes(8)))
+case("remote-master", m.hd(d1), lines(["0 t 1 0 4 1 4 -", "1 s 1 0 4 1 4 0"]))
+
+# unsorted records of two groups and of a VLSD storage group
+m = Image()
+dt = m.put(block(b"DT", [], b"\1ab" + b"\3\2\0\0\0xy" + b"\2c" + b"\1de"))
+cn = channel(m)
+storage = m.put(block(b"CG", [0] * 6, cg_data(record_id=3, flags=1)))
+g2 = m.put(block(b"CG", [storage, cn, 0, 0, 0, 0], cg_data(record_id=2, samples=1)))
+cn = channel(m, byte=1)
+cn = channel(m, after=cn, kind=2)
+g1 = m.put(block(b"CG", [g2, cn, 0, 0, 0, 0], cg_data(record_id=1, samples=2)))
+dg = m.put(block(b"DG", [0, g1, dt, 0], bytes([1]) + bytes(7)))
+case("unsorted", m.hd(dg), lines(["0 t 1 0 2 1 2 -", "1 s 1 0 2 1 2 0", "2 s 1 0 1 1 1 -"]))
+
+# a channel with signal data
+m = Image()
+sd = m.put(block(b"SD", [], b"\2\0\0\0xy" + b"\1\0\0\0z"))
+dt = m.put(block(b"DT", [], struct.pack("<QQ", 0, 6)))
+cn = channel(m, kind=1, bits=64, signal=sd)
+cg = m.put(block(b"CG", [0, cn, 0, 0, 0, 0], cg_data(samples=8)))
+dg = m.put(block(b"DG", [0, cg, dt, 0], bytes(8)))
+case("signal-data", m.hd(dg), lines(["0 s 8 0 2 1 16 -"]))
+
+# copied metadata, history and an attachment; their refusals
+m = Image()
+text = m.put(block(b"TX", [], b"speed\0\0\0"))
+comment = m.put(block(b"MD", [], b"<a/>\0\0\0\0"))
+source = m.put(block(b"SI", [text, text, comment], bytes(8)))
+history = m.put(block(b"FH", [0, comment], bytes(16)))
+at = m.put(block(b"AT", [0, text, 0, comment], bytes(40) + b"attached"))
+dt = m.put(block(b"DT", [], bytes(65)))
+cn = m.put(block(b"CN", [0, 0, text, source, 0, 0, text, comment], cn_data(bits=8)))
+cg = m.put(block(b"CG", [0, cn, text, source, 0, comment], cg_data(samples=1)))
+dg = m.put(block(b"DG", [0, cg, dt, comment], bytes(8)))
+case("metadata", m.hd(dg, history, at, comment), lines(["0 s 1 0 65 2 65 -"]))
+
+m = Image()
+source = m.put(block(b"SI", [168, 0, 0], bytes(8)))
+cn = channel(m)
+cg = m.put(block(b"CG", [0, cn, 0, source, 0, 0], cg_data(samples=1)))
+dg = m.put(block(b"DG", [0, cg, 0, 0], bytes(8)))
+case("circular-copy", m.hd(dg), "refused 16 place %d" % source)
+m = Image()
+history = m.put(block(b"FH", [], bytes(16)))
+case("history-without-links", m.hd(0, history=history), "refused 17 place %d" % history)
+m = Image()
+at = m.put(block(b"AT", [0, 0, 0], bytes(40)))
+case("attachment-of-three-links", m.hd(0, attachment=at), "refused 18 place %d" % at)
+
+# 60,000 records of one byte: 938 blocks; metadata up to 256 + 64 + 104 + 160 + (24 + 8 * 939 + 16) = 8136, 937 blocks of 88 bytes, one of 56
+m = Image()
+dt = m.put(block(b"DT", [], bytes(60000)))
+cn = channel(m)
+cg = m.put(block(b"CG", [0, cn, 0, 0, 0, 0], cg_data(samples=1)))
+dg = m.put(block(b"DG", [0, cg, dt, 0], bytes(8)))
+case("output-too-short", m.hd(dg), "refused 20 place 90648")
+
+LISTED = CASES
+
+
+def write(folder, cases, stdout):
+    os.makedirs(os.path.join(folder, "data"), exist_ok=True)
+    for name, image, _ in cases:
+        with open(os.path.join(folder, "data", name), "wb") as f:
+            f.write(image)
+    with open(os.path.join(folder, "args"), "w") as f:
+        f.writelines(name + "\n" for name, _, _ in cases)
+    with open(os.path.join(folder, "stdout"), "w") as f:
+        f.write(stdout)
+
+
+write(os.path.join("crates", "inspect"), READ, "".join(name + " " + line + "\n" for name, _, line in READ))
+write(os.path.join("crates", "columns"), LISTED, EXAMPLE[1] + "\n" + "".join(name + "\n" + line + "\n" for name, _, line in LISTED))
+with open(os.path.join("crates", "columns", "stdin"), "wb") as f:
+    f.write(EXAMPLE[0])

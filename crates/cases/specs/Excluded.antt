@@ -64,6 +64,8 @@ Excluded =
     -- "too small" before anything was measured: the size stands in 20, the words needed in 21
     × (answered (resultResult.answer args 0 0) ≡ 20 ∷ 1288 ∷ [])
     × (answered (resultResult.answer args 1288 0) ≡ 21 ∷ 1 ∷ [])
+    -- a list written on 20: it is as it was
+    × (resultResult.convert args [] (7 ∷ []) [] .list ≡ 7 ∷ [])
     -- a report of invented blocks: there are four
     × (reportIn args (resultResult.decided args) ≡ 1 ∷ 1 ∷ 1 ∷ 0 ∷ 4 ∷ 1048 ∷ 1288 ∷ [])
     -- one that omits each channel: there are two columns and no omission
@@ -117,4 +119,4 @@ unfolding
   resultGuarantee.joinedPayload resultGuarantee.joinedSignal resultGuarantee.namedMaster resultGuarantee.shownAt resultGuarantee.shownFrom
   resultGuarantee.shown resultGuarantee.duePayload resultGuarantee.due resultGuarantee.dueAll resultGuarantee.columnsOf resultGuarantee.omissionsOf
   resultGuarantee.columnAt resultGuarantee.columnsPlaced
-excluded = (refl, refl, refl, refl, refl, refl, refl, refl, refl, refl)
+excluded = (refl, refl, refl, refl, refl, refl, refl, refl, refl, refl, refl)

@@ -2,3 +2,5 @@ pub mod Lines
 pub mod LaidLaws
 pub mod LinesLaws
 pub mod PlanLaws
+pub mod Listed
+pub mod ListedLaws

@@ -164,7 +164,7 @@ fn faults(r: &Outcome, rust: &Option<(Vec<u8>, [u64; 6], u64)>, out: &[u8], list
 }
 
 fn main() {
-    panic::set_hook(Box::new(|_| {}));
+    //HOOK
     let args: Vec<String> = std::env::args().collect();
     let runs: usize = args[1].parse().unwrap();
     let mut random = Random(args[2].parse().unwrap());
