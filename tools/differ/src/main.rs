@@ -110,6 +110,9 @@ impl Random {
 
 fn edit(image: &mut Vec<u8>, random: &mut Random) {
     let n = image.len();
+    if n == 0 {
+        return;
+    }
     let p = random.below(n);
     match random.below(6) {
         0 => image[p] ^= 1 << random.below(8),
@@ -164,7 +167,7 @@ fn faults(r: &Outcome, rust: &Option<(Vec<u8>, [u64; 6], u64)>, out: &[u8], list
 }
 
 fn main() {
-    //HOOK
+    panic::set_hook(Box::new(|_| {}));
     let args: Vec<String> = std::env::args().collect();
     let runs: usize = args[1].parse().unwrap();
     let mut random = Random(args[2].parse().unwrap());
