@@ -1,0 +1,145 @@
+//! bench TURNS: times the port, the Rust converter and a plain copy on the rack's loads, each also at twice the length.
+mod loads;
+use loads::{recording, Group};
+use mf4_rs::column::{to_column_oriented_bytes, to_column_oriented_with, ColumnOptions, ColumnSink};
+use mf4_rs::error::MdfError;
+use mf4_rs::index::ByteRangeReader;
+use std::time::Instant;
+
+#[repr(C)]
+#[derive(Debug, Clone, Copy)]
+struct Outcome {
+    accepted: bool,
+    number: u64,
+    place: u64,
+    counts: [u64; 7],
+}
+
+#[link(name = "sitaungo", kind = "static")]
+extern "C" {
+    fn sitaungo_convert(
+        image: *const u8, image_len: usize, size: u64, ident: *const u8, ident_len: usize, text: *const u8, text_len: usize, time: u64,
+        source: *mut u64, source_len: usize, fragments: *mut u64, fragments_len: usize, columns: *mut u64, columns_len: usize,
+        copies: *mut u64, copies_len: usize, out: *mut u8, out_len: usize, list: *mut u64, list_len: usize,
+    ) -> Outcome;
+}
+
+const BLOCK: u64 = 4 << 20;
+
+// What is lent besides image and slices.
+struct Lent {
+    ident: Vec<u8>,
+    text: Vec<u8>,
+    time: u64,
+}
+
+fn word(s: &[u8], p: usize) -> u64 {
+    u64::from_le_bytes(s[p..p + 8].try_into().unwrap())
+}
+
+// The identification, history text and time of a result without an older history.
+fn lent_by(result: &[u8]) -> Lent {
+    let fh = word(result, 96) as usize;
+    let md = word(result, fh + 32) as usize;
+    let mut text = result[md + 24..md + word(result, md + 8) as usize].to_vec();
+    while text.last() == Some(&0) {
+        text.pop();
+    }
+    Lent { ident: result[..64].to_vec(), text, time: word(result, fh + 40) }
+}
+
+// The port, into a lent output.
+fn port(image: &[u8], lent: &Lent, work: &mut [Vec<u64>; 4], out: &mut [u8], list: &mut [u64]) -> Outcome {
+    let [a, b, c, d] = work;
+    unsafe {
+        sitaungo_convert(
+            image.as_ptr(), image.len(), BLOCK, lent.ident.as_ptr(), 64, lent.text.as_ptr(), lent.text.len(), lent.time,
+            a.as_mut_ptr(), a.len(), b.as_mut_ptr(), b.len(), c.as_mut_ptr(), c.len(), d.as_mut_ptr(), d.len(),
+            out.as_mut_ptr(), out.len(), list.as_mut_ptr(), list.len(),
+        )
+    }
+}
+
+// The Rust's reader over a slice, as its own is.
+struct Slice<'a>(&'a [u8]);
+
+impl ByteRangeReader for Slice<'_> {
+    type Error = MdfError;
+    fn read_range(&mut self, offset: u64, length: u64) -> Result<Vec<u8>, MdfError> {
+        Ok(self.0[offset as usize..(offset + length) as usize].to_vec())
+    }
+}
+
+// The Rust's sink over a lent output that is there already.
+struct Output<'a>(&'a mut [u8]);
+
+impl ColumnSink for Output<'_> {
+    fn write_at(&mut self, offset: u64, bytes: &[u8]) -> Result<(), MdfError> {
+        self.0[offset as usize..offset as usize + bytes.len()].copy_from_slice(bytes);
+        Ok(())
+    }
+}
+
+fn options() -> ColumnOptions {
+    ColumnOptions { block_size: BLOCK, share_identical_time: false, ..Default::default() }
+}
+
+// Milliseconds of so many turns: best and median.
+fn times(turns: usize, mut f: impl FnMut()) -> (f64, f64) {
+    let mut t: Vec<f64> = (0..turns)
+        .map(|_| {
+            let from = Instant::now();
+            f();
+            from.elapsed().as_secs_f64() * 1000.0
+        })
+        .collect();
+    t.sort_by(f64::total_cmp);
+    (t[0], t[turns / 2])
+}
+
+struct Timed {
+    port: (f64, f64),
+    rust: (f64, f64),
+    copy: (f64, f64),
+}
+
+// All three in turn, on one image: outputs were written once before.
+fn time(image: &[u8], turns: usize) -> Timed {
+    let mut work: [Vec<u64>; 4] = std::array::from_fn(|_| vec![0; 8192]);
+    let mut list = vec![0; 2049];
+    let (mut theirs, _) = to_column_oriented_bytes(image, &options()).unwrap();
+    let lent = lent_by(&theirs);
+    let need = port(image, &lent, &mut work, &mut [], &mut list);
+    assert_eq!((need.accepted, need.number, need.place), (false, 20, theirs.len() as u64));
+    let mut ours = vec![1u8; theirs.len()];
+    let mut copied = vec![1u8; image.len()];
+    assert!(port(image, &lent, &mut work, &mut ours, &mut list).accepted);
+    assert!(ours == theirs, "other bytes");
+    let port = times(turns, || assert!(port(image, &lent, &mut work, &mut ours, &mut list).accepted));
+    let rust = times(turns, || assert!(to_column_oriented_with(&mut Slice(image), &mut Output(&mut theirs), &options()).is_ok()));
+    let copy = times(turns, || copied.copy_from_slice(std::hint::black_box(image)));
+    Timed { port, rust, copy }
+}
+
+fn main() {
+    let turns: usize = std::env::args().nth(1).map_or(5, |t| t.parse().unwrap());
+    let sorted = [Group { channels: 300, bits: 32, inval: false, id: 0 }];
+    let inval = [Group { channels: 300, bits: 16, inval: true, id: 0 }];
+    let unsorted: Vec<Group> = (1..=10).map(|id| Group { channels: 30, bits: 32, inval: false, id }).collect();
+    let loads = [("300 channels of 32 bits", &sorted[..]), ("300 channels of 16 bits with invalidation bits", &inval[..]), ("10 unsorted groups of 30 channels of 32 bits", &unsorted[..])];
+    println!("| load | s | MB | port best | median | Rust best | median | copy best | median | port / Rust | twice the length |");
+    println!("|---|---|---|---|---|---|---|---|---|---|---|");
+    for (name, groups) in loads {
+        let mut before = None;
+        for seconds in [60, 120] {
+            let image = recording(groups, seconds * 1000, 4 << 20);
+            let t = time(&image, turns);
+            let grown = before.map_or(String::new(), |b: f64| format!("{:.2}", t.port.0 / b));
+            before = Some(t.port.0);
+            println!(
+                "| {name} | {seconds} | {} | {:.1} | {:.1} | {:.1} | {:.1} | {:.1} | {:.1} | {:.2} | {grown} |",
+                image.len() / 1_000_000, t.port.0, t.port.1, t.rust.0, t.rust.1, t.copy.0, t.copy.1, t.port.0 / t.rust.0
+            );
+        }
+    }
+}
