@@ -173,6 +173,7 @@ static void print_success(const struct options *o, const struct sitaungo_outcome
     char line[8192];
     int n = snprintf(line, sizeof line, "%.4096s: columns %" PRIu64 ", omissions %" PRIu64 ", bytes %" PRIu64 "\n", o->result,
         answer->time_groups + answer->signal_groups, omissions[0], answer->file_size);
+    make_plain(line, (size_t)n - 1);
     print(line, (size_t)n, "; the result is whole");
 }
 

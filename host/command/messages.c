@@ -63,15 +63,20 @@ bool write_all(int descriptor, const char *bytes, size_t length)
     return true;
 }
 
+void make_plain(char *bytes, size_t length)
+{
+    for (size_t i = 0; i < length; i++)
+        if ((unsigned char)bytes[i] < 32 || bytes[i] == 127)
+            bytes[i] = '?';
+}
+
 static void say_line(const char *format, va_list arguments)
 {
     char line[16384] = "mdf-columns: ";
     size_t front = 13, room = sizeof line - front - 1;
     int n = vsnprintf(line + front, room, format, arguments);
     size_t end = front + (n < 0 ? 0 : (size_t)n < room ? (size_t)n : room - 1);
-    for (size_t i = 0; i < end; i++)
-        if ((unsigned char)line[i] < 32 || line[i] == 127)
-            line[i] = '?';
+    make_plain(line, end);
     line[end] = '\n';
     (void)!write_all(STDERR_FILENO, line, end + 1);
 }

@@ -1,4 +1,4 @@
-/* What the command says, and how it ends. A line begins with the command's name; control characters in it are shown as `?`. */
+/* What the command says, and how it ends. A line begins with the command's name. */
 #ifndef MESSAGES_H
 #define MESSAGES_H
 
@@ -25,6 +25,9 @@ __attribute__((noreturn)) void refuse(const char *recording, uint64_t number, ui
 
 /* A channel left out, with address and reason in words. */
 void say_omission(uint64_t address, uint64_t reason);
+
+/* Control characters become `?`. */
+void make_plain(char *bytes, size_t length);
 
 /* Writes it all to a descriptor; false where that fails, with errno. */
 bool write_all(int descriptor, const char *bytes, size_t length);

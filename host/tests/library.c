@@ -27,7 +27,8 @@ static struct call usual(void)
 {
     return (struct call){
         .image = image_length, .ident = SITAUNGO_IDENT_BYTES, .text = 7,
-        .work = {SITAUNGO_WORK_WORDS, SITAUNGO_WORK_WORDS, SITAUNGO_WORK_WORDS, SITAUNGO_WORK_WORDS}, .out = ROOM, .list = SITAUNGO_LIST_WORDS, .size = 64,
+        .work = {SITAUNGO_WORK_WORDS, SITAUNGO_WORK_WORDS, SITAUNGO_WORK_WORDS, SITAUNGO_WORK_WORDS},
+        .out = ROOM, .list = SITAUNGO_LIST_WORDS, .size = 64,
     };
 }
 
