@@ -1,10 +1,12 @@
-// The conversion, for programs that link it.
+// The conversion and its listing, for programs that link them.
 use writing::convert::{Converted, convert};
+use listing::recording::list;
 ghost use mathlib.Core.Path.{_≡_};
 ghost use lib.ListN.{length};
 ghost use Rattle.result.specs.Result as result;
-ghost use Rattle.placing.specs.Decision.{four};
+ghost use Rattle.placing.specs.Decision.{untimed, four};
 ghost use Rattle.writing.specs.Answer.{args, Promised};
+ghost use Rattle.listing.specs.Listed.{Listed};
 ghost use Rattle.sitaungo.specs.Answer.{left};
 
 // Whether the recording was accepted; document 01's refusal with number and place where it was not; the report's seven counts where it was.
@@ -48,4 +50,17 @@ pub extern "C" fn sitaungo_convert(
             shared_time_groups: r.shared_time_groups, data_blocks: r.data_blocks, metadata_size: r.metadata_size, file_size: r.file_size,
         },
     }
+}
+
+// The listing of a recording's conversion into an output of so many bytes and a list of so many words, and its length: `list` of the crate listing.
+#[no_mangle]
+pub extern "C" fn sitaungo_list(
+    image: &[u8], size: u64, ident: &[u8], text: &[u8], out: u64, list_words: u64,
+    source: &mut [u64], fragments: &mut [u64], columns: &mut [u64], copies: &mut [u64], lines: &mut [u8],
+) -> usize
+    ensures { λ r. ⌜ Listed (untimed (now (image .entry)) size (now (ident .entry)) (now (text .entry))) out «list_words»
+        (four (now (source .entry)) (now (fragments .entry)) (now (columns .entry)) (now (copies .entry))) (now (lines .entry))
+        r (now (lines .exit)) (four (now (source .exit)) (now (fragments .exit)) (now (columns .exit)) (now (copies .exit))) ⌝ }
+{
+    list(lines, image, size, ident, text, out, list_words, source, fragments, columns, copies)
 }

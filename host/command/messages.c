@@ -1,0 +1,129 @@
+#define _GNU_SOURCE
+#include "messages.h"
+
+#include <errno.h>
+#include <inttypes.h>
+#include <stdarg.h>
+#include <stdio.h>
+#include <stdlib.h>
+#include <unistd.h>
+
+#include "result.h"
+#include "sitaungo.h"
+
+static bool quiet;
+
+/* The refusals of document 01 in plain words. A place is a byte of the recording, where the number has one. */
+static const char *const refusals[] = {
+    [SITAUNGO_REFUSED_LENT] = "the converter was called wrongly: work words, identification or history text",
+    [SITAUNGO_REFUSED_BLOCK_SIZE] = "the block size is 0",
+    [SITAUNGO_REFUSED_TOO_LARGE] = "the recording is larger than 4 GiB (4294967296 bytes)",
+    [SITAUNGO_REFUSED_PAST_END] = "the recording ends too early: a block, a name, an attachment or data runs past its end",
+    [SITAUNGO_REFUSED_NOT_MDF] = "this is not an MDF recording: it does not begin with \"MDF\" and five blanks",
+    [SITAUNGO_REFUSED_VERSION_UNREADABLE] = "the MDF version can't be read",
+    [SITAUNGO_REFUSED_VERSION] = "the MDF version is not supported: 4.10 is the lowest",
+    [SITAUNGO_REFUSED_LINKS] = "a block is damaged: its links don't fit into its length",
+    [SITAUNGO_REFUSED_BLOCK_LENGTH] = "a block is longer than 256 MiB (268435456 bytes)",
+    [SITAUNGO_REFUSED_BLOCK] = "a link leads to a block that is not the HD, DG, CG or CN it should be, or that lacks links or data",
+    [SITAUNGO_REFUSED_CIRCLE] = "a chain of blocks comes back to a block it has passed",
+    [SITAUNGO_REFUSED_DATA_KIND] = "a data chain holds a block of another kind; compressed data (DZ) is not supported",
+    [SITAUNGO_REFUSED_ID_SIZE] = "a data group's record ids have a size other than 0, 1, 2, 4 or 8 bytes",
+    [SITAUNGO_REFUSED_GROUPS] = "a data group's records can't be told apart: equal or missing record ids, or DV blocks where only DT can be",
+    [SITAUNGO_REFUSED_RECORD] = "a record ends early, runs from a DT into a DV block, or has an unknown id",
+    [SITAUNGO_REFUSED_COPY] = "comments, units or conversions link to each other in a circle or over 64 deep",
+    [SITAUNGO_REFUSED_HISTORY] = "a block of the file history has no links",
+    [SITAUNGO_REFUSED_ATTACHMENT] = "an attachment is damaged: it has under 4 links, or more than fit",
+    [SITAUNGO_REFUSED_LIMIT] = "the recording passes a limit: 512 data groups, groups or channels, 1024 data blocks, 256 lists in a chain, "
+        "2048 copied blocks, 64 attachments, or blocks of a column",
+    [SITAUNGO_REFUSED_OUTPUT] = "the output is too short for the result",
+    [SITAUNGO_REFUSED_LIST] = "the omission list is too short",
+};
+
+static const char *const reasons[] = {
+    [SITAUNGO_OMITTED_REMOTE_MASTER] = "the group's time channel lies in a group with another number of records, so its columns name no time column",
+    [SITAUNGO_OMITTED_NO_FIT] = "the channel does not fit into its record",
+    [SITAUNGO_OMITTED_MASTER] = "the channel is a second time channel of its group",
+    [SITAUNGO_OMITTED_SYNC] = "the channel is a synchronization channel",
+    [SITAUNGO_OMITTED_ARRAY] = "the channel is an array",
+    [SITAUNGO_OMITTED_STRUCTURE] = "the channel is a structure of other channels",
+    [SITAUNGO_OMITTED_STORAGE] = "the channel's values of variable length lie in a group of their own",
+};
+
+bool write_all(int descriptor, const char *bytes, size_t length)
+{
+    while (length > 0) {
+        ssize_t n = write(descriptor, bytes, length);
+        if (n < 0 && errno != EINTR)
+            return false;
+        if (n > 0) {
+            bytes += n;
+            length -= (size_t)n;
+        }
+    }
+    return true;
+}
+
+void make_plain(char *bytes, size_t length)
+{
+    for (size_t i = 0; i < length; i++)
+        if ((unsigned char)bytes[i] < 32 || bytes[i] == 127)
+            bytes[i] = '?';
+}
+
+static void say_line(const char *format, va_list arguments)
+{
+    char line[16384] = "mdf-columns: ";
+    size_t front = 13, room = sizeof line - front - 1;
+    int n = vsnprintf(line + front, room, format, arguments);
+    size_t end = front + (n < 0 ? 0 : (size_t)n < room ? (size_t)n : room - 1);
+    make_plain(line, end);
+    line[end] = '\n';
+    (void)!write_all(STDERR_FILENO, line, end + 1);
+}
+
+void keep_quiet(void)
+{
+    quiet = true;
+}
+
+void say_phase(const char *format, ...)
+{
+    if (quiet)
+        return;
+    va_list arguments;
+    va_start(arguments, format);
+    say_line(format, arguments);
+    va_end(arguments);
+}
+
+void say(const char *format, ...)
+{
+    va_list arguments;
+    va_start(arguments, format);
+    say_line(format, arguments);
+    va_end(arguments);
+}
+
+void fail(const char *format, ...)
+{
+    va_list arguments;
+    va_start(arguments, format);
+    say_line(format, arguments);
+    va_end(arguments);
+    drop_temporary();
+    exit(STATUS_FAILED);
+}
+
+void refuse(const char *recording, uint64_t number, uint64_t place)
+{
+    const char *words = number < sizeof refusals / sizeof *refusals && refusals[number] ? refusals[number] : "unknown refusal";
+    say("%s: refused %" PRIu64 " place %" PRIu64 ": %s", recording, number, place, words);
+    drop_temporary();
+    exit(STATUS_REFUSED);
+}
+
+void say_omission(uint64_t address, uint64_t reason)
+{
+    const char *words = reason < sizeof reasons / sizeof *reasons && reasons[reason] ? reasons[reason] : "unknown reason";
+    say("omitted at %" PRIu64 ": %s (reason %" PRIu64 ")", address, words, reason);
+}

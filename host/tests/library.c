@@ -1,0 +1,170 @@
+/* The library against its header: library RECORDING, the worked example. Tries the refusals that the command can't meet, each length of
+ * include/sitaungo.h from both sides, and what a call leaves alone. Prints what is wrong, and at the end the number of checks. */
+#include <inttypes.h>
+#include <stdio.h>
+#include <stdlib.h>
+#include <string.h>
+
+#include "sitaungo.h"
+
+_Static_assert(sizeof(struct sitaungo_outcome) == 80, "the struct's size");
+
+enum { ROOM = 4096, GUARD = 0xA5 };
+
+static uint8_t image[65536], out[ROOM], lines[SITAUNGO_LISTING_BYTES], ident[SITAUNGO_IDENT_BYTES + 1], text[SITAUNGO_TEXT_BYTES + 1];
+static uint64_t work[4][SITAUNGO_WORK_WORDS + 1], list[SITAUNGO_LIST_WORDS];
+static int checks, wrong;
+
+/* What one call is lent. */
+struct call {
+    size_t image, ident, text, work[4], out, list;
+    uint64_t size;
+};
+
+static size_t image_length;
+
+static struct call usual(void)
+{
+    return (struct call){
+        .image = image_length, .ident = SITAUNGO_IDENT_BYTES, .text = 7,
+        .work = {SITAUNGO_WORK_WORDS, SITAUNGO_WORK_WORDS, SITAUNGO_WORK_WORDS, SITAUNGO_WORK_WORDS},
+        .out = ROOM, .list = SITAUNGO_LIST_WORDS, .size = 64,
+    };
+}
+
+static void check(int good, const char *what)
+{
+    checks++;
+    if (!good) {
+        wrong++;
+        printf("wrong: %s\n", what);
+    }
+}
+
+static int all(const void *bytes, size_t length, uint8_t value)
+{
+    for (size_t i = 0; i < length; i++)
+        if (((const uint8_t *)bytes)[i] != value)
+            return 0;
+    return 1;
+}
+
+static struct sitaungo_outcome run(struct call c)
+{
+    memset(out, GUARD, sizeof out);
+    memset(list, GUARD, sizeof list);
+    memset(work, GUARD, sizeof work);
+    return sitaungo_convert(image, c.image, c.size, ident, c.ident, text, c.text, 0, work[0], c.work[0], work[1], c.work[1], work[2], c.work[2],
+        work[3], c.work[3], out, c.out, list, c.list);
+}
+
+/* The call is refused so, the counts are 0, output and list are as they were. */
+static void refuses(struct call c, uint64_t number, uint64_t place, const char *what)
+{
+    struct sitaungo_outcome a = run(c);
+    check(!a.accepted && a.number == number && a.place == place, what);
+    check(all(&a.source_groups, 7 * sizeof(uint64_t), 0), "counts of a refusal");
+    check(all(out, sizeof out, GUARD) && all(list, sizeof list, GUARD), "output and list after a refusal");
+    for (int i = 0; i < 4; i++) {
+        size_t used = number == SITAUNGO_REFUSED_LENT ? 0 : c.work[i];
+        check(all(work[i], 8 * used, 0), "work words after a refusal");
+        check(all(work[i] + used, sizeof work[i] - 8 * used, GUARD), "work words that are left alone");
+    }
+}
+
+static void accepts(struct call c, const char *what)
+{
+    check(run(c).accepted, what);
+}
+
+static void try_lent(void)
+{
+    struct call c;
+    for (int i = 0; i < 4; i++) {
+        c = usual();
+        c.work[i]--;
+        refuses(c, SITAUNGO_REFUSED_LENT, 0, "a work slice one word short");
+        c.work[i] += 2;
+        accepts(c, "a longer work slice");
+    }
+    c = usual();
+    c.ident--;
+    refuses(c, SITAUNGO_REFUSED_LENT, 0, "an identification of 63 bytes");
+    c.ident += 2;
+    refuses(c, SITAUNGO_REFUSED_LENT, 0, "an identification of 65 bytes");
+    c = usual();
+    ident[9] = '!';
+    refuses(c, SITAUNGO_REFUSED_LENT, 0, "an identification of another version");
+    ident[9] = '.';
+    c.text = SITAUNGO_TEXT_BYTES + 1;
+    refuses(c, SITAUNGO_REFUSED_LENT, 0, "a history text too long");
+    c.text = SITAUNGO_TEXT_BYTES;
+    refuses(c, SITAUNGO_REFUSED_OUTPUT, 1288 + 4096, "the longest history text");
+    c = usual();
+    c.size = 0;
+    refuses(c, SITAUNGO_REFUSED_BLOCK_SIZE, 0, "block size 0");
+}
+
+static void try_output(void)
+{
+    struct call c = usual();
+    c.out = 0;
+    refuses(c, SITAUNGO_REFUSED_OUTPUT, 1288, "no output");
+    c.out = 1287;
+    refuses(c, SITAUNGO_REFUSED_OUTPUT, 1288, "an output one byte short");
+    c.out = 1288;
+    accepts(c, "an output of the bytes needed");
+    c.list = 0;
+    refuses(c, SITAUNGO_REFUSED_LIST, 1, "no list");
+    c.list = 1;
+    accepts(c, "a list of one word");
+}
+
+/* The worked example's report, and what lies past result and list. */
+static void try_report(void)
+{
+    struct sitaungo_outcome a = run(usual());
+    check(a.accepted && a.number == 0 && a.place == 0, "the worked example is accepted");
+    check(a.source_groups == 1 && a.time_groups == 1 && a.signal_groups == 1 && a.shared_time_groups == 0, "its groups");
+    check(a.data_blocks == 4 && a.metadata_size == 1048 && a.file_size == 1288, "its blocks and sizes");
+    check(memcmp(out + 1048, "##DV", 4) == 0 && memcmp(out + 1176, "##DT", 4) == 0, "its columns' data");
+    check(all(out + 1288, ROOM - 1288, GUARD), "bytes past the result");
+    check(list[0] == 0 && all(list + 1, sizeof list - 8, GUARD), "words past the list");
+    for (int i = 0; i < 4; i++)
+        check(all(work[i], 8 * SITAUNGO_WORK_WORDS, 0), "work words after a conversion");
+}
+
+static size_t list_into(size_t length, uint64_t room, uint64_t words)
+{
+    memset(lines, GUARD, sizeof lines);
+    return sitaungo_list(image, image_length, 64, ident, SITAUNGO_IDENT_BYTES, text, 7, room, words, work[0], SITAUNGO_WORK_WORDS,
+        work[1], SITAUNGO_WORK_WORDS, work[2], SITAUNGO_WORK_WORDS, work[3], SITAUNGO_WORK_WORDS, lines, length);
+}
+
+static void lists(uint64_t room, uint64_t words, const char *expected)
+{
+    size_t n = strlen(expected);
+    check(list_into(sizeof lines, room, words) == n && memcmp(lines, expected, n) == 0, expected);
+    check(all(lines + n, sizeof lines - n, GUARD), "bytes past the listing");
+    check(list_into(10, room, words) == n && memcmp(lines, expected, 10) == 0, "a listing that is cut");
+    check(all(lines + 10, sizeof lines - 10, GUARD), "bytes past the lines lent");
+}
+
+int main(int count, char **arguments)
+{
+    FILE *file = count == 2 ? fopen(arguments[1], "rb") : NULL;
+    if (!file)
+        return 1;
+    image_length = fread(image, 1, sizeof image, file);
+    fclose(file);
+    memcpy(ident, "MDF     4.20    sitaungo\0\0\0\0\xa4\x01", 30);
+    memset(text, 'x', sizeof text);
+    try_lent();
+    try_output();
+    try_report();
+    lists(1288, 2049, "columns 2\n0 t 4 0 20 2 80 -\n1 s 2 1 20 2 60 0\nomitted 0\n");
+    lists(1287, 2049, "refused 20 place 1288\n");
+    lists(1288, 0, "refused 21 place 1\n");
+    printf("%d checks, %d wrong\n", checks, wrong);
+    return wrong != 0;
+}

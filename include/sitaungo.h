@@ -1,0 +1,150 @@
+/* Sitaungo: one row-oriented MDF 4 recording into one column-oriented MDF 4.20 file.
+ *
+ * Library libsitaungo.a (rt staticlib sitaungo), x86-64 Linux. Both functions are proved: for every input, numbers, output, list, lines and
+ * work words are those of the definitions in crates/result/specs and crates/listing/specs. They allocate nothing, keep nothing between
+ * calls, open no file and always return; several threads may call them, each with slices of its own.
+ *
+ * What the caller owes, since no proof can see it:
+ * - Each slice is a pointer and its true length in elements. A uint64_t slice lies at a multiple of 8. A slice of length 0 may have any pointer.
+ * - A slice that is written (work slices, out, list, lines) shares no byte with another slice of the same call.
+ * - Nobody else changes a slice during the call, a mapped file included.
+ * - Length times element size is below 2^63.
+ * - The calling thread has 128 KiB of stack left: 94,104 bytes were measured, for metadata linked 64 deep.
+ */
+#ifndef SITAUNGO_H
+#define SITAUNGO_H
+
+#include <stdbool.h>
+#include <stddef.h>
+#include <stdint.h>
+
+#ifdef __cplusplus
+extern "C" {
+#endif
+
+/* ---- lengths of the slices */
+
+#define SITAUNGO_WORK_WORDS 8192      /* words that each of the four work slices needs at least */
+#define SITAUNGO_LIST_WORDS 2049      /* words that are enough for every omission list */
+#define SITAUNGO_LISTING_BYTES 119354 /* bytes that are enough for every listing */
+#define SITAUNGO_IDENT_BYTES 64       /* bytes of the identification, exactly */
+#define SITAUNGO_TEXT_BYTES 4096      /* bytes that the history text has at most */
+
+/* ---- limits of a recording; past one of them it is refused */
+
+#define SITAUNGO_IMAGE_BYTES 4294967296u   /* bytes of a recording (3) */
+#define SITAUNGO_BLOCK_BYTES 268435456u    /* bytes of one block; not asked of DT, DV, SD and AT (9) */
+#define SITAUNGO_DATA_GROUPS 512           /* DG blocks (19) */
+#define SITAUNGO_CHANNEL_GROUPS 512        /* CG blocks (19) */
+#define SITAUNGO_CHANNELS 512              /* CN blocks (19) */
+#define SITAUNGO_FRAGMENTS 1024            /* DT, DV and SD blocks, one listed twice counted twice (19) */
+#define SITAUNGO_CHAIN_BLOCKS 256          /* DL and HL blocks in one data chain (19) */
+#define SITAUNGO_COPIED_BLOCKS 2048        /* TX, MD, CC, SI and FH blocks that are copied (19) */
+#define SITAUNGO_ATTACHMENTS 64            /* AT blocks (19) */
+#define SITAUNGO_COLUMN_BLOCKS 4294967295u /* data blocks of one column (19) */
+#define SITAUNGO_COPY_DEPTH 64             /* links from a block that is copied down to the deepest copied with it (16) */
+#define SITAUNGO_FIRST_VERSION 410         /* the lowest version: 4.10 (7) */
+
+/* ---- refusals: number, sentence, and what the place is; an offset is one in the recording */
+
+enum {
+    /* A work slice is too short, the identification is not 64 bytes that begin as MDF 4.20 demands, or the history text is too long; 0. */
+    SITAUNGO_REFUSED_LENT = 1,
+    /* The block size is 0; 0. */
+    SITAUNGO_REFUSED_BLOCK_SIZE = 2,
+    /* The recording has over 4,294,967,296 bytes; 0. */
+    SITAUNGO_REFUSED_TOO_LARGE = 3,
+    /* A header, block, name, attachment or a fragment's data runs past the recording's end; offset of its start. */
+    SITAUNGO_REFUSED_PAST_END = 4,
+    /* The recording doesn't begin with `MDF` and five blanks; 0. */
+    SITAUNGO_REFUSED_NOT_MDF = 5,
+    /* The version can't be read or has a byte over 127; 0. */
+    SITAUNGO_REFUSED_VERSION_UNREADABLE = 6,
+    /* The version is below 4.10 or over 65,535; 0. */
+    SITAUNGO_REFUSED_VERSION = 7,
+    /* A block's links don't fit into its length; offset of the block. */
+    SITAUNGO_REFUSED_LINKS = 8,
+    /* A block is longer than 268,435,456 bytes; offset of the block. */
+    SITAUNGO_REFUSED_BLOCK_LENGTH = 9,
+    /* Where an HD, DG, CG or CN is due stands another block, or one with too few links or data; offset of the block. */
+    SITAUNGO_REFUSED_BLOCK = 10,
+    /* A chain comes back to a block met before; offset of the block. */
+    SITAUNGO_REFUSED_CIRCLE = 11,
+    /* A data chain holds a block of another kind, compressed ones (DZ) among them; offset of the block. */
+    SITAUNGO_REFUSED_DATA_KIND = 12,
+    /* The size of record ids is none of 0, 1, 2, 4, 8; offset of the DG. */
+    SITAUNGO_REFUSED_ID_SIZE = 13,
+    /* Groups of one DG have equal ids or none, or a DV stands with several groups or with invalidation bytes; offset of the DG. */
+    SITAUNGO_REFUSED_GROUPS = 14,
+    /* A record ends early, straddles DT and DV, or has an unknown id; offset of the record's first byte. */
+    SITAUNGO_REFUSED_RECORD = 15,
+    /* Metadata that is to be copied is linked too deep or in a circle; offset of the block. */
+    SITAUNGO_REFUSED_COPY = 16,
+    /* A history block has no links; offset of the block. */
+    SITAUNGO_REFUSED_HISTORY = 17,
+    /* An attachment has under 4 links or more than fit; offset of the AT. */
+    SITAUNGO_REFUSED_ATTACHMENT = 18,
+    /* A limit is passed, or a group's bytes or records don't fit 64 bits; offset of the item or its DG. */
+    SITAUNGO_REFUSED_LIMIT = 19,
+    /* The output is shorter than the result; bytes needed. */
+    SITAUNGO_REFUSED_OUTPUT = 20,
+    /* The omission list is too short; words needed. */
+    SITAUNGO_REFUSED_LIST = 21
+};
+
+/* ---- why a channel is left out */
+
+enum {
+    SITAUNGO_OMITTED_REMOTE_MASTER = 1, /* its group's remote master has another count; the address is the CG's */
+    SITAUNGO_OMITTED_NO_FIT = 2,        /* it doesn't fit into its record */
+    SITAUNGO_OMITTED_MASTER = 3,        /* it is a further master of its group */
+    SITAUNGO_OMITTED_SYNC = 4,          /* it is a synchronization channel (type 4) */
+    SITAUNGO_OMITTED_ARRAY = 5,         /* it is an array (CA) */
+    SITAUNGO_OMITTED_STRUCTURE = 6,     /* it is a structure of channels */
+    SITAUNGO_OMITTED_STORAGE = 7        /* its values lie in a VLSD storage group (CG) */
+};
+
+/* What a conversion answers: where accepted, the report's seven counts, number and place 0; else number and place, the counts 0. */
+struct sitaungo_outcome {
+    bool accepted;
+    uint64_t number;             /* the refusal, 1 to 21 */
+    uint64_t place;              /* its place */
+    uint64_t source_groups;      /* groups of the recording, those of VLSD storage not counted */
+    uint64_t time_groups;        /* time columns */
+    uint64_t signal_groups;      /* signal columns */
+    uint64_t shared_time_groups; /* 0 */
+    uint64_t data_blocks;        /* DT, DV and SD blocks written */
+    uint64_t metadata_size;      /* where the metadata ends */
+    uint64_t file_size;          /* bytes of the result */
+};
+
+/* Converts the recording `image` with data blocks of about `size` bytes into the front of `out`, and lays the omission list over `list`:
+ * the number n, then n addresses, then n reasons.
+ *
+ * `ident` becomes the result's first 64 bytes and begins with `MDF`, five blanks, `4.20`, four blanks. `text` is the new history entry's
+ * comment, `time` its time in nanoseconds since 1970. A refusal leaves out and list as they were; what lies past result and list stays too.
+ * The work slices are zero afterwards, but as they were after refusal 1. An empty `out` gives refusal 20 with the bytes needed as its place,
+ * once all else is decided. */
+struct sitaungo_outcome sitaungo_convert(
+    const uint8_t *image, size_t image_length, uint64_t size,
+    const uint8_t *ident, size_t ident_length, const uint8_t *text, size_t text_length, uint64_t time,
+    uint64_t *source, size_t source_length, uint64_t *fragments, size_t fragments_length,
+    uint64_t *columns, size_t columns_length, uint64_t *copies, size_t copies_length,
+    uint8_t *out, size_t out_length, uint64_t *list, size_t list_length);
+
+/* Lays the listing of that conversion, with an output of `out` bytes and a list of `list_words` words, over `lines`, and answers its length;
+ * what passes the end of `lines` is lost. The listing is `columns N`, a line for each column (number, t time or s signal, data bytes,
+ * invalidation byte, records, blocks, payload bytes, master column or `-`), `omitted N`, a line `address reason` for each omission;
+ * or only `refused N place P`. The work slices are left as by sitaungo_convert. */
+size_t sitaungo_list(
+    const uint8_t *image, size_t image_length, uint64_t size,
+    const uint8_t *ident, size_t ident_length, const uint8_t *text, size_t text_length, uint64_t out, uint64_t list_words,
+    uint64_t *source, size_t source_length, uint64_t *fragments, size_t fragments_length,
+    uint64_t *columns, size_t columns_length, uint64_t *copies, size_t copies_length,
+    uint8_t *lines, size_t lines_length);
+
+#ifdef __cplusplus
+}
+#endif
+
+#endif
