@@ -20,6 +20,7 @@ use Rattle.mdf.specs.Records.{rangesIn, joined}
 use Rattle.plan.specs.Channel.{channelBytes, channelFlags, invalPosition, keepsInval, invalBit, width, bit, both}
 use Rattle.result.specs.Payload.{cell}
 use Rattle.channels.specs.Small.{Small}
+use Rattle.puts.specs.PutLaws.{copy-more}
 use Rattle.payload_laws.specs.Lists.{length-part}
 use Rattle.payload_laws.specs.CellLaws.{both-true}
 use Rattle.writing.specs.declared.cursor.Cursor.{Cursor}
@@ -27,6 +28,29 @@ use Rattle.writing.specs.declared.cell.Shape.{Shape}
 use Rattle.writing.specs.Ahead.{later, ahead, past, Settled}
 use Rattle.writing.specs.AheadLaws.{drop-take, ranges-here, ranges-past, ranges-settled, joined-past, joined-settled}
 use Rattle.writing.specs.Shape.{Shaped}
+
+-- ---- 1, 2, 4 and 8 bytes copied, one after the other
+module _ (i from : ℕ) (s l : List ℕ) where
+  pub copy-one : from + 1 ≤ length s → set l i (getD s from 0) ≡ blit i (part from 1 s) l
+  unfolding part blit
+  copy-one h = rw (add-zero, add-zero) at (copy-more i from 0 s l (omega arith))
+
+  pub copy-two : from + 2 ≤ length s → set (set l i (getD s from 0)) (i + 1) (getD s (from + 1) 0) ≡ blit i (part from 2 s) l
+  copy-two h = rw (copy-one (omega arith)) (copy-more i from 1 s l (omega arith))
+
+  pub copy-four : from + 4 ≤ length s
+    → set (set (set (set l i (getD s from 0)) (i + 1) (getD s (from + 1) 0)) (i + 2) (getD s (from + 2) 0)) (i + 3) (getD s (from + 3) 0)
+      ≡ blit i (part from 4 s) l
+  copy-four h = rw (copy-two (omega arith), copy-more i from 2 s l (omega arith)) (copy-more i from 3 s l (omega arith))
+
+  pub copy-eight : from + 8 ≤ length s
+    → set (set (set (set (set (set (set (set l i (getD s from 0)) (i + 1) (getD s (from + 1) 0)) (i + 2) (getD s (from + 2) 0))
+        (i + 3) (getD s (from + 3) 0)) (i + 4) (getD s (from + 4) 0)) (i + 5) (getD s (from + 5) 0)) (i + 6) (getD s (from + 6) 0))
+        (i + 7) (getD s (from + 7) 0)
+      ≡ blit i (part from 8 s) l
+  copy-eight h =
+      rw (copy-four (omega arith), copy-more i from 4 s l (omega arith), copy-more i from 5 s l (omega arith), copy-more i from 6 s l (omega arith))
+      (copy-more i from 7 s l (omega arith))
 
 -- the invalidation byte of a kept bit is one of the group's
 pub kept-within : (s : List ℕ) (g c : ℕ) → keepsInval s g c ≡ true → invalPosition s c / 8 < invalBytes s g

@@ -50,7 +50,7 @@ module _ (s : List ℕ) (d k : ℕ) where
 -- ---- a column's records, by its DG's words
 module _ {s w : List ℕ} {n : ℕ} {fs : List ℕ} {nf : ℕ} {e : Entry} {o : Own} (t : Tables w fs nf) (r : EntryReady s w n fs nf e)
     (q : OwnOf w n nf (e .parent) o) where
-  own-length : length (ownGroups w o) ≡ o .groups
+  pub own-length : length (ownGroups w o) ≡ o .groups
   unfolding ownGroups
   own-length =
       let a = t .source in
@@ -58,7 +58,7 @@ module _ {s w : List ℕ} {n : ℕ} {fs : List ℕ} {nf : ℕ} {e : Entry} {o : 
       let c = q .few in
       length-part (3072 + o .first) (3072 + o .first + o .groups - (3072 + o .first)) w (omega arith) ∙ omega arith
 
-  listed : numberIn (e .group) (ownGroups w o) < length (ownGroups w o)
+  pub listed : numberIn (e .group) (ownGroups w o) < length (ownGroups w o)
   listed = rw (q .is) (r .listed)
 
   checked-own : 0 < width s (e .group) (e .channel) → 0 < e .records
@@ -71,10 +71,10 @@ module _ {s w : List ℕ} {n : ℕ} {fs : List ℕ} {nf : ℕ} {e : Entry} {o : 
   records-own = rw (← q .is)
 
   module _ (z : o .groups ≡ 1) where
-    alone : ownGroups w o ≡ e .group ∷ []
+    pub alone : ownGroups w o ≡ e .group ∷ []
     alone = one-group (e .group) (ownGroups w o) (own-length ∙ z) listed
 
-    records-alone : entryRecords s w n fs nf e ≡ sortedRecords s (e .parent) (e .group) (runs (fragmentsOf (ownWords fs o)))
+    pub records-alone : entryRecords s w n fs nf e ≡ sortedRecords s (e .parent) (e .group) (runs (fragmentsOf (ownWords fs o)))
     records-alone = records-own ∙ rw alone
 
     pub sorted-ready : SortedReady s (ownWords fs o) (e .parent) (e .group) (e .channel) (e .records)
@@ -93,10 +93,10 @@ module _ {s w : List ℕ} {n : ℕ} {fs : List ℕ} {nf : ℕ} {e : Entry} {o : 
     sorted-is size out p = rw records-alone p
 
   module _ (z : o .groups ≡ 1 → ⊥) where
-    many : length (ownGroups w o) ≡ 1 → ⊥
+    pub many : length (ownGroups w o) ≡ 1 → ⊥
     many h = z (sym own-length ∙ h)
 
-    records-several : {k : ℕ} → k ≡ numberIn (e .group) (ownGroups w o)
+    pub records-several : {k : ℕ} → k ≡ numberIn (e .group) (ownGroups w o)
       → entryRecords s w n fs nf e ≡ framedRecords k (unsortedFrames s (e .parent) (ownGroups w o) (fragmentsOf (ownWords fs o)))
     records-several i =
         records-own ∙ rw i (several-records s (e .parent) (numberIn (e .group) (ownGroups w o)) (ownGroups w o) (fragmentsOf (ownWords fs o)) many listed)
@@ -124,7 +124,7 @@ unfolding framedAll together
 framed-size kind [] = refl
 framed-size kind (p ∷ ps) = rw (length-append, length-append, length-framed, framed-size kind ps) (omega arith)
 
-payloads-size : (s : List ℕ) (g c kind size n : ℕ) (rs : List (List ℕ)) → fits s g c ≡ true → 0 < width s g c → 0 < n → length rs ≡ n
+pub payloads-size : (s : List ℕ) (g c kind size n : ℕ) (rs : List (List ℕ)) → fits s g c ≡ true → 0 < width s g c → 0 < n → length rs ≡ n
   → Long (samples s g + invalBytes s g) rs
   → length (framedAll kind (payloads s g c (perFull size (width s g c) n) (blockCount size (width s g c) n) rs))
     ≡ 24 * blockCount size (width s g c) n + width s g c * n
@@ -138,7 +138,7 @@ payloads-size s g c kind size n rs f wide some many l =
         ap length (payloads-joined s g c m b rs) ∙ rw a (length-cells s g c f l ∙ rw many) in
     rw (framed-size, length-payloads, e)
 
-payloads-end : (kind a first : ℕ) (p : List ℕ) (ps : List (List ℕ))
+pub payloads-end : (kind a first : ℕ) (p : List ℕ) (ps : List (List ℕ))
   → endOf a (payloadBlocks kind first (p ∷ ps)) ≡ first + length (framedAll kind (p ∷ ps))
 unfolding endOf payloadBlocks framedAll
 payloads-end kind a first p [] = rw append-nil
@@ -150,12 +150,12 @@ payloads-end kind a first p (q ∷ ps) =
 none-left : (a : ℕ) → replicate {A = ℕ} (a - a) 0 ≡ []
 none-left a = let e : a - a ≡ 0 = omega arith in rw e
 
-flat-later : (kind a first r : ℕ) (p : List ℕ) (ps : List (List ℕ))
+pub flat-later : (kind a first r : ℕ) (p : List ℕ) (ps : List (List ℕ))
   → flat a (payloadBlocks kind first (p ∷ ps)) r ≡ replicate (first - a) 0 ++ flat first (payloadBlocks kind first (p ∷ ps)) r
 unfolding flat payloadBlocks
 flat-later kind a first r p ps = rw (none-left first) (append-assoc (replicate (first - a) 0) (framed kind p) _)
 
-flat-ended : (kind first r : ℕ) (ps : List (List ℕ)) → r ≡ first + length (framedAll kind ps)
+pub flat-ended : (kind first r : ℕ) (ps : List (List ℕ)) → r ≡ first + length (framedAll kind ps)
   → flat first (payloadBlocks kind first ps) r ≡ framedAll kind ps
 unfolding flat
 flat-ended kind first r ps e =
@@ -312,14 +312,14 @@ module _ {s : List ℕ} {size : ℕ} {w : List ℕ} {n : ℕ} {fs : List ℕ} {n
   writing-end h = t .rest p out (rw (data-none s size w n fs nf cs m k number h) (wrote-none p out))
 
   module _ (h : k < number) {e : Entry} (i : e ≡ entryIn cs m k) where
-    opened : Ordered p (entryBlocks s size w n fs nf e ++ (entrySignal s fs e ++ dataFrom s size w n fs nf cs m (k + 1) (number - (k + 1)))) (length out)
+    pub opened : Ordered p (entryBlocks s size w n fs nf e ++ (entrySignal s fs e ++ dataFrom s size w n fs nf cs m (k + 1) (number - (k + 1)))) (length out)
     opened = rw (i, ← data-open s size w n fs nf cs m k number h) (t .ordered)
 
     pub blocks-ordered : Ordered p (entryBlocks s size w n fs nf e) (length out)
     blocks-ordered = ordered-first p (entryBlocks s size w n fs nf e) _ (length out) opened
 
     module _ {q : ℕ} {mid : List ℕ} (v : Wrote p (entryBlocks s size w n fs nf e) q out mid) where
-      after-blocks : Ordered q (entrySignal s fs e ++ dataFrom s size w n fs nf cs m (k + 1) (number - (k + 1))) (length out)
+      pub after-blocks : Ordered q (entrySignal s fs e ++ dataFrom s size w n fs nf cs m (k + 1) (number - (k + 1))) (length out)
       after-blocks = rw (v .end) (ordered-back p (entryBlocks s size w n fs nf e) _ (length out) opened)
 
       mid-length : length mid ≡ length out

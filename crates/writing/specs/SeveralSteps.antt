@@ -212,7 +212,7 @@ counted-some k (ok rs) z e = (rs, refl)
 counted-some k (refused m p) z e = absurd (omega arith)
 
 module _ {s gs ws : List ℕ} {d k g c n : ℕ} (q : SeveralReady s gs ws d k g c n) (wide : 0 < width s g c) (some : 0 < n) where
-  framing : (rs : List Frame) × (unsortedFrames s d gs (fragmentsOf ws) ≡ ok rs)
+  pub framing : (rs : List Frame) × (unsortedFrames s d gs (fragmentsOf ws) ≡ ok rs)
   framing = counted-some k (unsortedFrames s d gs (fragmentsOf ws)) some (q .counted wide some)
 
   several : Several s d gs (fragmentsOf ws) (framing .0)

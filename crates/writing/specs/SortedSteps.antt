@@ -152,7 +152,7 @@ unfolding ahead
 start-ahead ws h = sym (later-all ws ∙ later-more ws 0 (omega arith))
 
 module _ {s ws : List ℕ} {d g c n : ℕ} (q : SortedReady s ws d g c n) (wide : 0 < width s g c) (some : 0 < n) where
-  ready-bytes : 0 < samples s g + invalBytes s g
+  pub ready-bytes : 0 < samples s g + invalBytes s g
   ready-bytes = let a = width-within s g c (q .fit) in omega arith
 
   pub ready-words : 3 ≤ length ws

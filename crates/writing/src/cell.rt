@@ -1,5 +1,4 @@
 // The cell of a record: the bytes of a channel, and its invalidation bit as one byte, if that is kept.
-use puts::copy;
 use channels::{byte_offset, channel_bytes, samples_of, inval_bytes_of, inval_position, keeps_inval, width_of};
 use blocks::block::data_u8;
 use crate::cursor::{Cursor, skip, settle, copy_joined};
@@ -34,7 +33,7 @@ pub struct Shape {
 }
 
 // The size of the record ids of the DG at d.
-fn id_size(image: &[u8], d: u64) -> u64
+pub(crate) fn id_size(image: &[u8], d: u64) -> u64
     ensures { λ r. ⌜ Small 1 (idSize (now (image .entry)) d) r ⌝ }
 {
     data_u8(image, d, 0)
@@ -57,6 +56,97 @@ pub(crate) fn shape_of(image: &[u8], d: u64, g: u64, c: u64) -> Shape
     Shape { parent: d, group: g, channel: c, first, bytes, length, keep, inval: samples + position / 8, bit, id, width }
 }
 
+// A byte of s at index from, at index at.
+fn copy1(d: &mut [u8], at: usize, s: &[u8], from: usize)
+    requires { ⌜ (at + 1 ≤ length (now d)) × (from + 1 ≤ length (now s)) ⌝ }
+    ensures { λ _. ⌜ now (d .exit) ≡ blit at (part from 1 (now (s .entry))) (now (d .entry)) ⌝ }
+{
+    d[at] = s[from];
+}
+
+// 2, 4 and 8 bytes: all are read before the first is stored, so each number of them is one load and one store.
+fn copy2(d: &mut [u8], at: usize, s: &[u8], from: usize)
+    requires { ⌜ (at + 2 ≤ length (now d)) × (from + 2 ≤ length (now s)) ⌝ }
+    ensures { λ _. ⌜ now (d .exit) ≡ blit at (part from 2 (now (s .entry))) (now (d .entry)) ⌝ }
+{
+    let x0 = s[from];
+    let x1 = s[from + 1];
+    d[at] = x0;
+    d[at + 1] = x1;
+}
+
+fn copy4(d: &mut [u8], at: usize, s: &[u8], from: usize)
+    requires { ⌜ (at + 4 ≤ length (now d)) × (from + 4 ≤ length (now s)) ⌝ }
+    ensures { λ _. ⌜ now (d .exit) ≡ blit at (part from 4 (now (s .entry))) (now (d .entry)) ⌝ }
+{
+    let x0 = s[from];
+    let x1 = s[from + 1];
+    let x2 = s[from + 2];
+    let x3 = s[from + 3];
+    d[at] = x0;
+    d[at + 1] = x1;
+    d[at + 2] = x2;
+    d[at + 3] = x3;
+}
+
+fn copy8(d: &mut [u8], at: usize, s: &[u8], from: usize)
+    requires { ⌜ (at + 8 ≤ length (now d)) × (from + 8 ≤ length (now s)) ⌝ }
+    ensures { λ _. ⌜ now (d .exit) ≡ blit at (part from 8 (now (s .entry))) (now (d .entry)) ⌝ }
+{
+    let x0 = s[from];
+    let x1 = s[from + 1];
+    let x2 = s[from + 2];
+    let x3 = s[from + 3];
+    let x4 = s[from + 4];
+    let x5 = s[from + 5];
+    let x6 = s[from + 6];
+    let x7 = s[from + 7];
+    d[at] = x0;
+    d[at + 1] = x1;
+    d[at + 2] = x2;
+    d[at + 3] = x3;
+    d[at + 4] = x4;
+    d[at + 5] = x5;
+    d[at + 6] = x6;
+    d[at + 7] = x7;
+}
+
+// n bytes, one by one.
+fn copy_bytes(d: &mut [u8], at: usize, s: &[u8], from: usize, n: usize)
+    requires { ⌜ (at + n ≤ length (now d)) × (from + n ≤ length (now s)) ⌝ }
+    ensures { λ _. ⌜ now (d .exit) ≡ blit at (part from n (now (s .entry))) (now (d .entry)) ⌝ }
+{
+    let mut k = 0;
+    while k < n {
+        d[at + k] = s[from + k];
+        k += 1;
+    }
+}
+
+// n bytes of s from index from, at index at, all of them inside.
+pub(crate) fn copy_within(d: &mut [u8], at: usize, s: &[u8], from: usize, n: usize)
+    requires { ⌜ (at + n ≤ length (now d)) × (from + n ≤ length (now s)) ⌝ }
+    ensures { λ _. ⌜ now (d .exit) ≡ blit at (part from n (now (s .entry))) (now (d .entry)) ⌝ }
+{
+    if n == 8 {
+        copy8(d, at, s, from);
+        return;
+    }
+    if n == 4 {
+        copy4(d, at, s, from);
+        return;
+    }
+    if n == 2 {
+        copy2(d, at, s, from);
+        return;
+    }
+    if n == 1 {
+        copy1(d, at, s, from);
+        return;
+    }
+    copy_bytes(d, at, s, from, n);
+}
+
 // Of a record that lies at q in the image.
 pub(crate) fn cell_here(out: &mut [u8], to: usize, image: &[u8], q: u64, h: Shape)
     requires { ⌜ Shaped (now image) h × (q + h .length ≤ length (now image)) ×
@@ -64,11 +154,11 @@ pub(crate) fn cell_here(out: &mut [u8], to: usize, image: &[u8], q: u64, h: Shap
     ensures { λ _. ⌜ now (out .exit) ≡ blit to
         (cell (now (image .entry)) (h .group) (h .channel) (part q (h .length) (now (image .entry)))) (now (out .entry)) ⌝ }
 {
-    let w = h.bytes;
-    copy(out, to, image, q + h.first, w);
+    let w = h.bytes as usize;
+    copy_within(out, to, image, (q + h.first) as usize, w);
     if h.keep {
         let i = (q + h.inval) as usize;
-        out[to + w as usize] = (image[i] >> h.bit) % 2;
+        out[to + w] = (image[i] >> h.bit) % 2;
     }
 }
 

@@ -1,24 +1,22 @@
-// The data blocks and signal data of columns, one after the other, zeros between them.
+// The data blocks and signal data of columns: the data blocks first, then zeros between them and the signal data.
 use channels::{width_of, block_count};
 use crate::gap::gap;
-use crate::own::{own_of, number_in};
-use crate::sorted::write_sorted;
-use crate::several::write_several;
+use crate::fill::fill_data;
 use crate::signal::{joined_size, write_signal};
 ghost use mathlib.Core.Path.{_≡_};
 ghost use mathlib.Core.List.{[], _∷_};
 ghost use Prim.Native.Nat.{_+_, _*_, _-_, _≤_};
 ghost use lib.ListN.{length};
-ghost use Rattle.base.specs.Blit.{blit};
+ghost use Rattle.base.specs.Blit.{part};
 ghost use Rattle.mdf.specs.Block.{kindSD};
 ghost use Rattle.mdf.specs.Words.{fragmentsOf};
 ghost use Rattle.mdf.specs.Records.{joined};
-ghost use Rattle.plan.specs.Channel.{width};
 ghost use Rattle.result.specs.Fill.{block, framed};
 ghost use Rattle.result.specs.Ordered.{Ordered};
-ghost use Rattle.writing.specs.Sorted.{framedAll};
 ghost use Rattle.writing.specs.Wrote.{Wrote};
-ghost use Rattle.writing.specs.Data.{entryIn, entryRecords, entryCount, entryPayloads, entryKind, entryBlocks, entrySignal, dataFrom, Tables, EntryReady, DataReady};
+ghost use Rattle.writing.specs.Data.{entryIn, entryBlocks, entrySignal, dataFrom, EntryReady, DataReady};
+ghost use Rattle.writing.specs.Region.{entryRegion};
+ghost use Rattle.writing.specs.Between.{Standing};
 
 // A column: its CN, CG and DG, its number of records; the number of fragments before its signal data's and 1, or 0 for none, and how many
 // those are; the places of its first data block and of its SD.
@@ -34,7 +32,7 @@ pub struct Entry {
 }
 
 // Column k.
-fn entry_at(columns: &[u64], memo: &[u64], k: u64) -> Entry
+pub(crate) fn entry_at(columns: &[u64], memo: &[u64], k: u64) -> Entry
     requires { ⌜ (8 * k + 8 ≤ length (now columns)) × (6656 + 3 * k + 3 ≤ length (now memo)) ⌝ }
     ensures { λ r. ⌜ r ≡ entryIn (now (columns .entry)) (now (memo .entry)) k ⌝ }
 {
@@ -52,30 +50,12 @@ fn entry_at(columns: &[u64], memo: &[u64], k: u64) -> Entry
     }
 }
 
-// Its data blocks, at the front of out.
-fn write_records(out: &mut [u8], image: &[u8], size: u64, source: &[u64], n: u64, fragments: &[u64], nf: u64, e: Entry)
-    requires { ⌜ Tables (now source) (now fragments) nf × EntryReady (now image) (now source) n (now fragments) nf e
-        × (24 * entryCount (now image) size e + width (now image) (e .group) (e .channel) * e .records ≤ length (now out)) ⌝ }
-    ensures { λ _. ⌜ now (out .exit) ≡ blit 0 (framedAll (entryKind (now (image .entry)) e) (entryPayloads (now (image .entry)) size e
-        (entryRecords (now (image .entry)) (now (source .entry)) n (now (fragments .entry)) nf e))) (now (out .entry)) ⌝ }
-{
-    let o = own_of(source, n, nf, e.parent);
-    let a = (3 * o.begin) as usize;
-    let b = (3 * o.end) as usize;
-    if o.groups == 1 {
-        write_sorted(out, image, &fragments[a..b], e.parent, e.group, e.channel, size, e.records);
-        return;
-    }
-    let f = (3072 + o.first) as usize;
-    let l = f + o.groups as usize;
-    let k = number_in(&source[f..l], e.group);
-    write_several(out, image, &source[f..l], &fragments[a..b], e.parent, k, e.group, e.channel, size, e.records);
-}
-
-// Zeros from at up to them, and them; the answer is past them.
-fn write_blocks_of(out: &mut [u8], at: usize, image: &[u8], size: u64, source: &[u64], n: u64, fragments: &[u64], nf: u64, e: Entry) -> usize
-    requires { ⌜ Tables (now source) (now fragments) nf × EntryReady (now image) (now source) n (now fragments) nf e
-        × Ordered at (entryBlocks (now image) size (now source) n (now fragments) nf e) (length (now out)) ⌝ }
+// Zeros from at up to its data blocks, which stand already; the answer is past them.
+fn pass_blocks(out: &mut [u8], at: usize, image: &[u8], size: u64, source: &[u64], n: u64, fragments: &[u64], nf: u64, e: Entry) -> usize
+    requires { ⌜ EntryReady (now image) (now source) n (now fragments) nf e
+        × Ordered at (entryBlocks (now image) size (now source) n (now fragments) nf e) (length (now out))
+        × (part (e .first) (length (entryRegion (now image) size (now source) n (now fragments) nf e)) (now out)
+            ≡ entryRegion (now image) size (now source) n (now fragments) nf e) ⌝ }
     ensures { λ r. ⌜ Wrote at (entryBlocks (now (image .entry)) size (now (source .entry)) n (now (fragments .entry)) nf e) r
         (now (out .entry)) (now (out .exit)) ⌝ }
 {
@@ -86,7 +66,6 @@ fn write_blocks_of(out: &mut [u8], at: usize, image: &[u8], size: u64, source: &
     }
     let first = e.first as usize;
     gap(out, at, first);
-    write_records(&mut out[first..], image, size, source, n, fragments, nf, e);
     first + (24 * count + w * e.records) as usize
 }
 
@@ -116,10 +95,11 @@ fn write_signal_of(out: &mut [u8], at: usize, image: &[u8], fragments: &[u64], e
     write_sd(out, at, e.sd as usize, image, &fragments[a..b])
 }
 
-// Of so many columns, from at on; the answer is past them.
-pub(crate) fn write_data(out: &mut [u8], at: usize, image: &[u8], size: u64, source: &[u64], n: u64, fragments: &[u64], nf: u64,
+// Of so many columns, whose data blocks stand already: zeros between them, and the SD.
+fn write_between(out: &mut [u8], at: usize, image: &[u8], size: u64, source: &[u64], n: u64, fragments: &[u64], nf: u64,
     columns: &[u64], memo: &[u64], number: u64) -> usize
-    requires { ⌜ DataReady (now image) size (now source) n (now fragments) nf (now columns) (now memo) number at (length (now out)) ⌝ }
+    requires { ⌜ DataReady (now image) size (now source) n (now fragments) nf (now columns) (now memo) number at (length (now out))
+        × Standing (now image) size (now source) n (now fragments) nf (now columns) (now memo) 0 number (now out) ⌝ }
     ensures { λ r. ⌜ Wrote at (dataFrom (now (image .entry)) size (now (source .entry)) n (now (fragments .entry)) nf (now (columns .entry))
         (now (memo .entry)) 0 number) r (now (out .entry)) (now (out .exit)) ⌝ }
 {
@@ -127,9 +107,20 @@ pub(crate) fn write_data(out: &mut [u8], at: usize, image: &[u8], size: u64, sou
     let mut p = at;
     while k < number {
         let e = entry_at(columns, memo, k);
-        p = write_blocks_of(out, p, image, size, source, n, fragments, nf, e);
+        p = pass_blocks(out, p, image, size, source, n, fragments, nf, e);
         p = write_signal_of(out, p, image, fragments, e);
         k += 1;
     }
     p
+}
+
+// Of so many columns, from at on; the answer is past them.
+pub(crate) fn write_data(out: &mut [u8], at: usize, image: &[u8], size: u64, source: &[u64], n: u64, fragments: &[u64], nf: u64,
+    columns: &[u64], memo: &[u64], number: u64) -> usize
+    requires { ⌜ DataReady (now image) size (now source) n (now fragments) nf (now columns) (now memo) number at (length (now out)) ⌝ }
+    ensures { λ r. ⌜ Wrote at (dataFrom (now (image .entry)) size (now (source .entry)) n (now (fragments .entry)) nf (now (columns .entry))
+        (now (memo .entry)) 0 number) r (now (out .entry)) (now (out .exit)) ⌝ }
+{
+    fill_data(out, at, image, size, source, n, fragments, nf, columns, memo, number);
+    write_between(out, at, image, size, source, n, fragments, nf, columns, memo, number)
 }

@@ -128,3 +128,16 @@ pub fn recording(groups: &[Group], cycles: u64, piece: usize) -> Vec<u8> {
     }
     image.0
 }
+
+// One channel of one record whose conversion is a block with this many links, all to blocks that are copied: first to 2,000 of them, then to
+// the last one over and over.
+pub fn many_links(links: usize) -> Vec<u8> {
+    let g = Group { channels: 1, bits: 32, inval: false, id: 0 };
+    let mut image = Image(recording(&[g], 1, 4 << 20));
+    let texts: Vec<u64> = (0..2000).map(|_| image.put(b"TX", vec![], b"text\0\0\0\0".to_vec())).collect();
+    let to = (0..links).map(|i| texts[i.min(1999)]).collect();
+    let cc = image.put(b"CC", to, vec![0; 24]);
+    let cn = image.0.windows(4).position(|w| w == b"##CN").unwrap() as u64;
+    image.link(cn, 4, cc);
+    image.0
+}

@@ -1,6 +1,6 @@
-//! bench TURNS: times the port, the Rust converter and a plain copy on the rack's loads, each also at twice the length.
+//! bench TURNS [LOAD]: times the port, the Rust converter and a plain copy on the rack's loads, each also at twice the length.
 mod loads;
-use loads::{recording, Group};
+use loads::{many_links, recording, Group};
 use mf4_rs::column::{to_column_oriented_bytes, to_column_oriented_with, ColumnOptions, ColumnSink};
 use mf4_rs::error::MdfError;
 use mf4_rs::index::ByteRangeReader;
@@ -121,25 +121,37 @@ fn time(image: &[u8], turns: usize) -> Timed {
     Timed { port, rust, copy }
 }
 
+// A line of the table; the ratio of the port's time to that at half the length, where there is one.
+fn line(name: &str, seconds: &str, image: &[u8], turns: usize, before: Option<f64>) -> f64 {
+    let t = time(image, turns);
+    let grown = before.map_or(String::new(), |b| format!("{:.2}", t.port.0 / b));
+    println!(
+        "| {name} | {seconds} | {} | {:.1} | {:.1} | {:.1} | {:.1} | {:.1} | {:.1} | {:.2} | {grown} |",
+        image.len() / 1_000_000, t.port.0, t.port.1, t.rust.0, t.rust.1, t.copy.0, t.copy.1, t.port.0 / t.rust.0
+    );
+    t.port.0
+}
+
 fn main() {
     let turns: usize = std::env::args().nth(1).map_or(5, |t| t.parse().unwrap());
+    let only = std::env::args().nth(2).unwrap_or_default();
     let sorted = [Group { channels: 300, bits: 32, inval: false, id: 0 }];
     let inval = [Group { channels: 300, bits: 16, inval: true, id: 0 }];
     let unsorted: Vec<Group> = (1..=10).map(|id| Group { channels: 30, bits: 32, inval: false, id }).collect();
-    let loads = [("300 channels of 32 bits", &sorted[..]), ("300 channels of 16 bits with invalidation bits", &inval[..]), ("10 unsorted groups of 30 channels of 32 bits", &unsorted[..])];
+    let loads = [
+        ("300 channels of 32 bits", &sorted[..]),
+        ("300 channels of 16 bits with invalidation bits", &inval[..]),
+        ("10 unsorted groups of 30 channels of 32 bits", &unsorted[..]),
+    ];
     println!("| load | s | MB | port best | median | Rust best | median | copy best | median | port / Rust | twice the length |");
     println!("|---|---|---|---|---|---|---|---|---|---|---|");
-    for (name, groups) in loads {
-        let mut before = None;
-        for seconds in [60, 120] {
-            let image = recording(groups, seconds * 1000, 4 << 20);
-            let t = time(&image, turns);
-            let grown = before.map_or(String::new(), |b: f64| format!("{:.2}", t.port.0 / b));
-            before = Some(t.port.0);
-            println!(
-                "| {name} | {seconds} | {} | {:.1} | {:.1} | {:.1} | {:.1} | {:.1} | {:.1} | {:.2} | {grown} |",
-                image.len() / 1_000_000, t.port.0, t.port.1, t.rust.0, t.rust.1, t.copy.0, t.copy.1, t.port.0 / t.rust.0
-            );
-        }
+    for (name, groups) in loads.iter().filter(|l| l.0.contains(&only)) {
+        let once = line(name, "60", &recording(groups, 60_000, 4 << 20), turns, None);
+        line(name, "120", &recording(groups, 120_000, 4 << 20), turns, Some(once));
+    }
+    let name = "a conversion block with many links";
+    if name.contains(&only) {
+        let once = line(name, "", &many_links(1 << 19), turns, None);
+        line(name, "", &many_links(1 << 20), turns, Some(once));
     }
 }

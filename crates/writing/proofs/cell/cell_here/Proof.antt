@@ -2,18 +2,22 @@
 use mathlib.Core.Path.{_∙_}
 use Rattle.base.specs.Blit.{part}
 use Rattle.payload_laws.specs.Lists.{length-part}
-use Rattle.writing.specs.CellLaws.{room-kept, cell-bare, cell-kept, part-in, byte-in}
+use Rattle.writing.specs.CellLaws.{room-bytes, room-kept, cell-bare, cell-kept, part-in, byte-in}
 use native.Mathlib.Omega.{arith}
 use lib.ListN.{length}
 use borrow.Author.Needs.{needs}
 use Rattle.writing.proofs.cell.cell_here.Statement.{statement}
 use Rattle.writing.proofs.cell.cell_here.Tie as tie
 
-add-copy : tie.Need-add-copy
-add-copy c = search needs
+add-copy-within : tie.Need-add-copy-within
+add-copy-within c = search needs
 
-copy-requires : tie.Need-copy-requires
-copy-requires c κs = search needs
+copy-within-requires : tie.Need-copy-within-requires
+copy-within-requires c κs = 
+    let p = c .before .before .before .before .pre in
+    let b = room-bytes (p .0) in
+    let f = p .0 .fit in
+    (omega arith, omega arith)
 
 add-i : tie.Need-add-i
 add-i c = let k = c .before .before .before .before .before .before .before .before .before .pre .0 .kept (c .before .if1 .taken)
@@ -47,7 +51,7 @@ returns c =
     let f = w .fit in
     let n = length-part (a .q) (a .h .length) s (omega arith) in
     cell-kept w (part (a .q) (a .h .length) s) (a .to) _ _ (c .before .before .before .if1 .taken) (omega arith)
-    (c .before .before .before .before .before .before .copy .ensures ∙ rw (part-in (a .q) (a .h .length) (a .h .first) (a .h .bytes) s f))
+    (c .before .before .before .before .before .before .copy-within .ensures ∙ rw (part-in (a .q) (a .h .length) (a .h .first) (a .h .bytes) s f))
     (byte-in (a .q) (a .h .length) (a .h .inval) s (w .kept (c .before .before .before .if1 .taken)))
 
 same-length-2 : tie.Need-same-length-2
@@ -59,14 +63,14 @@ returns-2 c =
     let w = c .before .before .before .before .before .before .before .before .pre .0 in
     let s = a .image .now in
     cell-bare w (part (a .q) (a .h .length) s) (a .to) _ (c .if1 .left)
-    (c .before .before .before .copy .ensures ∙ rw (part-in (a .q) (a .h .length) (a .h .first) (a .h .bytes) s (w .fit)))
+    (c .before .before .before .copy-within .ensures ∙ rw (part-in (a .q) (a .h .length) (a .h .first) (a .h .bytes) s (w .fit)))
 
 pub cell-here-spec : {M : Type 1} → statement M
 cell-here-spec =
     tie.close
     (tie.spec
-    add-copy
-    copy-requires
+    add-copy-within
+    copy-within-requires
     add-i
     shared-slice-read-out
     cast-out
