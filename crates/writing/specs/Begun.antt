@@ -1,7 +1,6 @@
 -- A file that is written up to a point: some of its blocks, the others still to come.
 use Prim.Native.Nat.{ℕ, _≤_}
 use mathlib.Core.List.{List, _++_}
-use mathlib.Core.Path.{_≡_}
 use lib.ListN.{length}
 use Rattle.result.specs.Fill.{Block}
 use Rattle.result.specs.Ordered.{Ordered}

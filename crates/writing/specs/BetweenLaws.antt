@@ -6,7 +6,7 @@ use mathlib.Core.Logic.{⊎-elim}
 use native.Mathlib.Nat.{add-zero, min-le-left}
 use native.Mathlib.Omega.{arith}
 use lib.ListN.{length, drop, getD, set, replicate, length-take, length-drop, length-replicate}
-use lib.Seq.{ext-getD, getD-set-other, getD-take, getD-drop, set-getD}
+use lib.Seq.{getD-take, getD-drop, set-getD}
 use Rattle.base.specs.Blit.{part, blit}
 use Rattle.base.specs.BlitLaws.{length-blit, part-blit, part-blit-after}
 use Rattle.plan.specs.Channel.{width}
@@ -19,12 +19,13 @@ use Rattle.shown_laws.specs.Flat.{flat-length}
 use Rattle.shown_laws.specs.Standing.{stands-front, stands-at}
 use Rattle.writing.specs.declared.data.Entry.{Entry}
 use Rattle.writing.specs.AheadLaws.{lt-or-le}
-use Rattle.writing.specs.Sorted.{framedAll}
 use Rattle.writing.specs.Wrote.{endOf, Wrote}
 use Rattle.writing.specs.WroteLaws.{end-append, ordered-end, ordered-front, ordered-back, ordered-first, flat-append}
-use Rattle.writing.specs.Data.{entryIn, entryRecords, entryPayloads, entryKind, entryBlocks, entrySignal, dataFrom, EntryReady, DataReady}
+use Rattle.writing.specs.Data.{entryIn, entryRecords, entryPayloads, entryKind, framedAll, entryBlocks, entrySignal, dataFrom}
+use Rattle.writing.specs.Data.{EntryReady, DataReady}
 use Rattle.writing.specs.DataLaws.{payloads-end, flat-later, flat-ended, entry-room, entry-wrote, Writing, opened, after-blocks, writing-on}
 use Rattle.writing.specs.Same.{Keeps, Has}
+use Rattle.writing.specs.SameLaws.{getD-blit-before, getD-blit-after, getD-blit-in, same-all}
 use Rattle.writing.specs.Region.{regionOf, entryRegion, DataFilled}
 use Rattle.writing.specs.Between.{Standing}
 
@@ -33,31 +34,20 @@ getD-part : (i n p : ℕ) (l : List ℕ) → p < n → getD (part i n l) p 0 ≡
 unfolding part
 getD-part i n p l h = getD-take n (drop i l) p 0 h ∙ getD-drop i l p 0
 
-getD-before : (bs : List ℕ) (i p : ℕ) (l : List ℕ) → p < i → getD (blit i bs l) p 0 ≡ getD l p 0
-unfolding blit
-getD-before [] i p l h = refl
-getD-before (b ∷ bs) i p l h = getD-before bs (suc i) p (set l i b) (omega arith) ∙ getD-set-other l i p b 0 (λ e. omega arith)
-
-getD-after : (bs : List ℕ) (i p : ℕ) (l : List ℕ) → i + length bs ≤ p → getD (blit i bs l) p 0 ≡ getD l p 0
-unfolding blit
-getD-after [] i p l h = refl
-getD-after (b ∷ bs) i p l h = getD-after bs (suc i) p (set l i b) (omega arith) ∙ getD-set-other l i p b 0 (λ e. omega arith)
-
 getD-inside : (bs : List ℕ) (i p : ℕ) (l : List ℕ) → i ≤ p → p < i + length bs → i + length bs ≤ length l
   → getD (blit i bs l) p 0 ≡ getD bs (p - i) 0
 getD-inside bs i p l a h q =
     let x : p ≡ i + (p - i) = omega arith in
-    ap (λ (z : ℕ). getD (blit i bs l) z 0) x ∙ sym (getD-part i (length bs) (p - i) (blit i bs l) (omega arith))
-    ∙ ap (λ (z : List ℕ). getD z (p - i) 0) (part-blit i bs l q)
+    ap (λ (z : ℕ). getD (blit i bs l) z 0) x ∙ getD-blit-in bs i (p - i) l (omega arith) q
 
 -- what is laid over a list hides what stood there
 blit-over : (i : ℕ) (bs l m : List ℕ) → length l ≡ length m → i + length bs ≤ length l → ((p : ℕ) → p < i → getD l p 0 ≡ getD m p 0)
   → ((p : ℕ) → i + length bs ≤ p → getD l p 0 ≡ getD m p 0) → blit i bs l ≡ blit i bs m
 blit-over i bs l m e q before after =
-    ext-getD 0 (blit i bs l) (blit i bs m) (length-blit i bs l ∙ e ∙ sym (length-blit i bs m))
-      (λ p h. ⊎-elim (λ b. getD-before bs i p l b ∙ before p b ∙ sym (getD-before bs i p m b))
+    same-all (blit i bs m) (blit i bs l) (length-blit i bs l ∙ e ∙ sym (length-blit i bs m))
+      (λ p _ h. ⊎-elim (λ b. getD-blit-before bs i p l b ∙ before p b ∙ sym (getD-blit-before bs i p m b))
         (λ a. ⊎-elim (λ b. getD-inside bs i p l a b q ∙ sym (getD-inside bs i p m a b (rw (← e) q)))
-          (λ c. getD-after bs i p l c ∙ after p c ∙ sym (getD-after bs i p m c)) (lt-or-le p (i + length bs))) (lt-or-le p i))
+          (λ c. getD-blit-after bs i p l c ∙ after p c ∙ sym (getD-blit-after bs i p m c)) (lt-or-le p (i + length bs))) (lt-or-le p i))
 
 length-piece : (i n : ℕ) (l : List ℕ) → length (part i n l) ≡ min n (length l - i)
 unfolding part
@@ -66,9 +56,9 @@ length-piece i n l = rw (length-take, length-drop)
 -- parts with the same elements
 part-same : (i n : ℕ) (l m : List ℕ) → length l ≡ length m → ((p : ℕ) → i ≤ p → p < i + n → getD l p 0 ≡ getD m p 0) → part i n l ≡ part i n m
 part-same i n l m e h =
-    ext-getD 0 (part i n l) (part i n m) (length-piece i n l ∙ rw e (sym (length-piece i n m)))
-      (λ p q. let a = length-piece i n l in
-        let b = min-le-left n (length l - i) in
+    same-all (part i n m) (part i n l) (length-piece i n l ∙ rw e (sym (length-piece i n m)))
+      (λ p _ q. let a = length-piece i n m in
+        let b = min-le-left n (length m - i) in
         getD-part i n p l (omega arith) ∙ h (i + p) (omega arith) (omega arith) ∙ sym (getD-part i n p m (omega arith)))
 
 -- laying over a list what stands there changes nothing
@@ -273,6 +263,6 @@ module _ {s : List ℕ} {size : ℕ} {w : List ℕ} {n : ℕ} {fs : List ℕ} {n
     → Wrote at (dataFrom s size w n fs nf cs m 0 number) r out last
   filled-wrote {r} {last} y =
       let over : blit at bytes mid ≡ blit at bytes out =
-          blit-over at bytes mid out (v .same) (rw (v .same) bytes-room) (λ p b. outside p (getD-before bytes at p out b))
-            (λ p a. outside p (getD-after bytes at p out a)) in
+          blit-over at bytes mid out (v .same) (rw (v .same) bytes-room) (λ p b. outside p (getD-blit-before bytes at p out b))
+            (λ p a. outside p (getD-blit-after bytes at p out a)) in
       record { end = y .end; bytes = y .bytes ∙ rw (y .end) over }

@@ -10,11 +10,11 @@ use Rattle.base.specs.Checked.{fine}
 use Rattle.mdf.specs.Block.{kindSD}
 use Rattle.mdf.specs.Group.{samples, invalBytes, isStorage}
 use Rattle.mdf.specs.Words.{fragmentsOf}
-use Rattle.mdf.specs.Records.{joined}
+use Rattle.mdf.specs.Records.{joined, runs, sortedRecords, sortedIn, unsortedFrames}
 use Rattle.plan.specs.Channel.{fits, keepsInval, width}
 use Rattle.plan.specs.Geometry.{blockCount, perFull}
 use Rattle.plan.specs.Data.{recordsIn}
-use Rattle.result.specs.Payload.{groupRecords, payloads}
+use Rattle.result.specs.Payload.{framedRecords, groupRecords, payloads}
 use Rattle.result.specs.Fill.{Block, block, framed, dataKind, payloadBlocks}
 use Rattle.result.specs.Ordered.{Ordered}
 use Rattle.payload_laws.specs.Lists.{Long}
@@ -56,6 +56,13 @@ abbrev pub entryKind : List ℕ → Entry → ℕ
 entryKind s e = dataKind (keepsInval s (e .group) (e .channel))
 
 -- ---- its blocks
+
+-- the blocks of payloads, one after the other
+unfoldable pub framedAll : ℕ → List (List ℕ) → List ℕ
+framedAll kind [] = []
+framedAll kind (p ∷ ps) = framed kind p ++ framedAll kind ps
+
+-- those of its records, with their addresses
 unfoldable pub entryBlocks : List ℕ → ℕ → List ℕ → ℕ → List ℕ → ℕ → Entry → List Block
 entryBlocks s size w n fs nf e = payloadBlocks (entryKind s e) (e .first) (entryPayloads s size e (entryRecords s w n fs nf e))
 
@@ -99,3 +106,19 @@ pub record DataReady (s : List ℕ) (size : ℕ) (w : List ℕ) (n : ℕ) (fs : 
   pub places : 6656 + 3 * number ≤ length m
   pub entries : (k : ℕ) → k < number → EntryReady s w n fs nf (entryIn cs m k)
   pub ordered : Ordered at (dataFrom s size w n fs nf cs m 0 number) room
+
+-- ---- what is asked where a column's records are read
+
+-- the channel at c fits the group at g, which is alone in the DG at d; if the column has bytes, the data is as checked and counted
+pub record SortedReady (s ws : List ℕ) (d g c n : ℕ) : Type 0 where
+  pub fit : fits s g c ≡ true
+  pub checked : 0 < width s g c → 0 < n → sortedIn s d g (fragmentsOf ws) ≡ fine
+  pub counted : 0 < width s g c → 0 < n → length (sortedRecords s d g (runs (fragmentsOf ws))) ≡ n
+
+-- the channel at c fits the group at g, which is number k of those of the DG at d and no VLSD storage; if the column has bytes, the
+-- records are as counted
+pub record SeveralReady (s gs ws : List ℕ) (d k g c n : ℕ) : Type 0 where
+  pub fit : fits s g c ≡ true
+  pub group : getD gs k 0 ≡ g
+  pub plain : isStorage s g ≡ false
+  pub counted : 0 < width s g c → 0 < n → length (framedRecords k (unsortedFrames s d gs (fragmentsOf ws))) ≡ n

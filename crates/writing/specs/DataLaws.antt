@@ -1,14 +1,14 @@
 -- Laws of the data blocks and signal data of columns: what is asked where they are written, and that they were.
-use Prim.Native.Nat.{ℕ, suc, _+_, _*_, _-_, _%_, _^_, _≤_, _<_}
+use Prim.Native.Nat.{ℕ, zero, suc, _+_, _*_, _-_, _%_, _^_, _≤_, _<_}
 use mathlib.Core.Bool.{true}
 use mathlib.Core.List.{List, [], _∷_, _++_, append-nil, append-assoc}
 use mathlib.Core.Path.{_≡_, refl, sym, ap, _∙_}
-use native.Mathlib.Nat.{suc-mul, mod-eq-of-lt}
+use native.Mathlib.Nat.{add-zero, zero-mul, mul-zero, suc-mul, mod-eq-of-lt}
 use native.Mathlib.Omega.{arith}
-use lib.ListN.{length, take, drop, replicate, length-append, length-replicate}
+use lib.ListN.{length, take, replicate, length-append, length-replicate}
 use lib.Seq.{take-all}
 use Rattle.base.specs.ChoiceLaws.{eq-yes, eq-no}
-use Rattle.base.specs.Blit.{part, blit}
+use Rattle.base.specs.Blit.{blit}
 use Rattle.base.specs.BlitLaws.{length-blit, blit-append, length-part}
 use Rattle.base.specs.Checked.{fine}
 use Rattle.mdf.specs.Block.{kindSD}
@@ -16,28 +16,25 @@ use Rattle.mdf.specs.Chain.{Fragment}
 use Rattle.mdf.specs.Group.{samples, invalBytes}
 use Rattle.mdf.specs.Words.{fragmentsOf}
 use Rattle.mdf.specs.Records.{joined, runs, sortedRecords, unsortedFrames}
-use Rattle.plan.specs.Channel.{fits, keepsInval, width}
+use Rattle.plan.specs.Channel.{fits, width}
 use Rattle.plan.specs.Geometry.{blockCount, perFull}
 use Rattle.plan.specs.Data.{recordsIn}
 use Rattle.result.specs.Payload.{framedRecords, groupRecords, payloads}
-use Rattle.result.specs.Fill.{Block, block, framed, dataKind, payloadBlocks}
+use Rattle.result.specs.Fill.{Block, block, framed, payloadBlocks}
 use Rattle.result.specs.Ordered.{Ordered}
 use Rattle.result.specs.Result.{flat}
 use Rattle.payload_laws.specs.Lists.{Long, together}
-use Rattle.payload_laws.specs.GeometryLaws.{split}
+use Rattle.payload_laws.specs.GeometryLaws.{split, no-blocks}
 use Rattle.payload_laws.specs.PayloadLaws.{length-framed, length-payloads, payloads-joined}
 use Rattle.payload_laws.specs.CellLaws.{length-cells}
 use Rattle.writing.specs.declared.own.Own.{Own}
 use Rattle.writing.specs.declared.data.Entry.{Entry}
-use Rattle.writing.specs.Sorted.{framedAll, SortedReady}
-use Rattle.writing.specs.SortedSteps.{flat-blocks}
-use Rattle.writing.specs.ColumnLaws.{blocks-some}
-use Rattle.writing.specs.Several.{SeveralReady}
 use Rattle.writing.specs.Wrote.{endOf, Wrote}
 use Rattle.writing.specs.WroteLaws.{ordered-end, ordered-back, ordered-first, wrote-none, wrote-block, wrote-append}
 use Rattle.writing.specs.Own.{OwnOf, ownWords, ownGroups, numberIn}
 use Rattle.writing.specs.OwnLaws.{number-at, one-group}
-use Rattle.writing.specs.Data.{entryIn, recordsBy, entryRecords, entryCount, entryPayloads, entryKind, entryBlocks, signalWords, entrySignal, dataFrom, Tables, EntryReady, DataReady}
+use Rattle.writing.specs.Data.{entryIn, recordsBy, entryRecords, entryCount, entryPayloads, entryKind, framedAll, entryBlocks, signalWords}
+use Rattle.writing.specs.Data.{entrySignal, dataFrom, Tables, EntryReady, DataReady, SortedReady, SeveralReady}
 
 -- ---- the records of one of several groups
 module _ (s : List ℕ) (d k : ℕ) where
@@ -84,14 +81,6 @@ module _ {s w : List ℕ} {n : ℕ} {fs : List ℕ} {nf : ℕ} {e : Entry} {o : 
           checked = λ a b. rw alone at (checked-own a b);
           counted = λ a b. rw (← records-alone) (r .counted a b) }
 
-    pub sorted-is : (size : ℕ) (out : List ℕ) {last : List ℕ}
-      → last ≡ blit 0 (framedAll (dataKind (keepsInval s (e .group) (e .channel))) (payloads s (e .group) (e .channel)
-        (perFull size (width s (e .group) (e .channel)) (e .records)) (blockCount size (width s (e .group) (e .channel)) (e .records))
-        (sortedRecords s (e .parent) (e .group) (runs (fragmentsOf (ownWords fs o)))))) out
-      → last ≡ blit 0 (framedAll (entryKind s e) (entryPayloads s size e (entryRecords s w n fs nf e))) out
-    unfolding entryPayloads
-    sorted-is size out p = rw records-alone p
-
   module _ (z : o .groups ≡ 1 → ⊥) where
     pub many : length (ownGroups w o) ≡ 1 → ⊥
     many h = z (sym own-length ∙ h)
@@ -109,14 +98,6 @@ module _ {s w : List ℕ} {n : ℕ} {fs : List ℕ} {nf : ℕ} {e : Entry} {o : 
           group = rw i (number-at (e .group) (ownGroups w o) listed);
           plain = r .kept;
           counted = λ a b. ap length (sym (records-several i)) ∙ r .counted a b }
-
-    pub several-is : (size k : ℕ) (out : List ℕ) {last : List ℕ} → k ≡ numberIn (e .group) (ownGroups w o)
-      → last ≡ blit 0 (framedAll (dataKind (keepsInval s (e .group) (e .channel))) (payloads s (e .group) (e .channel)
-        (perFull size (width s (e .group) (e .channel)) (e .records)) (blockCount size (width s (e .group) (e .channel)) (e .records))
-        (framedRecords k (unsortedFrames s (e .parent) (ownGroups w o) (fragmentsOf (ownWords fs o)))))) out
-      → last ≡ blit 0 (framedAll (entryKind s e) (entryPayloads s size e (entryRecords s w n fs nf e))) out
-    unfolding entryPayloads
-    several-is size k out i p = rw (records-several i) p
 
 -- ---- blocks one after the other
 framed-size : (kind : ℕ) (ps : List (List ℕ)) → length (framedAll kind ps) ≡ 24 * length ps + length (together ps)
@@ -149,6 +130,17 @@ payloads-end kind a first p (q ∷ ps) =
 
 none-left : (a : ℕ) → replicate {A = ℕ} (a - a) 0 ≡ []
 none-left a = let e : a - a ≡ 0 = omega arith in rw e
+
+flat-blocks : (kind a e : ℕ) (ps : List (List ℕ)) (bs : List Block)
+  → flat a (payloadBlocks kind a ps ++ bs) e ≡ framedAll kind ps ++ flat (a + length (framedAll kind ps)) bs e
+unfolding flat payloadBlocks framedAll
+flat-blocks kind a e [] bs = rw add-zero
+flat-blocks kind a e (p ∷ ps) bs =
+    let z : a - a ≡ 0 = omega arith in
+    let n : length (framed kind p) ≡ 24 + length p = length-framed kind p in
+    let m : a + (24 + length p) + length (framedAll kind ps) ≡ a + length (framed kind p ++ framedAll kind ps) =
+        rw length-append (omega arith) in
+    rw (z, n, flat-blocks kind (a + (24 + length p)) e ps bs, m) (sym (append-assoc (framed kind p) (framedAll kind ps) _))
 
 pub flat-later : (kind a first r : ℕ) (p : List ℕ) (ps : List (List ℕ))
   → flat a (payloadBlocks kind first (p ∷ ps)) r ≡ replicate (first - a) 0 ++ flat first (payloadBlocks kind first (p ∷ ps)) r
@@ -183,6 +175,13 @@ payloads-room {at} {e} kind first (p ∷ ps) z o =
     (o .0, rw (payloads-end kind at first p ps) at (h .1))
 
 -- ---- a column's blocks
+
+-- with blocks it has width and records
+pub blocks-some : (size w n : ℕ) → 0 < blockCount size w n → (0 < w) × (0 < n)
+blocks-some size zero n z = let e = no-blocks size 0 n (zero-mul n) in absurd (omega arith)
+blocks-some size (suc w) zero z = let e = no-blocks size (suc w) 0 (mul-zero (suc w)) in absurd (omega arith)
+blocks-some size (suc w) (suc n) z = (omega arith, omega arith)
+
 module _ {s w : List ℕ} {n : ℕ} {fs : List ℕ} {nf : ℕ} {e : Entry} (size at room : ℕ) (r : EntryReady s w n fs nf e)
     (o : Ordered at (entryBlocks s size w n fs nf e) room) {x b : ℕ} (p : x ≡ width s (e .group) (e .channel))
     (q : b ≡ blockCount size x (e .records)) where
@@ -209,15 +208,6 @@ module _ {s w : List ℕ} {n : ℕ} {fs : List ℕ} {nf : ℕ} {e : Entry} (size
     pub entry-room : (at ≤ e .first) × (e .first + (24 * b + x * e .records) ≤ room)
     unfolding entryBlocks
     entry-room = rw size-is at (payloads-room (entryKind s e) (e .first) (entryPayloads s size e (entryRecords s w n fs nf e)) some-payloads o)
-
-    pub entry-lent : (out mid : List ℕ) → mid ≡ blit at (replicate (e .first - at) 0) out → length out ≡ room
-      → 24 * entryCount s size e + width s (e .group) (e .channel) * e .records ≤ length (take (length mid - e .first) (drop (e .first) mid))
-    unfolding part
-    entry-lent out mid m q =
-        let h = entry-room in
-        let l : length mid ≡ room = ap length m ∙ length-blit at (replicate (e .first - at) 0) out ∙ q in
-        let k = length-part (e .first) (length mid - e .first) mid (omega arith) in
-        rw (count-is, ← p) (omega arith)
 
     pub entry-wrote : (out : List ℕ) {mid last : List ℕ} → mid ≡ blit at (replicate (e .first - at) 0) out
       → last ≡ blit (e .first) (framedAll (entryKind s e) (entryPayloads s size e (entryRecords s w n fs nf e))) mid

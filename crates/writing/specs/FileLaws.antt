@@ -1,5 +1,5 @@
 -- What was decided and stands in the words gives each part of the file its blocks and its room.
-use Prim.Native.Nat.{ℕ, zero, suc, _+_, _*_, _-_, _≤_, _<_}
+use Prim.Native.Nat.{ℕ, zero, suc, _+_, _*_, _-_, _≤_}
 use mathlib.Core.List.{List, [], _∷_, _++_, append-nil, append-assoc}
 use mathlib.Core.Path.{_≡_, refl, sym, ap, subst, _∙_}
 use native.Mathlib.Omega.{arith}
@@ -25,8 +25,8 @@ use Rattle.writing.specs.Data.{dataFrom, DataReady}
 use Rattle.writing.specs.DataReadyLaws.{data-blocks, data-ready}
 use Rattle.writing.specs.Answer.{fileFor}
 use Rattle.plan.specs.Copies.{Copy, Attachment}
-use Rattle.plan.specs.CopyWords.{historyAt, placedAt, laidCopies}
-use Rattle.plan.specs.Layout.{Layout, Placed, structurePlace}
+use Rattle.plan.specs.CopyWords.{historyAt, laidCopies}
+use Rattle.plan.specs.Layout.{Layout, structurePlace}
 use Rattle.placing.specs.Standing.{copiesIn}
 use Rattle.result.specs.Fill.{Block, block, newLink, copiedBlocks, mdBytes, fhBytes, hdBytes, nextDG, structureBlocks, dataBlocks, nextAttachment, attachmentBlocks}
 use Rattle.result.specs.Ordered.{Ordered}
@@ -34,20 +34,19 @@ use Rattle.result.specs.Result.{Args, Decided, decided, memoOf, firstFH, hdBloc
 use Rattle.copies_laws.specs.Laid.{Laid}
 use Rattle.copies_laws.specs.LengthLaws.{length-copied, length-at, length-hd}
 use Rattle.copies_laws.specs.AttachLaws.{LaidAt, ownCopies}
-use Rattle.copies_laws.specs.LayoutLaws.{LaidOut, columns-placed, history-laid, columns-laid, attachments-laid}
+use Rattle.copies_laws.specs.LayoutLaws.{LaidOut, columns-placed}
 use Rattle.plan_laws.specs.Known.{Known, decided-known}
 use Rattle.guarantee.specs.Theorem.{o, in-image, ordered}
 use Rattle.placing.specs.declared.layout.Numbers as numbers
 use Rattle.writing.specs.PlacedIn.{placedOne, placedIn}
 use Rattle.writing.specs.PlacedInLaws.{length-placed, next-in, structure-in, structure-ready}
 use Rattle.writing.specs.Structure.{StructureReady}
-use Rattle.writing.specs.Attachments.{attachmentsFrom, attachmentsIn, NextPlace}
+use Rattle.writing.specs.Attachments.{attachmentsIn, NextPlace}
 use Rattle.writing.specs.LaidWordsLaws.{Numbers, copies-order, history-room, columns-room, attachments-room, attachments-few, history-blocks, columns-blocks, attachments-blocks, copies-read, chain-read, attachments-read}
 use Rattle.writing.specs.Wrote.{endOf, Wrote}
 use Rattle.writing.specs.WroteLaws.{ordered-end, ordered-first}
 use Rattle.writing.specs.Begun.{Begun}
-use Rattle.writing.specs.BegunLaws.{begun-none, begun-room, begun-next, begun-length, begun-end, begun-all}
-use Rattle.placing.specs.Decision.{DecidedIn}
+use Rattle.writing.specs.BegunLaws.{begun-none, begun-room, begun-next, begun-end, begun-all}
 use Rattle.writing.specs.Finish.{Stands}
 
 -- ---- copies and attachments stand where their blocks are in order

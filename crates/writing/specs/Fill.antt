@@ -12,13 +12,12 @@ use Rattle.writing.specs.declared.rows.Sizes.{Sizes}
 use Rattle.writing.specs.declared.rows.Row.{Row}
 use Rattle.writing.specs.declared.fill.Held.{Held}
 use Rattle.writing.specs.Ahead.{ahead, nextOf}
-use Rattle.writing.specs.SortedSteps.{start}
 use Rattle.writing.specs.Own.{numberIn}
 use Rattle.writing.specs.Data.{entryIn, entryCount}
 use Rattle.writing.specs.Same.{Keeps, Has}
 use Rattle.writing.specs.Tile.{TileOf, picked}
 use Rattle.writing.specs.Region.{regionOf, entryTo, Extends, ColumnReady}
-use Rattle.writing.specs.Rows.{rowsFrom, Flowing, SizesOf, RowAt}
+use Rattle.writing.specs.Rows.{start, rowsFrom, Flowing, SizesOf}
 
 -- ---- of a column: its group's records among those of the DG with the groups gs, how far they fill its blocks, and its blocks
 

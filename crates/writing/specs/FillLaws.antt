@@ -1,5 +1,5 @@
 -- Laws of columns filled tile by tile.
-use Prim.Native.Nat.{ℕ, zero, suc, _+_, _*_, _-_, _≤_, _<_}
+use Prim.Native.Nat.{ℕ, zero, suc, _+_, _*_, _≤_, _<_}
 use mathlib.Core.Bool.{Bool, true, false}
 use mathlib.Core.List.{List, [], _∷_, _++_, append-assoc, append-nil}
 use mathlib.Core.Path.{_≡_, refl, sym, ap, _∙_, subst}
@@ -21,22 +21,22 @@ use Rattle.writing.specs.Ahead.{ahead, nextOf, past}
 use Rattle.writing.specs.AheadLaws.{lt-or-le}
 use Rattle.writing.specs.Own.{numberIn}
 use Rattle.writing.specs.Data.{entryIn, entryCount, entryKind, entryPayloads}
-use Rattle.writing.specs.Same.{Keeps, Has}
+use Rattle.writing.specs.Same.{Has}
 use Rattle.writing.specs.declared.cursor.Cursor.{Cursor}
 use Rattle.writing.specs.declared.rows.Sizes.{Sizes}
 use Rattle.writing.specs.declared.fill.Held.{Held}
 use Rattle.base.specs.Blit.{blit}
 use Rattle.base.specs.BlitLaws.{length-blit, blit-is}
 use Rattle.writing.specs.Tile.{recordsAt, Inside, TileOf, none, more, picked, countOf, Tallied}
-use Rattle.writing.specs.Rows.{rowsFrom, Flowing, Onward, RowAt, Gathered}
+use Rattle.writing.specs.Rows.{start, rowsFrom, Flowing, Onward, RowAt, Gathered}
 use Rattle.writing.specs.RowsLaws.{rows-settled, flowing-settled, rows-end}
-use Rattle.writing.specs.SortedSteps.{start}
 use Rattle.writing.specs.DataLaws.{payloads-size}
 use Rattle.writing.specs.TileLaws.{length-picked, picked-are, count-rows}
-use Rattle.writing.specs.Region.{regionOf, entryTo, Extends, ColumnReady, Due, DueJoined, PutColumn, PutJoined}
+use Rattle.writing.specs.Region.{regionOf, entryTo, Extends, Due, DueJoined, PutColumn, PutJoined}
 use Rattle.writing.specs.RegionLaws.{entry-none, entry-zero, entry-full}
 use Rattle.writing.specs.declared.rows.Row.{Row}
-use Rattle.writing.specs.Fill.{rowsOf, toOf, wholeOf, ColumnDue, Done, TileDue, PutTile, SplitDue, PutSplit, AllDue, AllDone, Advances, TileNext, PutTiles, SplitNext, PutSplits, Turn, Turned, TurnNext, TurnDone, GroupReady, Filled, Holds, Splitting, Tiling}
+use Rattle.writing.specs.Fill.{rowsOf, toOf, wholeOf, ColumnDue, TileDue, PutTile, SplitDue, PutSplit, AllDue, AllDone, Advances, TileNext}
+use Rattle.writing.specs.Fill.{PutTiles, SplitNext, PutSplits, Turn, Turned, TurnNext, TurnDone, GroupReady, Filled, Holds, Splitting, Tiling}
 
 -- ---- the records of a group among rows
 pick-append : (t : Bool) (b : List ℕ) (l r : List (List ℕ)) → pick t (b ∷ (l ++ r)) (l ++ r) ≡ pick t (b ∷ l) l ++ r

@@ -7,34 +7,37 @@ use mathlib.Core.Logic.{_⊎_, inl, inr, ⊎-elim}
 use native.Mathlib.Omega.{arith}
 use lib.ListN.{length, getD}
 use Rattle.base.specs.Blit.{part}
-use Rattle.base.specs.Checked.{ok}
+use Rattle.base.specs.Checked.{Checked, ok, refused}
 use Rattle.mdf.specs.Walk.{idSize}
 use Rattle.mdf.specs.Words.{fragmentsOf}
 use Rattle.mdf.specs.Group.{samples, invalBytes}
-use Rattle.mdf.specs.Records.{runs, sortedRecords, Frame, unsortedFrames}
+use Rattle.mdf.specs.Records.{runs, sortedRecords, Frame, unsortedFrames, unsortedRecords}
 use Rattle.plan.specs.Channel.{width}
+use Rattle.result.specs.Payload.{framedRecords}
 use Rattle.result.specs.Fill.{Block}
 use Rattle.result.specs.Ordered.{Ordered}
 use Rattle.channels.specs.Small.{Small}
 use Rattle.payload_laws.specs.PayloadLaws.{length-payloads}
+use Rattle.payload_laws.specs.CellLaws.{width-within}
+use Rattle.payload_laws.specs.FramedLaws.{Several, unsorted-several, framed-few, counted-group}
 use Rattle.writing.specs.declared.own.Own.{Own}
 use Rattle.writing.specs.declared.data.Entry.{Entry}
 use Rattle.writing.specs.declared.rows.Sizes.{Sizes}
 use Rattle.writing.specs.Ahead.{nextOf}
 use Rattle.writing.specs.AheadLaws.{lt-or-le}
-use Rattle.writing.specs.SortedSteps.{start, ready-bytes, ready-words}
-use Rattle.writing.specs.SeveralSteps.{framing, several-words}
+use Rattle.writing.specs.RunLaws.{some-bytes}
 use Rattle.writing.specs.Wrote.{endOf}
 use Rattle.writing.specs.WroteLaws.{ordered-back, ordered-first}
-use Rattle.writing.specs.ColumnLaws.{blocks-some}
 use Rattle.writing.specs.Own.{OwnOf, ownWords, ownGroups, numberIn}
-use Rattle.writing.specs.Data.{entryIn, entryRecords, entryCount, entryPayloads, entryKind, entryBlocks, entrySignal, dataFrom, Tables, EntryReady, DataReady}
-use Rattle.writing.specs.DataLaws.{own-length, listed, alone, records-alone, sorted-ready, many, records-several, several-ready, payloads-room}
+use Rattle.writing.specs.Data.{entryIn, entryRecords, entryCount, entryPayloads, entryKind, entryBlocks, entrySignal, dataFrom, Tables}
+use Rattle.writing.specs.Data.{EntryReady, DataReady, SortedReady, SeveralReady}
+use Rattle.writing.specs.DataLaws.{own-length, listed, alone, records-alone, sorted-ready, many, records-several, several-ready}
+use Rattle.writing.specs.DataLaws.{blocks-some, payloads-room}
 use Rattle.writing.specs.Same.{Keeps, Has}
 use Rattle.writing.specs.Region.{regionOf, entryRegion, ColumnReady, DataFilled}
 use Rattle.writing.specs.RegionLaws.{entry-none}
-use Rattle.writing.specs.Rows.{rowsFrom, Flowing, SizesOf}
-use Rattle.writing.specs.RowsLaws.{alone-records, rows-start-alone, rows-start-several}
+use Rattle.writing.specs.Rows.{start, rowsFrom, Flowing, SizesOf}
+use Rattle.writing.specs.RowsLaws.{start-words, alone-records, rows-start-alone, rows-start-several}
 use Rattle.writing.specs.Fill.{rowsOf, wholeOf, ColumnDue, Lent, GroupReady, Filled}
 use Rattle.writing.specs.FillRun.{Run, AnyBlocks, RunFilled}
 
@@ -107,6 +110,36 @@ sizes-are s gs d {g} {i} {a} {b} e x y z =
       short = omega arith;
       length = rw (y .is, z .is, e);
       within = omega arith }
+
+-- ---- where records are counted are words of a fragment
+module _ {s ws : List ℕ} {d g c n : ℕ} (q : SortedReady s ws d g c n) (wide : 0 < width s g c) (some : 0 < n) where
+  ready-bytes : 0 < samples s g + invalBytes s g
+  ready-bytes = let a = width-within s g c (q .fit) in omega arith
+
+  ready-words : 3 ≤ length ws
+  ready-words = let e = q .counted wide some in start-words ws (some-bytes s d g (fragmentsOf ws) (omega arith))
+
+counted-some : (k : ℕ) (v : Checked (List Frame)) {n : ℕ} → 0 < n → length (framedRecords k v) ≡ n → (rs : List Frame) × (v ≡ ok rs)
+counted-some k (ok rs) z e = (rs, refl)
+counted-some k (refused m p) z e = absurd (omega arith)
+
+module _ {s gs ws : List ℕ} {d k g c n : ℕ} (q : SeveralReady s gs ws d k g c n) (wide : 0 < width s g c) (some : 0 < n) where
+  framing : (rs : List Frame) × (unsortedFrames s d gs (fragmentsOf ws) ≡ ok rs)
+  framing = counted-some k (unsortedFrames s d gs (fragmentsOf ws)) some (q .counted wide some)
+
+  several : Several s d gs (fragmentsOf ws) (framing .0)
+  several = unsorted-several s d gs (fragmentsOf ws) (framing .1)
+
+  records-are : framedRecords k (unsortedFrames s d gs (fragmentsOf ws)) ≡ unsortedRecords k (framing .0)
+  records-are = ap (framedRecords k) (framing .1)
+
+  several-words : 3 ≤ length ws
+  several-words =
+      let a = framed-few k several in
+      let b = counted-group k (framing .0) in
+      let e = ap length records-are in
+      let f = q .counted wide some in
+      start-words ws (omega arith)
 
 -- ---- the records of a DG, of which a column has blocks: each column's are those of its group
 pub record Started (s w : List ℕ) (n : ℕ) (fs : List ℕ) (nf d : ℕ) (o : Own) : Type 0 where

@@ -1,21 +1,22 @@
 -- Laws of what a conversion does once all is decided.
-use Prim.Native.Nat.{ℕ, _+_, _*_, _-_, _≤_, _<_}
-use mathlib.Core.List.{List, [], _∷_, _++_}
+use Prim.Native.Nat.{ℕ, _+_, _*_, _≤_, _<_}
+use mathlib.Core.List.{List, [], _∷_}
 use mathlib.Core.Path.{_≡_, refl, sym, ap, subst, _∙_}
 use native.Mathlib.Omega.{arith}
 use lib.ListN.{length, length-append, replicate, length-replicate}
 use Rattle.base.specs.Blit.{blit}
-use Rattle.base.specs.Choice.{ifLt, ifEq}
-use Rattle.base.specs.ChoiceLaws.{lt-yes, lt-no, eq-no}
-use Rattle.base.specs.Checked.{Checked, ok, refused, andThen, Verdict, fine}
+use Rattle.base.specs.Choice.{ifLt}
+use Rattle.base.specs.ChoiceLaws.{lt-yes, lt-no}
+use Rattle.base.specs.Checked.{ok, refused, andThen, Verdict, fine}
 use Rattle.base.specs.BlitLaws.{length-blit}
-use Rattle.base.specs.CheckedLaws.{refused≢ok, ok-same, then-fine}
+use Rattle.base.specs.CheckedLaws.{ok-same, then-fine}
 use Rattle.mdf.specs.Group.{dataGroups}
 use Rattle.mdf.specs.Words.{laidItems}
 use Rattle.plan.specs.CopyWords.{laidCopies}
 use Rattle.plan.specs.Columns.{srcGroups, Omission, omissionAddresses, omissionReasons, omissionWords}
 use Rattle.plan.specs.PlanWords.{laidPlan}
-use Rattle.result.specs.Result.{Args, Report, Decided, decided, lentIn, answer, report, sourceGroupsOf, timeColumns, blocksWritten, Outcome, outcome, zeros, workIn, workLeft, fileOf, convert}
+use Rattle.result.specs.Result.{Args, Report, Decided, decided, lentIn, answer, report, sourceGroupsOf, timeColumns, blocksWritten, Outcome, zeros}
+use Rattle.result.specs.Result.{workIn, fileOf, convert}
 use Rattle.guarantee.specs.Theorem.{guaranteed}
 use Rattle.plan_laws.specs.WalkLaws.{walk-sound}
 use Rattle.plan_laws.specs.Known.{Known, decided-known}

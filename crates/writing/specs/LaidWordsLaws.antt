@@ -12,7 +12,7 @@ use Rattle.base.specs.BlitLaws.{length-blit, part-blit, part-blit-before}
 use Rattle.mdf.specs.Block.{kindAt, linksAt, firstLink, wholeAt}
 use Rattle.mdf.specs.Chain.{isIn}
 use Rattle.plan.specs.Columns.{Column}
-use Rattle.plan.specs.Copies.{Copy, Copies, copies, isCopied, copyRoot, mostCopies, History, history, historyFrom, historyOf, Attachment}
+use Rattle.plan.specs.Copies.{Copy, Copies, isCopied, copyRoot, mostCopies, History, history, historyFrom, historyOf, Attachment}
 use Rattle.plan.specs.CopyWords.{copyWords, attachmentWords, attachmentsAt, historyAt, placedAt, placedWords, laidCopies}
 use Rattle.plan.specs.Layout.{Layout, structurePlace, dataEnd}
 use Rattle.placing.specs.Standing.{copiesFrom, copiesIn}

@@ -4,13 +4,8 @@ pub mod SignalLaws
 pub mod RunLaws
 pub mod Shape
 pub mod CellLaws
-pub mod Column
-pub mod Sorted
-pub mod ColumnLaws
 pub mod Several
 pub mod SeveralLaws
-pub mod SortedSteps
-pub mod SeveralSteps
 pub mod Wrote
 pub mod WroteLaws
 pub mod PlacedIn

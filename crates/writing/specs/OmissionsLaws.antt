@@ -4,10 +4,10 @@ use mathlib.Core.List.{List, [], _∷_, _++_}
 use mathlib.Core.Path.{_≡_, refl, sym, ap, _∙_}
 use native.Mathlib.Nat.{add-zero}
 use native.Mathlib.Omega.{arith}
-use lib.ListN.{length, length-append, getD, set, length-set}
+use lib.ListN.{length, getD, set, length-set}
 use Rattle.base.specs.Blit.{blit}
 use Rattle.base.specs.BlitLaws.{length-blit, blit-append, blit-one}
-use Rattle.plan.specs.Columns.{Column, Omission, Plan, omissionAddresses, omissionReasons, omissionWords}
+use Rattle.plan.specs.Columns.{Omission, Plan, omissionAddresses, omissionReasons, omissionWords}
 use Rattle.plan.specs.PlanWords.{columnsWords, omissionPairs, laidPlan}
 use Rattle.planning.specs.TimeWordLaws.{blit-among}
 use Rattle.writing.specs.Omissions.{everyOther, listed}

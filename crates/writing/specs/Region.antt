@@ -17,8 +17,7 @@ use Rattle.writing.specs.declared.data.Entry.{Entry}
 use Rattle.writing.specs.declared.cursor.Cursor.{Cursor}
 use Rattle.writing.specs.Ahead.{ahead}
 use Rattle.writing.specs.Tile.{recordsAt, Inside}
-use Rattle.writing.specs.Data.{entryIn, entryRecords, entryCount, entryPayloads, entryKind}
-use Rattle.writing.specs.Sorted.{framedAll}
+use Rattle.writing.specs.Data.{entryIn, entryRecords, entryCount, entryPayloads, entryKind, framedAll}
 use Rattle.writing.specs.Same.{Keeps, Has}
 
 -- its blocks, one after the other, for the records rs

@@ -30,8 +30,7 @@ use Rattle.writing.specs.Ahead.{ahead}
 use Rattle.writing.specs.AheadLaws.{lt-or-le, zero-or-more}
 use Rattle.writing.specs.CellLaws.{cell-bare, part-in}
 use Rattle.writing.specs.Tile.{recordsAt, Inside}
-use Rattle.writing.specs.Data.{entryCount, entryPayloads, entryKind}
-use Rattle.writing.specs.Sorted.{framedAll}
+use Rattle.writing.specs.Data.{entryCount, entryPayloads, entryKind, framedAll}
 use Rattle.writing.specs.Same.{Keeps, Has}
 use Rattle.writing.specs.SameLaws.{blit-keeps, blit-has, keeps-none, keeps-then, has-none, has-kept, has-then}
 use Rattle.writing.specs.Region.{regionOf, begun, filledTo, startOf, entryTo, Extends, ColumnReady, Due, DueJoined, PutColumn, PutJoined}

@@ -1,5 +1,5 @@
 -- The counts out of the words are those of the report.
-use Prim.Native.Nat.{ℕ, zero, suc, _+_, _*_, _-_, _≤_, _<_}
+use Prim.Native.Nat.{ℕ, zero, suc, _+_, _*_, _≤_, _<_}
 use mathlib.Core.Bool.{Bool, true, false}
 use mathlib.Core.List.{List, [], _∷_}
 use mathlib.Core.Path.{_≡_, refl, sym, ap, _∙_}
@@ -8,10 +8,7 @@ use native.Mathlib.Omega.{arith}
 use lib.ListN.{length, getD}
 use Rattle.base.specs.Choice.{pick, ifEq}
 use Rattle.base.specs.ChoiceLaws.{eq-yes, eq-no}
-use Rattle.mdf.specs.Walk.{Item, dg, cg, cn}
-use Rattle.mdf.specs.Group.{isStorage, channelsOf}
-use Rattle.plan.specs.Channel.{width}
-use Rattle.plan.specs.Geometry.{blockCount}
+use Rattle.mdf.specs.Group.{isStorage}
 use Rattle.plan.specs.Columns.{SrcGroup, Column, Signal, unsigned, signalData, sizeOfSignal}
 use Rattle.plan.specs.Layout.{columnWidth, columnBlocks}
 use Rattle.plan.specs.PlanWords.{columnWords, columnsWords, timeWord, signalWord}

@@ -1,11 +1,11 @@
 -- The records of a DG's groups, one after the other from a cursor on, each with the number of its group.
 use Prim.Native.Nat.{ℕ, _+_, _≤_, _<_}
-use mathlib.Core.Bool.{false}
 use mathlib.Core.List.{List, [], _∷_, _++_}
 use mathlib.Core.Path.{_≡_}
 use lib.ListN.{length, getD, take}
 use Rattle.base.specs.Choice.{ifEq}
 use Rattle.base.specs.Checked.{fine}
+use Rattle.mdf.specs.Chain.{Kind, dt, dv}
 use Rattle.mdf.specs.Walk.{idSize}
 use Rattle.mdf.specs.Group.{samples, invalBytes}
 use Rattle.mdf.specs.Records.{most64, rangesIn, joined, sizeOf, runs, sortedRecords, Frame}
@@ -15,6 +15,15 @@ use Rattle.writing.specs.Ahead.{ahead, past, Settled}
 use Rattle.writing.specs.RunLaws.{Whole}
 use Rattle.writing.specs.Several.{framesIn, WholeFrames}
 use Rattle.writing.specs.Tile.{TileOf}
+
+-- of so many id bytes those that a record has in a fragment of a kind
+abbrev pub idIn : Kind → ℕ → ℕ
+idIn dt n = n
+idIn dv n = 0
+
+-- the first cursor: before it are no bytes
+abbrev pub start : Cursor
+start = record { at = 0; position = 0; left = 0 }
 
 -- the records of a group that is alone: its number is 0
 unfoldable pub aloneRows : List (List ℕ) → List Frame

@@ -2,9 +2,9 @@
 use Prim.Native.Nat.{ℕ, zero, suc, _+_, _-_, _≤_, _<_}
 use mathlib.Core.List.{List, [], _∷_, _++_, append-assoc}
 use mathlib.Core.Path.{_≡_, refl, sym, ap, _∙_}
-use mathlib.Core.Logic.{_⊎_, inl, inr}
+use mathlib.Core.Logic.{_⊎_, inl, inr, ⊎-elim}
 use native.Mathlib.Omega.{arith}
-use lib.ListN.{length, getD, set, take, drop, length-set}
+use lib.ListN.{length, getD, set, take, drop, length-set, List·getD-eq-default}
 use lib.Seq.{length-take-le}
 use Rattle.base.specs.Choice.{ifEq}
 use Rattle.base.specs.ChoiceLaws.{eq-yes, eq-no}
@@ -15,7 +15,7 @@ use Rattle.mdf.specs.Walk.{idSize}
 use Rattle.mdf.specs.Words.{kindOf, fragmentsOf}
 use Rattle.mdf.specs.Group.{samples, invalBytes}
 use Rattle.mdf.specs.Records.{most64, rangesIn, joined, sizeOf, idBytes, runs, sortedRecords, sortedIn}
-use Rattle.mdf.specs.Records.{Frame, framed, broken, frameAt, unsortedFrames, unsortedRecords}
+use Rattle.mdf.specs.Records.{Frame, framed, frameAt, unsortedFrames, unsortedRecords}
 use Rattle.payload_laws.specs.Answers.{eq-cases}
 use Rattle.payload_laws.specs.SortedLaws.{joined-length, sorted-ranges}
 use Rattle.payload_laws.specs.FramedLaws.{AllKnown, unsorted-several}
@@ -30,16 +30,33 @@ use Rattle.records.specs.ReadingLaws.{stuck-broken}
 use Rattle.writing.specs.declared.cursor.Cursor.{Cursor}
 use Rattle.writing.specs.declared.rows.Sizes.{Sizes}
 use Rattle.writing.specs.Ahead.{later, here, ahead, nextOf, moved, past, settled, Settled}
-use Rattle.writing.specs.AheadLaws.{zero-or-more, later-more, later-none, ahead-next, settled-none, settled-some, size-settled}
+use Rattle.writing.specs.AheadLaws.{lt-or-le, zero-or-more, later-more, later-none, ahead-next, settled-none, settled-some, size-settled}
 use Rattle.writing.specs.AheadLaws.{joined-settled, ranges-settled, size-past, ranges-past, joined-past, past-past}
 use Rattle.writing.specs.AheadLaws.{ranges-here, past-here, take-here}
 use Rattle.writing.specs.SignalLaws.{later-all}
 use Rattle.writing.specs.RunLaws.{Whole, FirstRecord, first-record, records-settled, whole-settled, some-bytes, whole-sorted}
-use Rattle.writing.specs.Sorted.{idIn}
 use Rattle.writing.specs.Several.{framesIn, Read, end, more, WholeFrames}
-use Rattle.writing.specs.SeveralLaws.{read-is, frame-fits, frames-read, unsorted-frames}
+use Rattle.writing.specs.SeveralLaws.{broken≢framed, read-is, frame-fits, frames-read, unsorted-frames}
 use Rattle.writing.specs.Tile.{TileOf}
-use Rattle.writing.specs.Rows.{aloneRows, rowsFrom, Flowing, SizesOf, Onward, RowAt, Gathered}
+use Rattle.writing.specs.Rows.{idIn, start, aloneRows, rowsFrom, Flowing, SizesOf, Onward, RowAt, Gathered}
+
+-- ---- id bytes by kind
+kind-dt : (x : ℕ) → x ≡ 0 → kindOf x ≡ dt
+unfolding kindOf
+kind-dt x e = sym (eq-yes _ _ _ _ e refl)
+
+kind-dv : (x : ℕ) → (x ≡ 0 → ⊥) → kindOf x ≡ dv
+unfolding kindOf
+kind-dv x e = sym (eq-no _ _ _ _ e refl)
+
+pub id-dt : (x n : ℕ) → x ≡ 0 → n ≡ idIn (kindOf x) n
+id-dt x n e = rw (kind-dt x e)
+
+pub id-dv : (x n : ℕ) → (x ≡ 0 → ⊥) → 0 ≡ idIn (kindOf x) n
+id-dv x n e = rw (kind-dv x e)
+
+pub id-past : (ws : List ℕ) (i n : ℕ) → length ws ≤ i → n ≡ idIn (kindOf (getD ws i 0)) n
+id-past ws i n h = id-dt (getD ws i 0) n (List·getD-eq-default ws 0 h)
 
 -- ---- to the first fragment that has bytes
 pub record SettlingOn (ws : List ℕ) (c k : Cursor) : Type 0 where
@@ -134,8 +151,15 @@ alone-records [] = refl
 alone-records (r ∷ rs) = sym (eq-yes _ _ _ _ refl (rw (alone-records rs)))
 
 -- ---- at the beginning
-abbrev pub start : Cursor
-start = record { at = 0; position = 0; left = 0 }
+size-none : sizeOf [] ≡ 0
+unfolding sizeOf
+size-none = refl
+
+pub start-words : (ws : List ℕ) → 0 < sizeOf (fragmentsOf ws) → 3 ≤ length ws
+start-words ws h =
+    ⊎-elim (λ l. let e : sizeOf (fragmentsOf ws) ≡ 0 = ap sizeOf (later-all ws ∙ later-none ws 0 (omega arith)) ∙ size-none
+        in absurd (omega arith)) (λ l. l)
+    (lt-or-le (length ws) 3)
 
 start-ahead : (ws : List ℕ) → 3 ≤ length ws → ahead ws (nextOf ws start) ≡ fragmentsOf ws
 unfolding ahead
@@ -281,9 +305,6 @@ stuck≢stepped e = let z : _≡_ {A = ℕ} 0 1 = cc in omega arith
 
 same-step : {i j m n : ℕ} {fs gs : List Fragment} → stepped i m fs ≡ stepped j n gs → (i ≡ j) × (m ≡ n)
 same-step e = (cc, cc)
-
-broken≢framed : {r : Frame} → broken ≡ framed r → ⊥
-broken≢framed e = let z : _≡_ {A = ℕ} 0 1 = cc in omega arith
 
 module _ (s : List ℕ) (n : ℕ) (gs ws : List ℕ) (k : Cursor) {v : Frame} (r : Step)
     (f : frameAt s n gs (joined s (ahead ws k)) ≡ framed v)

@@ -1,8 +1,8 @@
--- The records of several groups ahead of a cursor, one after the other.
+-- Laws of the records of several groups in bytes.
 use Prim.Native.Nat.{ℕ, zero, suc, _+_, _≤_, _<_}
 use mathlib.Core.Bool.{Bool, true, false}
 use mathlib.Core.List.{List, [], _∷_, _++_, append-assoc, append-nil}
-use mathlib.Core.Path.{_≡_, refl, sym, ap, _∙_, subst}
+use mathlib.Core.Path.{_≡_, refl, sym, _∙_, subst}
 use mathlib.Core.Logic.{_⊎_, inl, inr}
 use native.Mathlib.Omega.{arith}
 use lib.ListN.{length, drop, length-drop}
@@ -16,14 +16,13 @@ use Rattle.mdf.specs.Chain.{Fragment}
 use Rattle.mdf.specs.Walk.{idSize}
 use Rattle.mdf.specs.Group.{samples, invalBytes, isStorage}
 use Rattle.mdf.specs.Records.{most64, rangesIn, joined, placeOf, sizeOf, anyDV, equalIds, Frame, Framed, framed, broken, Known, known, unknown}
-use Rattle.mdf.specs.Records.{withId, onKnown, ofBytes, frameOf, frameAt, onFramed, framesFrom, frames, unsortedFrames, unsortedRecords}
+use Rattle.mdf.specs.Records.{withId, onKnown, ofBytes, frameOf, frameAt, onFramed, framesFrom, frames, unsortedFrames}
 use Rattle.payload_laws.specs.Answers.{eq-cases}
 use Rattle.payload_laws.specs.Lists.{length-part}
-use Rattle.payload_laws.specs.FramedLaws.{KnownFrame, AllKnown}
-use Rattle.writing.specs.Several.{framesIn, ownIn, Read, end, more, WholeFrames}
+use Rattle.writing.specs.Several.{framesIn, Read, end, more}
 
 -- ---- a frame
-broken≢framed : {r : Frame} → broken ≡ framed r → ⊥
+pub broken≢framed : {r : Frame} → broken ≡ framed r → ⊥
 broken≢framed e = let z : _≡_ {A = ℕ} 0 1 = cc in omega arith
 
 same-frame : {q r : Frame} → framed q ≡ framed r → q ≡ r
@@ -72,10 +71,6 @@ module _ {s : List ℕ} {n : ℕ} {gs : List ℕ} (some : 0 < n) where
       let b = f .within in
       let i : framesIn turns s n gs (drop (r .size) l) ≡ rs = read-is turns q (rw length-drop (omega arith)) in
       sym (eq-no _ _ _ _ (λ y. omega arith) (rw (e, i)))
-
-  pub own-is : (j : ℕ) {l : List ℕ} (t : WholeFrames s n gs l) → ownIn s n gs j l ≡ unsortedRecords j (t .frames)
-  unfolding ownIn
-  own-is j {l} t = ap (unsortedRecords j) (read-is (length l) (t .read) (omega arith))
 
 -- ---- what the framing gives
 onFramed-ok : (o : Framed) (n p : ℕ) (f : Frame → Checked (List Frame)) {rs : List Frame} → onFramed o (refused n p) f ≡ ok rs
@@ -135,46 +130,3 @@ unsorted-frames s d gs fs {rs} e =
     let a4 = then-fine (rangesIn s fs) (λ _. sized) (a3 .1) in
     let a5 = then-fine (ifLt most64 (sizeOf fs) (refused 19 d) fine) (λ _. read) (a4 .1) in
     (lt-back _ _ _ _ (a5 .0) refused≢ok .0, a5 .1)
-
--- ---- the first record
-pub record FirstFrame (s : List ℕ) (n : ℕ) (gs : List ℕ) (j : ℕ) (l : List ℕ) : Type 0 where
-  pub frame : Frame
-  pub is : frameAt s n gs l ≡ framed frame
-  pub size : frame .size ≡ n + length (frame .bytes)
-  pub within : frame .size ≤ length l
-  pub bytes : frame .bytes ≡ part n (length (frame .bytes)) l
-  pub known : KnownFrame s n gs frame
-  pub later : WholeFrames s n gs (drop (frame .size) l)
-  pub own : frame .group ≡ j → ownIn s n gs j l ≡ frame .bytes ∷ ownIn s n gs j (drop (frame .size) l)
-  pub other : (frame .group ≡ j → ⊥) → ownIn s n gs j l ≡ ownIn s n gs j (drop (frame .size) l)
-
-known-first : {s gs : List ℕ} {n : ℕ} {r : Frame} {rs : List Frame} → AllKnown s n gs (r ∷ rs) → KnownFrame s n gs r × AllKnown s n gs rs
-known-first (AllKnown.next k l) = (k, l)
-
-records-own : (j : ℕ) (r : Frame) (rs : List Frame) → r .group ≡ j → unsortedRecords j (r ∷ rs) ≡ r .bytes ∷ unsortedRecords j rs
-unfolding unsortedRecords
-records-own j r rs e = sym (eq-yes _ _ _ _ e refl)
-
-records-other : (j : ℕ) (r : Frame) (rs : List Frame) → (r .group ≡ j → ⊥) → unsortedRecords j (r ∷ rs) ≡ unsortedRecords j rs
-unfolding unsortedRecords
-records-other j r rs e = sym (eq-no _ _ _ _ e refl)
-
-none-own : (j : ℕ) → length (unsortedRecords j []) ≡ 0
-unfolding unsortedRecords
-none-own j = refl
-
-pub first-frame : {s : List ℕ} {n : ℕ} {gs : List ℕ} (j : ℕ) {l : List ℕ} → 0 < n → WholeFrames s n gs l → 0 < length (ownIn s n gs j l)
-  → FirstFrame s n gs j l
-first-frame {s} {n} {gs} j {l} some t z = go (t .frames) (t .read) (t .known) (own-is some j t)
-  where
-    go : (rs : List Frame) → Read s n gs l rs → AllKnown s n gs rs → ownIn s n gs j l ≡ unsortedRecords j rs → FirstFrame s n gs j l
-    go [] (end y) k e = let a : length (ownIn s n gs j l) ≡ 0 = ap length e ∙ none-own j in absurd (omega arith)
-    go (r ∷ rs) (more y f q) k e =
-        let b = frame-fits s n gs l f in
-        let c = known-first k in
-        let v : WholeFrames s n gs (drop (r .size) l) = record { frames = rs; read = q; known = c .1 } in
-        let w : ownIn s n gs j (drop (r .size) l) ≡ unsortedRecords j rs = own-is some j v in
-        record {
-          frame = r; is = f; size = b .size; within = b .within; bytes = b .bytes; known = c .0; later = v;
-          own = λ g. e ∙ records-own j r rs g ∙ rw w;
-          other = λ g. e ∙ records-other j r rs g ∙ sym w }

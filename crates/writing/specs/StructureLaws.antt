@@ -3,7 +3,7 @@ use Prim.Native.Nat.{ℕ, zero, suc, _+_, _*_, _-_, _/_, _^_, _≤_, _<_, max}
 use mathlib.Core.List.{List, [], _∷_, _++_}
 use mathlib.Core.Bool.{Bool, true, false}
 use mathlib.Core.Option.{Option, none, some}
-use mathlib.Core.Logic.{_⊎_, ⊎-elim}
+use mathlib.Core.Logic.{⊎-elim}
 use mathlib.Core.Path.{_≡_, refl, sym, ap, subst, _∙_}
 use native.Mathlib.Nat.{add-zero, zero-add, sub-zero, le-trans, le-refl, max-eq-left, max-eq-right, mul-le-mul-right, div-le-self, div-mul-le-self}
 use native.Mathlib.Omega.{arith}
@@ -91,10 +91,6 @@ module _ (memo : List ℕ) (n : ℕ) where
 pub size-master : (m : Option ℕ) → cgSize m ≡ cgLength (hasMaster m)
 size-master none = refl
 size-master (some m) = refl
-
-pub length-near : (b : Bool) → (104 ≤ cgLength b) × (cgLength b ≤ 112)
-length-near true = (omega arith, omega arith)
-length-near false = (omega arith, omega arith)
 
 -- ---- the payload of a block fits 64 bits
 full-le : (size w n : ℕ) → perFull size w n ≤ perBlock size w

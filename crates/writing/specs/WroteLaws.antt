@@ -1,12 +1,12 @@
 -- Laws of blocks written one after the other.
-use Prim.Native.Nat.{ℕ, zero, suc, _+_, _-_, _≤_}
+use Prim.Native.Nat.{ℕ, _+_, _-_, _≤_}
 use mathlib.Core.List.{List, [], _∷_, _++_, append-nil, append-assoc}
 use mathlib.Core.Path.{_≡_, refl, sym, ap, _∙_}
 use native.Mathlib.Omega.{arith}
-use lib.ListN.{length, length-append, replicate, length-replicate}
+use lib.ListN.{length, replicate, length-replicate}
 use Rattle.base.specs.Blit.{blit}
-use Rattle.base.specs.BlitLaws.{length-blit, blit-append}
-use Rattle.result.specs.Fill.{Block, block}
+use Rattle.base.specs.BlitLaws.{blit-append}
+use Rattle.result.specs.Fill.{Block}
 use Rattle.result.specs.Ordered.{Ordered}
 use Rattle.result.specs.Result.{flat}
 use Rattle.shown_laws.specs.Flat.{flat-length}

@@ -13,10 +13,9 @@ ghost use lib.ListN.{length};
 ghost use Rattle.writing.specs.Own.{numberIn};
 ghost use Rattle.writing.specs.Tile.{picked};
 ghost use Rattle.writing.specs.Ahead.{nextOf};
-ghost use Rattle.writing.specs.SortedSteps.{start};
 ghost use Rattle.writing.specs.Data.{entryCount, DataReady};
 ghost use Rattle.writing.specs.Region.{DataFilled};
-ghost use Rattle.writing.specs.Rows.{rowsFrom, SizesOf};
+ghost use Rattle.writing.specs.Rows.{start, rowsFrom, SizesOf};
 ghost use Rattle.writing.specs.Fill.{TileDue, PutTile, SplitDue, PutSplit, Holds, Lent, TileNext, PutTiles, SplitNext, PutSplits, TurnNext, TurnDone, GroupReady, Filled};
 ghost use Rattle.writing.specs.FillRun.{Run, AnyBlocks, RunFilled};
 

@@ -5,7 +5,7 @@ ghost use Prim.Native.Nat.{_-_};
 ghost use lib.ListN.{getD};
 ghost use Rattle.mdf.specs.Words.{kindOf};
 ghost use Rattle.result.specs.Fill.{dataKind};
-ghost use Rattle.writing.specs.Sorted.{idIn};
+ghost use Rattle.writing.specs.Rows.{idIn};
 
 // Of so many id bytes those in a fragment whose kind is word i.
 fn id_in(fragments: &[u64], i: usize, id: u64) -> u64

@@ -4,8 +4,7 @@ use native.Mathlib.Omega.{arith}
 use lib.ListN.{length, length-set}
 use mathlib.Core.Path.{refl, sym, _∙_, ap}
 use Rattle.writing.specs.Ahead.{nextOf}
-use Rattle.writing.specs.SortedSteps.{start}
-use Rattle.writing.specs.Rows.{rowsFrom}
+use Rattle.writing.specs.Rows.{start, rowsFrom}
 use Rattle.writing.specs.FillLaws.{Turns, turns-start, all-zero, filling-next, filling-on, filling-end}
 use Rattle.writing.proofs.fill.fill_group.Statement.{statement}
 use Rattle.writing.proofs.fill.fill_group.Tie as tie

@@ -5,7 +5,7 @@ use lib.ListN.{length, length-set}
 use mathlib.Core.Path.{_≡_, refl, subst}
 use Rattle.writing.specs.FillLaws.{splits-none, splits-step, splits-end, split-one}
 use Prim.Native.Nat.{_-_}
-use Rattle.writing.specs.Fill.{PutSplits, Splitting}
+use Rattle.writing.specs.Fill.{Splitting}
 use Rattle.writing.proofs.fill.put_split.Statement.{statement}
 use Rattle.writing.proofs.fill.put_split.Tie as tie
 use Rattle.writing.proofs.fill.put_split.Reads as reads

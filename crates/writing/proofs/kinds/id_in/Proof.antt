@@ -1,5 +1,5 @@
 -- By the kind; past the words it is DT.
-use Rattle.writing.specs.SortedSteps.{id-dt, id-dv, id-past}
+use Rattle.writing.specs.RowsLaws.{id-dt, id-dv, id-past}
 use native.Mathlib.Omega.{arith}
 use borrow.Author.Needs.{needs}
 use Rattle.writing.proofs.kinds.id_in.Statement.{statement}
