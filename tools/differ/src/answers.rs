@@ -1,17 +1,18 @@
 //! A fixed list of small images with the Rust's answers, which the program of crates/answers compares the port with.
 //!
-//! The file is a 64-bit number of records, then for each record 15 words:
-//! image length, block size, 1 if accepted else 0, refusal number, history text length, time, result length, omissions, the report's seven counts;
-//! then the image, the history text, the result, the omissions' addresses and their reasons (words). Numbers are little-endian.
-//! A refused image has only its number, the one that the Rust's words mean. The identification is the result's own, the first 64 bytes. The time, which
-//! the Rust takes from the clock, is replaced in the result by the record's number, so that the file comes out the same every time.
+//! The file is a 64-bit number of records. A record is 17 words: image length, block size, 1 if accepted else 0, number of a refusal, 1 if its place
+//! is known else 0, that place, history text length, time, result length, omissions, the report's seven counts; then the identification (64 bytes),
+//! the image, the history text, the result, the omissions' addresses and their reasons (words). Numbers are little-endian.
+//!
+//! All of it is the Rust's answer: a refusal's number and place are what its words mean, an omission's address and reason too. Only the time, which
+//! it takes from the clock, is replaced in the result by the record's number, so that the file comes out the same every time.
 use crate::blocks::{kind_at, put_word, word};
 use crate::case::Case;
 use crate::child::Pack;
 use crate::compare::{Finding, Pair, Verdict};
 use crate::omissions::{self, Omission};
 use crate::port_side::{last_history, Lent};
-use crate::rust_side::{Answer, Converted, Told};
+use crate::rust_side::{Answer, Converted, Place, Told};
 use std::collections::BTreeMap;
 
 const SEED: u64 = 2026;
@@ -71,6 +72,7 @@ fn full(class: &str) -> usize {
     match class.split(' ').next() {
         Some("refused" | "reason") => 9,
         Some("damaged") => 40,
+        Some("large") => 20,
         Some("holds") => 4,
         _ => 2,
     }
@@ -81,22 +83,20 @@ fn record(case: &Case, image: &[u8], finding: &Finding) -> Option<(Vec<String>, 
     match (&finding.rust, &finding.verdict) {
         (Answer::Converted(c), Verdict::SameFile) if c.bytes.len() <= RESULT => {
             let omitted = omissions::of(image, &c.skipped);
-            omissions::determined(&omitted).then(|| (accepted_classes(case, &omitted), accepted_record(case.size, image, c, &omitted)))
+            let told = omissions::determined(&omitted);
+            told.then(|| (accepted_classes(case, image, c, &omitted), accepted_record(case.size, image, c, &omitted)))
         }
-        (Answer::Refused(told), Verdict::SameRefusal { .. }) => {
-            let mut p = Pack::default();
-            p.words(&[image.len() as u64, case.size, 0, told.number]);
-            p.words(&[0; 11]);
-            p.0.extend_from_slice(image);
-            Some((refused_classes(image, told, finding), p.0))
-        }
+        (Answer::Refused(told), Verdict::SameRefusal { .. }) => Some((refused_classes(image, told, finding), refused_record(case.size, image, told))),
         _ => None,
     }
 }
 
-fn accepted_classes(case: &Case, omitted: &[Omission]) -> Vec<String> {
+fn accepted_classes(case: &Case, image: &[u8], c: &Converted, omitted: &[Omission]) -> Vec<String> {
     let mut classes: Vec<String> = omitted.iter().map(|o| format!("reason {}", o.reason)).collect();
     classes.push(format!("block size {}", case.size));
+    let large =
+        [(image.len() > 2_000, "image"), (c.bytes.len() > 5_000, "result"), (omitted.len() > 2, "omissions"), (c.counts[4] > 9, "data blocks")];
+    classes.extend(large.iter().filter(|l| l.0).map(|l| format!("large {}", l.1)));
     if case.edits.is_empty() {
         classes.extend(case.sound.marks.iter().map(|m| format!("holds {m}")));
     } else {
@@ -119,30 +119,42 @@ fn refused_classes(image: &[u8], told: &Told, finding: &Finding) -> Vec<String> 
 }
 
 const KINDS: [&[u8]; 17] = [
-    b"##HD", b"##DG", b"##CG", b"##CN", b"##DT", b"##DV", b"##DL", b"##HL", b"##SD", b"##DZ", b"##TX", b"##MD", b"##CC", b"##SI", b"##FH", b"##AT", b"##CA",
+    b"##HD", b"##DG", b"##CG", b"##CN", b"##DT", b"##DV", b"##DL", b"##HL", b"##SD", b"##DZ", b"##TX", b"##MD", b"##CC", b"##SI", b"##FH", b"##AT",
+    b"##CA",
 ];
 
 fn accepted_record(size: u64, image: &[u8], c: &Converted, omitted: &[Omission]) -> Vec<u8> {
-    let text = Lent::of(&c.bytes).text;
+    let lent = Lent::of(&c.bytes);
     let mut p = Pack::default();
-    p.words(&[image.len() as u64, size, 1, 0, text.len() as u64, 0, c.bytes.len() as u64, omitted.len() as u64]);
+    p.words(&[image.len() as u64, size, 1, 0, 0, 0, lent.text.len() as u64, 0, c.bytes.len() as u64, omitted.len() as u64]);
     p.words(&c.counts);
+    p.0.extend_from_slice(&lent.ident);
     p.0.extend_from_slice(image);
-    p.0.extend_from_slice(&text);
+    p.0.extend_from_slice(&lent.text);
     p.0.extend_from_slice(&c.bytes);
     omitted.iter().for_each(|o| p.word(o.addresses[0]));
     omitted.iter().for_each(|o| p.word(o.reason));
     p.0
 }
 
-/// The record with a time of its own, in its sixth word and in the result's last FH.
+fn refused_record(size: u64, image: &[u8], told: &Told) -> Vec<u8> {
+    let mut p = Pack::default();
+    let (known, place) = if let Place::At(at) = told.place { (1, at) } else { (0, 0) };
+    p.words(&[image.len() as u64, size, 0, told.number, known, place]);
+    p.words(&[0; 11]);
+    p.0.extend_from_slice(&Lent::fitting().ident);
+    p.0.extend_from_slice(image);
+    p.0
+}
+
+/// The record with a time of its own, in its eighth word and in the result's last FH.
 fn timed(record: &[u8], time: u64) -> Vec<u8> {
     let mut record = record.to_vec();
     if word(&record, 16) == 0 {
         return record;
     }
-    put_word(&mut record, 40, time);
-    let from = 120 + word(&record, 0) as usize + word(&record, 32) as usize;
+    put_word(&mut record, 56, time);
+    let from = 136 + 64 + word(&record, 0) as usize + word(&record, 48) as usize;
     let result = &mut record[from..];
     let fh = last_history(result);
     put_word(result, fh + 40, time);

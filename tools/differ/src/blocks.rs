@@ -154,7 +154,11 @@ pub fn link_count(image: &[u8], at: usize) -> u64 {
 
 /// Link `i` of a block, from 0; 0 where it has none.
 pub fn link(image: &[u8], at: usize, i: usize) -> usize {
-    if (i as u64) < link_count(image, at) { word(image, at.wrapping_add(24 + 8 * i)) as usize } else { 0 }
+    if (i as u64) < link_count(image, at) {
+        word(image, at.wrapping_add(24 + 8 * i)) as usize
+    } else {
+        0
+    }
 }
 
 /// A field of a block's data, which begins after its links.

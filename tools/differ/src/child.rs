@@ -1,5 +1,5 @@
-//! A converter in a process of its own. Requests and answers are byte strings over pipes; a request that takes too much memory or time ends the process,
-//! which the next request replaces.
+//! A converter in a process of its own. Requests and answers are byte strings over pipes; a request that takes too much memory or time ends the
+//! process, which the next request replaces.
 use std::io::{self, Read, Write};
 use std::process::{Command, Stdio};
 

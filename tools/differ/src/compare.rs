@@ -1,7 +1,7 @@
 //! Both converters over one image, and what their answers say about each other.
-use crate::{listed, omissions, walk};
 use crate::port_side::{self, Call, Lent, Port};
 use crate::rust_side::{self, Converted, Place, Rust, Told};
+use crate::{listed, omissions, walk};
 
 /// Output lent where the Rust gives no result; a port that asks for more is asked again with as much.
 const OUT: usize = 65_536;
@@ -22,9 +22,13 @@ pub enum Verdict {
     /// Both accept: the same bytes, seven counts and omissions.
     SameFile,
     /// Both refuse, and the Rust's words mean the port's number; whether they tell a place, which is then the port's.
-    SameRefusal { placed: bool },
-    /// Both refuse for faults that they meet in another order, as docs/DIFFERENCES.md lists; or the Rust ends, as listed there.
+    SameRefusal {
+        placed: bool,
+    },
+    /// Both refuse for faults that they meet in another order, as docs/DIFFERENCES.md lists.
     OtherFault(&'static str),
+    /// The port refuses, the Rust panics or runs out of memory or time, as docs/DIFFERENCES.md lists.
+    RustEnded(&'static str),
     /// Only the Rust accepts, as docs/DIFFERENCES.md lists.
     OnlyRust(&'static str),
     Disagreement(String),
@@ -66,16 +70,15 @@ fn verdict(image: &[u8], rust: &rust_side::Answer, port: Option<&port_side::Answ
     if !port.faults.is_empty() {
         return Verdict::Disagreement(port.faults.join(", "));
     }
-    let why = |listed: Option<&'static str>, other: &str| listed.ok_or(Verdict::Disagreement(other.into()));
     match (rust, port.refused) {
         (rust_side::Answer::Converted(c), None) => accepted(image, c, port),
         (rust_side::Answer::Refused(told), None) => Verdict::Disagreement(format!("only the port accepts: {}", told.words)),
         (rust_side::Answer::Ended, None) => Verdict::Disagreement("only the port accepts: the Rust ended".into()),
         (rust_side::Answer::Converted(_), Some((n, p))) => {
-            why(listed::accepted(image, n, p), "only the Rust accepts").map_or_else(|v| v, Verdict::OnlyRust)
+            listed::accepted(image, n, p).map_or(Verdict::Disagreement("only the Rust accepts".into()), Verdict::OnlyRust)
         }
         (rust_side::Answer::Ended, Some((n, p))) => {
-            why(listed::ended(image, n, p), "the Rust ended, the port refuses with another number").map_or_else(|v| v, Verdict::OtherFault)
+            listed::ended(image, n, p).map_or(Verdict::Disagreement("the Rust ended".into()), Verdict::RustEnded)
         }
         (rust_side::Answer::Refused(told), Some((n, p))) => refused(image, told, n, p),
     }
@@ -92,7 +95,11 @@ fn accepted(image: &[u8], c: &Converted, port: &port_side::Answer) -> Verdict {
     if !omissions::agree(&omissions::of(image, &c.skipped), &port.omissions) {
         why.push("other omissions");
     }
-    if why.is_empty() { Verdict::SameFile } else { Verdict::Disagreement(why.join(", ")) }
+    if why.is_empty() {
+        Verdict::SameFile
+    } else {
+        Verdict::Disagreement(why.join(", "))
+    }
 }
 
 fn refused(image: &[u8], told: &Told, number: u64, place: u64) -> Verdict {
@@ -110,8 +117,8 @@ fn refused(image: &[u8], told: &Told, number: u64, place: u64) -> Verdict {
     }
 }
 
-/// Whether the place is the one that the Rust's words tell; none where they tell none. Of a range past the image they tell its end, which is that of a
-/// header, of a block, of a fragment's data (read in pieces of about 4 MiB) or of the identification that begins at the port's place.
+/// Whether the place is the one that the Rust's words tell; none where they tell none. Of a range past the image they tell its end, which is that of
+/// a header, of a block, of a fragment's data (read in pieces of about 4 MiB) or of the identification that begins at the port's place.
 fn placed(image: &[u8], told: Place, place: u64) -> Option<bool> {
     let word = |at: u64| crate::blocks::word(image, at as usize);
     match told {

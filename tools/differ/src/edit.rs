@@ -41,7 +41,7 @@ fn one(image: &Image, random: &mut Random) -> Edit {
     }
 }
 
-/// A block of one of the kinds.
+/// A block of one of the kinds. An edit that finds none cuts the image short instead.
 fn one_of<'a>(image: &'a Image, kinds: &[&Kind], random: &mut Random) -> Option<&'a Place> {
     let all: Vec<&Place> = image.places.iter().filter(|p| kinds.contains(&&p.kind)).collect();
     (!all.is_empty()).then(|| random.pick(&all))
@@ -123,9 +123,8 @@ fn links(block: &Place, random: &mut Random) -> u64 {
 }
 
 fn kind(random: &mut Random) -> Kind {
-    let known: [&Kind; 18] = [
-        b"HD", b"DG", b"CG", b"CN", b"DT", b"DV", b"DL", b"HL", b"SD", b"DZ", b"TX", b"MD", b"CC", b"SI", b"FH", b"AT", b"CA", b"\xc3\xa4",
-    ];
+    let known: [&Kind; 18] =
+        [b"HD", b"DG", b"CG", b"CN", b"DT", b"DV", b"DL", b"HL", b"SD", b"DZ", b"TX", b"MD", b"CC", b"SI", b"FH", b"AT", b"CA", b"\xc3\xa4"];
     *random.pick(&known)
 }
 

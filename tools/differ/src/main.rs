@@ -23,7 +23,7 @@ mod walk;
 
 use case::Case;
 use compare::{Finding, Pair, Verdict};
-use port_side::Lent;
+use port_side::{Call, Lent};
 use random::Random;
 use std::process::ExitCode;
 use tally::Tally;
@@ -56,61 +56,88 @@ fn number(s: &str) -> u64 {
 }
 
 fn status(agree: bool) -> ExitCode {
-    if agree { ExitCode::SUCCESS } else { ExitCode::FAILURE }
+    if agree {
+        ExitCode::SUCCESS
+    } else {
+        ExitCode::FAILURE
+    }
+}
+
+/// The images of a seed, one after the other.
+struct Run {
+    seed: u64,
+    pair: Pair,
+    tally: Tally,
 }
 
 fn compared(runs: u64, seed: u64) -> ExitCode {
-    let mut pair = Pair::new();
-    let mut tally = Tally::default();
-    for k in 0..runs {
-        let case = Case::of(seed, k);
+    let mut run = Run { seed, pair: Pair::new(), tally: Tally::default() };
+    (0..runs).for_each(|k| run.image(k));
+    let many = alone::on_many_blocks(&mut run.pair.port);
+    run.tried(many);
+    println!("{}", run.tally);
+    status(run.tally.disagreements == 0)
+}
+
+impl Run {
+    fn image(&mut self, k: u64) {
+        let case = Case::of(self.seed, k);
         let image = case.bytes();
         let slack = (k % 13) as usize;
-        let finding = pair.run(&image, case.size, slack);
-        tally.count(&case, &image, &finding);
+        let finding = self.pair.run(&image, case.size, slack);
+        self.tally.count(&case, &image, &finding);
         if let Verdict::Disagreement(why) = &finding.verdict {
-            report(&mut pair, &tally, &case, seed, k, slack, why, &finding);
+            self.report(k, &case, slack, why, &finding);
         }
         if k % 20 == 0 {
-            alone(&mut pair, &mut tally, &image, case.size, &finding, &mut Random::of(!seed, k));
+            self.alone(k, &image, case.size, &finding);
         }
     }
-    println!("{tally}");
-    status(tally.disagreements == 0)
-}
 
-/// Short slices and bad arguments on the port alone.
-fn alone(pair: &mut Pair, tally: &mut Tally, image: &[u8], size: u64, finding: &Finding, random: &mut Random) {
-    let Some(port) = &finding.port else { return };
-    let tried = match (&finding.rust, port.refused) {
-        (rust_side::Answer::Converted(c), None) => {
-            let lent = Lent::of(&c.bytes);
-            let first = alone::on_accepted(&mut pair.port, image, size, &lent, c.bytes.len(), port.omissions.len(), random);
-            let long = if tally.long_tried() { Ok(vec![]) } else { alone::on_long_images(&mut pair.port, image, size, &lent, c.bytes.len()) };
-            first.and_then(|a| long.map(|b| [a, b].concat()))
-        }
-        (_, Some(refused)) => alone::on_refused(&mut pair.port, image, size, refused, random),
-        _ => return,
-    };
-    match tried {
-        Ok(numbers) => tally.count_alone(&numbers),
-        Err(why) => {
-            tally.disagreements += 1;
-            println!("the port alone: {why}");
+    /// Short slices and bad arguments on the port alone.
+    fn alone(&mut self, k: u64, image: &[u8], size: u64, finding: &Finding) {
+        let random = &mut Random::of(!self.seed, k);
+        match (&finding.rust, finding.port.as_ref()) {
+            (rust_side::Answer::Converted(c), Some(p)) if p.refused.is_none() => {
+                let sound = Call::new(image, size, Lent::of(&c.bytes), c.bytes.len());
+                let tried = alone::on_accepted(&mut self.pair.port, &sound, p.omissions.len(), random);
+                self.tried(tried);
+                if !self.tally.long_tried() {
+                    let tried = alone::on_long_images(&mut self.pair.port, &sound);
+                    self.tried(tried);
+                }
+            }
+            (_, Some(p)) => {
+                let tried = p.refused.map(|refused| alone::on_refused(&mut self.pair.port, image, size, refused, random));
+                tried.into_iter().for_each(|t| self.tried(t));
+            }
+            _ => {}
         }
     }
-}
 
-fn report(pair: &mut Pair, tally: &Tally, case: &Case, seed: u64, k: u64, slack: usize, why: &str, finding: &Finding) {
-    if tally.disagreements > SHOWN {
-        return;
+    fn tried(&mut self, tried: alone::Tried) {
+        match tried {
+            Ok(numbers) => self.tally.count_alone(&numbers),
+            Err(why) => {
+                self.tally.disagreements += 1;
+                println!("the port alone: {why}");
+            }
+        }
     }
-    println!("image {k} of seed {seed}, block size {}: {why}; port {:?}", case.size, finding.port.as_ref().map(|p| p.refused));
-    if tally.disagreements == 1 {
-        let small = shrink::shrink(pair, case, slack, why);
-        let file = format!("{FOUND}/disagreement-{seed}-{k}-block-size-{}", case.size);
-        println!("shrunk to {} bytes: {file}", small.len());
-        std::fs::write(file, small).unwrap();
+
+    /// The first disagreement is shrunk and saved.
+    fn report(&mut self, k: u64, case: &Case, slack: usize, why: &str, finding: &Finding) {
+        if self.tally.disagreements > SHOWN {
+            return;
+        }
+        let port = finding.port.as_ref().map(|p| p.refused);
+        println!("image {k} of seed {}, block size {}: {why}; port {port:?}", self.seed, case.size);
+        if self.tally.disagreements == 1 {
+            let small = shrink::shrink(&mut self.pair, case, slack, why);
+            let file = format!("{FOUND}/disagreement-{}-{k}-block-size-{}", self.seed, case.size);
+            println!("shrunk to {} bytes: {file}", small.len());
+            std::fs::write(file, small).unwrap();
+        }
     }
 }
 

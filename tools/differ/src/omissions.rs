@@ -1,8 +1,8 @@
 //! The Rust's `skipped_channels` read as document 01's omission list.
 //!
-//! Every reason has words of its own, so the words always tell it. The label in front of them is a group's name, or a group's and a channel's; it tells
-//! the address where no other CG or CN of the image has the same one. Where several have it (unnamed channels of one group, names that an edit made
-//! equal), any of them fits.
+//! Every reason has words of its own, so the words always tell it. The label in front of them is a group's name, or a group's and a channel's; it
+//! tells the address where no other CG or CN of the image has the same one. Where several have it (unnamed channels of one group, names that an edit
+//! made equal), any of them fits.
 use crate::walk::{labels, Label};
 
 const REASONS: [(u64, &str); 7] = [

@@ -23,6 +23,7 @@ struct Outcome {
     counts: [u64; 7],
 }
 
+#[rustfmt::skip]
 #[link(name = "sitaungo", kind = "static")]
 extern "C" {
     fn sitaungo_convert(
@@ -50,7 +51,7 @@ impl Lent {
     pub fn of(result: &[u8]) -> Lent {
         let fh = last_history(result);
         let md = word(result, fh + 32) as usize;
-        let text = &result[md + 24..md + word(result, md + 8) as usize];
+        let text = result.get(md + 24..md + word(result, md + 8) as usize).unwrap_or(b"");
         let end = text.iter().rposition(|b| *b != 0).map_or(0, |last| last + 1);
         Lent { ident: result[..64].to_vec(), text: text[..end].to_vec(), time: word(result, fh + 40) }
     }
@@ -58,11 +59,8 @@ impl Lent {
 
 /// Where the last FH of a result stands.
 pub fn last_history(result: &[u8]) -> usize {
-    let mut fh = word(result, 96) as usize;
-    while word(result, fh + 24) != 0 {
-        fh = word(result, fh + 24) as usize;
-    }
-    fh
+    let next = |fh: &usize| Some(word(result, *fh + 24) as usize).filter(|next| *next != 0);
+    std::iter::successors(Some(word(result, 96) as usize), next).take(result.len()).last().unwrap_or(0)
 }
 
 /// A call's image, block size and lent values, and the lengths of its slices.
@@ -157,19 +155,31 @@ struct Slices {
     calls: u64,
 }
 
+/// A call as it comes over the pipe.
+struct Request<'a> {
+    image: &'a [u8],
+    size: u64,
+    time: u64,
+    out: usize,
+    list: usize,
+    work: [usize; 4],
+    ident: &'a [u8],
+    text: &'a [u8],
+}
+
 impl Slices {
     fn answer(&mut self, request: &[u8]) -> Vec<u8> {
         let mut u = Unpack(request);
         let bytes = u.bytes();
         let [image_len, size, time, out, list] = u.words();
-        let work: [u64; 4] = u.words();
-        let (ident, text) = (u.bytes(), u.bytes());
+        let work = u.words().map(|n| n as usize);
         let longer = lengthened(bytes, image_len as usize);
         let image = longer.as_deref().unwrap_or(bytes);
-        self.prepare(out as usize, list as usize, work);
-        let o = self.call(image, size, ident, text, time, out as usize, list as usize, work);
-        let faults = self.faults(&o, out as usize, list as usize, work);
-        let answer = self.pack(&o, faults, list as usize);
+        let r = Request { image, size, time, out: out as usize, list: list as usize, work, ident: u.bytes(), text: u.bytes() };
+        self.prepare(&r);
+        let o = self.call(&r);
+        let faults = self.faults(&o, &r);
+        let answer = self.pack(&o, faults, r.list);
         self.restore(&o, faults);
         answer
     }
@@ -178,47 +188,47 @@ impl Slices {
         self.calls.wrapping_mul(0x9e37_79b9_7f4a_7c15) | 1
     }
 
-    fn prepare(&mut self, out: usize, list: usize, work: [u64; 4]) {
+    fn prepare(&mut self, r: &Request) {
         self.calls += 1;
         let before = self.word_before();
-        for (slice, n) in self.work.iter_mut().zip(work) {
+        for (slice, n) in self.work.iter_mut().zip(r.work) {
             slice.clear();
-            slice.resize(n as usize, before);
+            slice.resize(n, before);
         }
-        if self.out.len() < out {
-            self.out.resize(out, OUT_BYTE);
-            self.out_before.resize(out, OUT_BYTE);
+        if self.out.len() < r.out {
+            self.out.resize(r.out, OUT_BYTE);
+            self.out_before.resize(r.out, OUT_BYTE);
         }
-        if self.list.len() < list {
-            self.list.resize(list, LIST_WORD);
-            self.list_before.resize(list, LIST_WORD);
+        if self.list.len() < r.list {
+            self.list.resize(r.list, LIST_WORD);
+            self.list_before.resize(r.list, LIST_WORD);
         }
-        self.zeros.resize(work.into_iter().max().unwrap_or(0) as usize, 0);
+        self.zeros.resize(r.work.into_iter().max().unwrap_or(0), 0);
     }
 
-    fn call(&mut self, image: &[u8], size: u64, ident: &[u8], text: &[u8], time: u64, out: usize, list: usize, work: [u64; 4]) -> Outcome {
+    #[rustfmt::skip]
+    fn call(&mut self, r: &Request) -> Outcome {
         let [a, b, c, d] = &mut self.work;
-        let n = work.map(|n| n as usize);
         // Safety: each pointer leads to as many items as the length after it says, and no two slices overlap.
         unsafe {
             sitaungo_convert(
-                image.as_ptr(), image.len(), size, ident.as_ptr(), ident.len(), text.as_ptr(), text.len(), time,
-                a.as_mut_ptr(), n[0], b.as_mut_ptr(), n[1], c.as_mut_ptr(), n[2], d.as_mut_ptr(), n[3],
-                self.out.as_mut_ptr(), out, self.list.as_mut_ptr(), list,
+                r.image.as_ptr(), r.image.len(), r.size, r.ident.as_ptr(), r.ident.len(), r.text.as_ptr(), r.text.len(), r.time,
+                a.as_mut_ptr(), r.work[0], b.as_mut_ptr(), r.work[1], c.as_mut_ptr(), r.work[2], d.as_mut_ptr(), r.work[3],
+                self.out.as_mut_ptr(), r.out, self.list.as_mut_ptr(), r.list,
             )
         }
     }
 
     /// Bits of `FAULTS`.
-    fn faults(&self, o: &Outcome, out: usize, list: usize, work: [u64; 4]) -> u64 {
-        let zero = self.work.iter().zip(work).all(|(w, n)| w[..] == self.zeros[..n as usize]);
+    fn faults(&self, o: &Outcome, r: &Request) -> u64 {
+        let first = !o.accepted && o.number == 1;
+        let zero = self.work.iter().zip(r.work).all(|(w, n)| w[..] == self.zeros[..n]);
         let before = self.word_before();
         let kept = || self.work.iter().all(|w| w.iter().all(|x| *x == before));
-        let (end, words) = if o.accepted { (o.counts[6] as usize, 1 + 2 * self.list.first().map_or(0, |n| *n as usize)) } else { (0, 0) };
-        let same = |from: usize| self.out.get(from..out).unwrap_or(&[]) == self.out_before.get(from..out).unwrap_or(&[]);
-        let same_list = |from: usize| self.list.get(from..list).unwrap_or(&[]) == self.list_before.get(from..list).unwrap_or(&[]);
-        let first = !o.accepted && o.number == 1;
-        let found = [!first && !zero, first && !kept(), !o.accepted && !same(0), !o.accepted && !same_list(0), o.accepted && !same(end), o.accepted && !same_list(words)];
+        let (bytes, words) = if o.accepted { (o.counts[6] as usize, 1 + 2 * self.list[0] as usize) } else { (0, 0) };
+        let out = self.out.get(bytes..r.out) == self.out_before.get(bytes..r.out);
+        let list = self.list.get(words..r.list) == self.list_before.get(words..r.list);
+        let found = [!first && !zero, first && !kept(), !o.accepted && !out, !o.accepted && !list, o.accepted && !out, o.accepted && !list];
         found.iter().enumerate().fold(0, |bits, (i, f)| bits | (*f as u64) << i)
     }
 
@@ -239,7 +249,13 @@ impl Slices {
     /// Entry values again where the call stored something.
     fn restore(&mut self, o: &Outcome, faults: u64) {
         let all = faults != 0;
-        let end = if all { self.out.len() } else if o.accepted { o.counts[6] as usize } else { 0 };
+        let end = if all {
+            self.out.len()
+        } else if o.accepted {
+            o.counts[6] as usize
+        } else {
+            0
+        };
         self.out[..end].fill(OUT_BYTE);
         let words = if o.accepted || all { self.list.len() } else { 0 };
         self.list[..words].fill(LIST_WORD);

@@ -22,7 +22,7 @@ pub struct Tally {
     bytes: u64,
     refused: u64,
     only_rust: BTreeMap<(u64, &'static str), u64>,
-    other: BTreeMap<&'static str, u64>,
+    other: BTreeMap<(&'static str, &'static str), u64>,
     by_number: BTreeMap<u64, Refusals>,
     reasons: BTreeMap<u64, u64>,
     several_addresses: u64,
@@ -41,7 +41,7 @@ impl Tally {
         }
         match &finding.verdict {
             Verdict::SameFile => self.count_file(case, image, finding),
-            Verdict::SameRefusal { .. } | Verdict::OtherFault(_) => {
+            Verdict::SameRefusal { .. } | Verdict::OtherFault(_) | Verdict::RustEnded(_) => {
                 self.refused += 1;
                 case.sound.marks.iter().for_each(|m| self.held.entry(m.clone()).or_default().1 += 1);
             }
@@ -60,7 +60,11 @@ impl Tally {
             }
             Verdict::OtherFault(why) => {
                 row.other += 1;
-                *self.other.entry(why).or_default() += 1;
+                *self.other.entry(("another fault", why)).or_default() += 1;
+            }
+            Verdict::RustEnded(why) => {
+                row.other += 1;
+                *self.other.entry(("the Rust ends", why)).or_default() += 1;
             }
             Verdict::OnlyRust(why) => {
                 row.only_rust += 1;
@@ -94,7 +98,11 @@ impl Tally {
 
 /// 1234567 as 1,234,567.
 fn grouped(n: u64) -> String {
-    if n < 1000 { n.to_string() } else { format!("{},{:03}", grouped(n / 1000), n % 1000) }
+    if n < 1000 {
+        n.to_string()
+    } else {
+        format!("{},{:03}", grouped(n / 1000), n % 1000)
+    }
 }
 
 impl Display for Tally {
@@ -112,10 +120,10 @@ impl Tally {
     fn outcomes(&self, f: &mut Formatter) -> Result {
         writeln!(f, "| Images | {} |\n|---|---:|", grouped(self.images))?;
         writeln!(f, "| of these damaged by one to three edits | {} |", grouped(self.damaged))?;
-        writeln!(f, "| accepted by both: every byte, the seven counts and the omissions in order the same | {} |", grouped(self.accepted))?;
+        writeln!(f, "| accepted by both, with the same bytes, seven counts and omissions in order | {} |", grouped(self.accepted))?;
         writeln!(f, "| bytes of these results | {} |", grouped(self.bytes))?;
         for (size, n) in &self.sizes {
-            writeln!(f, "| accepted with block size {} | {} |", grouped(*size), grouped(*n))?;
+            writeln!(f, "| accepted by both with block size {} | {} |", grouped(*size), grouped(*n))?;
         }
         writeln!(f, "| refused by both | {} |", grouped(self.refused))?;
         writeln!(f, "| accepted by the Rust alone, as listed | {} |", grouped(self.only_rust.values().sum()))?;
@@ -123,7 +131,9 @@ impl Tally {
     }
 
     fn refusals(&self, f: &mut Formatter) -> Result {
-        writeln!(f, "| Refusal | by the port | same number by the Rust's words | of these same place by its words | another fault or end, as listed | the Rust accepts, as listed |")?;
+        let heads =
+            ["Refusal", "by the port", "same number", "of these same place", "another fault or end, as listed", "the Rust accepts, as listed"];
+        writeln!(f, "| {} |", heads.join(" | "))?;
         writeln!(f, "|---:|---:|---:|---:|---:|---:|")?;
         for (number, r) in &self.by_number {
             let row = [r.port, r.same, r.placed, r.other, r.only_rust].map(grouped).join(" | ");
@@ -137,8 +147,8 @@ impl Tally {
         for ((number, why), n) in &self.only_rust {
             writeln!(f, "| {number}, the Rust accepts: {why} | {} |", grouped(*n))?;
         }
-        for (why, n) in &self.other {
-            writeln!(f, "| another fault: {why} | {} |", grouped(*n))?;
+        for ((what, why), n) in &self.other {
+            writeln!(f, "| {what}: {why} | {} |", grouped(*n))?;
         }
         writeln!(f)
     }
@@ -148,11 +158,11 @@ impl Tally {
         for (reason, n) in &self.reasons {
             writeln!(f, "| {reason} | {} |", grouped(*n))?;
         }
-        writeln!(f, "| label that several channels have | {} |\n", grouped(self.several_addresses))
+        writeln!(f, "| all, with a label that several channels have | {} |\n", grouped(self.several_addresses))
     }
 
     fn tried_alone(&self, f: &mut Formatter) -> Result {
-        writeln!(f, "| Refusal tried on the port alone | answered as expected |\n|---:|---:|")?;
+        writeln!(f, "| Refusal by the port alone | tried |\n|---:|---:|")?;
         for (number, n) in &self.alone {
             writeln!(f, "| {number} | {} |", grouped(*n))?;
         }

@@ -26,7 +26,8 @@ pub fn chain(image: &[u8], mut at: usize, kind: &[u8]) -> Vec<usize> {
 }
 
 pub fn data_groups(image: &[u8]) -> Vec<DataGroup> {
-    let groups = |dg| chain(image, link(image, dg, 1), b"##CG").into_iter().map(|at| Group { at, channels: chain(image, link(image, at, 1), b"##CN") });
+    let groups =
+        |dg| chain(image, link(image, dg, 1), b"##CG").into_iter().map(|at| Group { at, channels: chain(image, link(image, at, 1), b"##CN") });
     chain(image, link(image, 64, 0), b"##DG").into_iter().map(|at| DataGroup { at, groups: groups(at).collect() }).collect()
 }
 

@@ -23,10 +23,12 @@ impl Maker<'_> {
 
     fn id_size(&mut self, groups: usize) -> usize {
         match groups {
-            0 | 1 if self.random.percent(60) => return 0,
             0 => self.draft.mark("DG without CG"),
-            1 => self.draft.mark("ids in a DG of one group"),
+            1 => self.draft.mark("DG of one group"),
             _ => self.draft.mark("DG of several groups"),
+        }
+        if groups < 2 && self.random.percent(60) {
+            return 0;
         }
         let ids = self.random.pick(&[1, 2, 4, 8]);
         self.draft.mark(format!("id size {ids}"));
@@ -102,7 +104,8 @@ impl Maker<'_> {
         };
         self.draft.mark(format!("channel type {}", if kind < 7 { kind.to_string() } else { "over 6".into() }));
         let data = self.channel_data(kind, g);
-        let mut links = vec![None, self.composition(), self.name('c'), self.metadata(20), self.metadata(35), None, self.metadata(30), self.metadata(30)];
+        let mut links =
+            vec![None, self.composition(), self.name('c'), self.metadata(20), self.metadata(35), None, self.metadata(30), self.metadata(30)];
         links[5] = self.signal_link(kind);
         if self.random.percent(8) {
             links.push(self.metadata(50));

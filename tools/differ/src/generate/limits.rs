@@ -24,6 +24,20 @@ pub fn image(random: &mut Random) -> Image {
     m.draft.place()
 }
 
+/// One group of one-byte records over a fragment of so many bytes, listed 1,024 times, whose header ends the image; and the address of its CN.
+pub fn many_blocks(bytes: u64) -> (Image, u64) {
+    let mut draft = Draft::new();
+    let dl = draft.add(*b"DL", vec![], vec![]);
+    let dg = draft.one_group(Some(dl), 1);
+    draft.blocks[HD].links[0] = Some(dg);
+    let dt = draft.add(*b"DT", vec![], vec![]);
+    draft.blocks[dt].length = Some(24 + bytes);
+    draft.blocks[dl].links = std::iter::once(None).chain(std::iter::repeat(Some(dt)).take(1024)).collect();
+    let image = draft.place();
+    let cn = image.places[dg - 2].at as u64;
+    (image, cn)
+}
+
 fn channel_data(kind: u8, bits: u8) -> Vec<u8> {
     let mut data = vec![0; 72];
     data[0] = kind;

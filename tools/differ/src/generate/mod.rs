@@ -8,6 +8,8 @@ mod version;
 use crate::blocks::{Draft, Id, Image, HD};
 use crate::random::Random;
 
+pub use limits::many_blocks;
+
 /// Block sizes that conversions are tried with.
 pub const SIZES: [u64; 6] = [1, 7, 64, 100, 1000, 4_194_304];
 
