@@ -1,0 +1,30 @@
+//! One image of a seed: a recording, the edits that damage it, and the block size that it is converted with.
+use crate::blocks::Image;
+use crate::edit::{self, Edit};
+use crate::generate::{self, SIZES};
+use crate::random::Random;
+
+pub struct Case {
+    pub sound: Image,
+    pub edits: Vec<Edit>,
+    pub size: u64,
+}
+
+impl Case {
+    pub fn of(seed: u64, k: u64) -> Case {
+        let mut random = Random::of(seed, k);
+        let sound = generate::image(&mut random);
+        let edits = edit::some(&sound, &mut random);
+        Case { sound, edits, size: random.pick(&SIZES) }
+    }
+
+    pub fn bytes(&self) -> Vec<u8> {
+        edited(&self.sound.bytes, &self.edits)
+    }
+}
+
+pub fn edited(sound: &[u8], edits: &[Edit]) -> Vec<u8> {
+    let mut bytes = sound.to_vec();
+    edits.iter().for_each(|e| e.apply(&mut bytes));
+    bytes
+}
