@@ -32,15 +32,15 @@ begun m i = (i + (m - 1)) / m
 unfoldable pub filledTo : ℕ → ℕ → ℕ → ℕ
 filledTo m w i = 24 * begun m i + i * w
 
--- what stands before the cell of record number i of n: the header of the block that it begins
-unfoldable pub startOf : ℕ → ℕ → ℕ → ℕ → ℕ → List ℕ
-startOf kind m n w i = ifEq (i % m) 0 (header kind (24 + min m (n - i) * w) 0) []
-
 -- those of a column
 unfoldable pub entryTo : List ℕ → ℕ → Entry → ℕ → ℕ
 entryTo s size e i =
     let w = width s (e .group) (e .channel) in
     ifEq (entryCount s size e) 0 0 (filledTo (perFull size w (e .records)) w i)
+
+-- what is put before the cell of record number i, of n records w bytes wide: a block's header, if it begins a block
+unfoldable pub startOf : ℕ → ℕ → ℕ → ℕ → ℕ → List ℕ
+startOf kind m n w i = ifEq (i % m) 0 (header kind (24 + min m (n - i) * w) 0) []
 
 -- bytes that are region's, from index first on, came to stand from a up to b of it
 pub record Extends (region : List ℕ) (first a b : ℕ) (out last : List ℕ) : Type 0 where

@@ -13,9 +13,9 @@ use Rattle.base.specs.ChoiceLaws.{eq-yes, eq-no}
 use Rattle.base.specs.Blit.{part, blit}
 use Rattle.base.specs.BlitLaws.{length-blit, blit-append, length-part}
 use Rattle.mdf.specs.Group.{samples, invalBytes}
-use Rattle.mdf.specs.Records.{joined, rangesIn, sizeOf}
+use Rattle.mdf.specs.Records.{joined, sizeOf}
 use Rattle.plan.specs.Channel.{fits, keepsInval, width, channelBytes}
-use Rattle.plan.specs.Geometry.{blockCount, perFull}
+use Rattle.plan.specs.Geometry.{perFull}
 use Rattle.result.specs.Payload.{cell, cells, payloads}
 use Rattle.result.specs.Fill.{header, framed, dataKind}
 use Rattle.payload_laws.specs.Lists.{Long, long-take, long-drop, together}
@@ -27,11 +27,10 @@ use Rattle.writing.specs.declared.cell.Shape.{Shape}
 use Rattle.writing.specs.declared.data.Entry.{Entry}
 use Rattle.writing.specs.Shape.{Shaped, ShapeOf}
 use Rattle.writing.specs.Ahead.{ahead}
-use Rattle.writing.specs.AheadLaws.{lt-or-le, zero-or-more}
+use Rattle.writing.specs.AheadLaws.{zero-or-more}
 use Rattle.writing.specs.CellLaws.{cell-bare, part-in}
 use Rattle.writing.specs.Tile.{recordsAt, Inside}
 use Rattle.writing.specs.Data.{entryCount, entryPayloads, entryKind, framedAll}
-use Rattle.writing.specs.Same.{Keeps, Has}
 use Rattle.writing.specs.SameLaws.{blit-keeps, blit-has, keeps-none, keeps-then, has-none, has-kept, has-then}
 use Rattle.writing.specs.Region.{regionOf, begun, filledTo, startOf, entryTo, Extends, ColumnReady, Due, DueJoined, PutColumn, PutJoined}
 
@@ -247,7 +246,8 @@ module _ (s : List ℕ) (g c kind m : ℕ) where
     blocks-size : (k : ℕ) → length (framedAll kind (payloads s g c m k rs)) ≡ 24 * k + length (take (k * m) rs) * width s g c
     blocks-size k =
         let e : length (together (payloads s g c m k rs)) ≡ length (take (k * m) rs) * width s g c =
-            ap length (payloads-joined s g c m k rs) ∙ length-cells s g c f (long-take (k * m) l) ∙ mul-comm (width s g c) (length (take (k * m) rs)) in
+            ap length (payloads-joined s g c m k rs) ∙ length-cells s g c f (long-take (k * m) l)
+              ∙ mul-comm (width s g c) (length (take (k * m) rs)) in
         rw (framed-size, length-payloads, e)
 
     module _ (q j : ℕ) (few : q * m ≤ length rs) where
@@ -319,7 +319,8 @@ module _ {s : List ℕ} {size : ℕ} {e : Entry} {rs : List (List ℕ)} {room : 
   per-all : e .records ≤ entryCount s size e * perOf s size e
   per-all =
       let x = column-split in
-      let y : entryCount s size e * perOf s size e ≡ x .full * perOf s size e + perOf s size e = rw (x .blocks) (suc-mul (x .full) (perOf s size e)) in
+      let y : entryCount s size e * perOf s size e ≡ x .full * perOf s size e + perOf s size e =
+          rw (x .blocks) (suc-mul (x .full) (perOf s size e)) in
       omega (arith, x .enough)
 
   pub region-size : length (regionOf s size e rs) ≡ 24 * entryCount s size e + e .records * wideOf s e
@@ -403,7 +404,8 @@ module _ {s : List ℕ} {size : ℕ} {e : Entry} {rs : List (List ℕ)} {room : 
   -- ---- the cells of n records from number i on, of one block, and its header before the first
   module _ (i : ℕ) (out : List ℕ) (l : length out ≡ room) where
     start-extends : i < e .records → {mid : List ℕ}
-      → mid ≡ blit (e .first + (24 * (i / perOf s size e) + i * wideOf s e)) (startOf (entryKind s e) (perOf s size e) (e .records) (wideOf s e) i) out
+      → mid ≡ blit (e .first + (24 * (i / perOf s size e) + i * wideOf s e))
+        (startOf (entryKind s e) (perOf s size e) (e .records) (wideOf s e) i) out
       → Extends (regionOf s size e rs) (e .first) (entryTo s size e i) (24 * (i / perOf s size e) + i * wideOf s e + 24) out mid
     unfolding startOf blit
     start-extends h {mid} q =
@@ -503,7 +505,8 @@ module _ {s : List ℕ} {size : ℕ} {e : Entry} {h : Shape} {kind m : ℕ} (k :
         let p = per-some d in
         let r = region-room d i l in
         let o = d .ends in
-        let a : e .first + (24 * (i / perOf s size e) + i * wideOf s e + 24 + min (perOf s size e) (e .records - i) * wideOf s e) ≤ room = omega arith in
+        let a : e .first + (24 * (i / perOf s size e) + i * wideOf s e + 24 + min (perOf s size e) (e .records - i) * wideOf s e) ≤ room =
+            omega arith in
         (rw held-per p, l, rw (held-per, held-width) a)
 
     pub held-extends : (i n : ℕ) (out : List ℕ) → length out ≡ room → 0 < n → i % m + n ≤ m → i + n ≤ e .records
@@ -555,7 +558,8 @@ module _ {s : List ℕ} {size : ℕ} {e : Entry} {h : Shape} {kind m : ℕ} (k :
       let lp : length ps ≡ c = ap length p ∙ length-take-le c (drop done places) nd in
       let y = few-left in
       let r = held-room k (d .ready) at (omega arith) in
-      let u : c * h .width ≤ min m (e .records - at) * h .width = mul-le-mul-right (h .width) (least-of c m (e .records - at) (omega arith) (omega arith)) in
+      let u : c * h .width ≤ min m (e .records - at) * h .width =
+          mul-le-mul-right (h .width) (least-of c m (e .records - at) (omega arith) (omega arith)) in
       (rw (p, held-length k) (inside-part s (samples s (e .group) + invalBytes s (e .group)) done c places l (d .inside)), rw lp (omega arith))
 
   pub due-extends : (out : List ℕ) → length out ≡ room → at % m + c ≤ m → {ps mid last : List ℕ} → ps ≡ take c (drop done places)

@@ -1,7 +1,7 @@
 -- The bytes read, stored one after the other, are a part laid over the slice.
 use Rattle.writing.specs.CellLaws.{copy-one}
 use native.Mathlib.Omega.{arith}
-use lib.ListN.{length, length-set}
+use lib.ListN.{length-set}
 use borrow.Author.Needs.{needs}
 use Rattle.writing.proofs.cell.copy1.Statement.{statement}
 use Rattle.writing.proofs.cell.copy1.Tie as tie

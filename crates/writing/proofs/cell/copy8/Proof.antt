@@ -1,7 +1,7 @@
 -- The bytes read, stored one after the other, are a part laid over the slice.
 use Rattle.writing.specs.CellLaws.{copy-eight}
 use native.Mathlib.Omega.{arith}
-use lib.ListN.{length, length-set}
+use lib.ListN.{length-set}
 use borrow.Author.Needs.{needs}
 use Rattle.writing.proofs.cell.copy8.Statement.{statement}
 use Rattle.writing.proofs.cell.copy8.Tie as tie

@@ -1,6 +1,4 @@
 -- Each number of bytes by its own way.
-use native.Mathlib.Omega.{arith}
-use lib.ListN.{length, length-set}
 use borrow.Author.Needs.{needs}
 use Rattle.writing.proofs.cell.copy_within.Statement.{statement}
 use Rattle.writing.proofs.cell.copy_within.Tie as tie

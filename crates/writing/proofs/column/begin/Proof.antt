@@ -4,7 +4,6 @@ use Rattle.writing.specs.RegionLaws.{start-none, start-header}
 use mathlib.Core.Path.{refl, ap}
 use Prim.Native.Nat.{ℕ, _*_}
 use native.Mathlib.Omega.{arith}
-use lib.ListN.{length, length-set}
 use borrow.Author.Needs.{needs}
 use Rattle.writing.proofs.column.begin.Statement.{statement}
 use Rattle.writing.proofs.column.begin.Tie as tie
@@ -74,7 +73,8 @@ same-length c = search needs
 returns-2 : tie.Need-returns-2
 returns-2 c =
     let a = c .before .before .before .before .before .before .before .args in
-    (refl, start-header (a .kind) (a .m) (a .n) (a .w) (a .at) _ (a .out .now) (omega arith) (c .before .before .before .before .least .ensures) (lent-is _ _ _ _ (c .before .before .header .ensures)))
+    let q = c .before .before .before .before .least .ensures in
+    (refl, start-header (a .kind) (a .m) (a .n) (a .w) (a .at) _ (a .out .now) (omega arith) q (lent-is _ _ _ _ (c .before .before .header .ensures)))
 
 pub begin-spec : {M : Type 1} → statement M
 begin-spec =

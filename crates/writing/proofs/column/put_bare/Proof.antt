@@ -42,7 +42,8 @@ copy-within-requires c κs =
 add-to : tie.Need-add-to Inv-loop μ-loop
 add-to c =
     let p = c .before .before .before .before .before .before .before .before .before .before .before .pre in
-    let r = bare-room (c .before .before .before .before .before .before .before .loop .inv .0) (p .0) (p .3) (p .4) (c .before .before .before .before .before .before .loop-test .taken) (p .1) in
+    let t = c .before .before .before .before .before .before in
+    let r = bare-room (t .before .loop .inv .0) (p .0) (p .3) (p .4) (t .loop-test .taken) (p .1) in
     omega arith
 
 add-i : tie.Need-add-i Inv-loop μ-loop
@@ -54,7 +55,8 @@ loop-less c = search needs
 loop-again : tie.Need-loop-again Inv-loop μ-loop
 loop-again c =
     let p = c .before .before .before .before .before .before .before .before .before .before .before .pre in
-    (bare-turn (c .before .before .before .before .before .before .before .loop .inv .0) (p .0) (p .3) (p .4) (c .before .before .before .before .before .before .loop-test .taken) (p .1) (c .before .before .copy-within .ensures), search needs)
+    let t = c .before .before .before .before .before .before in
+    (bare-turn (t .before .loop .inv .0) (p .0) (p .3) (p .4) (t .loop-test .taken) (p .1) (c .before .before .copy-within .ensures), search needs)
 
 same-length : tie.Need-same-length Inv-loop μ-loop
 same-length c = search needs
