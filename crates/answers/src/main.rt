@@ -1,8 +1,11 @@
 // Holds the conversion to the Rust's answers: converts each image of the file `answers`, prints a line for each answer that differs, then how many
 // are the same. `tools/differ/run answers` writes the file; tools/differ/src/answers.rs says what stands in it.
-use fields::{u8_at, u64_at};
+use fields::u8_at;
+use fields::u64_at;
 use libc::STDOUT_FILENO;
-use writing::convert::{Converted, Report, convert};
+use writing::convert::Converted;
+use writing::convert::Report;
+use writing::convert::convert;
 
 // What comparing an answer gives.
 enum Compared {
@@ -126,7 +129,15 @@ fn refused(k: u64, head: &[u8], number: u64, place: u64) -> Compared {
 }
 
 // An accepted image beside a record's: report, bytes and omissions.
-fn accepted(k: u64, head: &[u8], r: Report, out: &[u8], list: &[u64], result: &[u8], omitted: &[u8]) -> Compared {
+fn accepted(
+    k: u64,
+    head: &[u8],
+    r: Report,
+    out: &[u8],
+    list: &[u64],
+    result: &[u8],
+    omitted: &[u8],
+) -> Compared {
     if u64_at(head, 16) == 0 {
         return differs(k, b": accepted");
     }
@@ -143,7 +154,15 @@ fn accepted(k: u64, head: &[u8], r: Report, out: &[u8], list: &[u64], result: &[
 }
 
 // The conversion of a record's image beside its answer.
-fn compare(k: u64, head: &[u8], ident: &[u8], image: &[u8], text: &[u8], result: &[u8], omitted: &[u8]) -> Compared {
+fn compare(
+    k: u64,
+    head: &[u8],
+    ident: &[u8],
+    image: &[u8],
+    text: &[u8],
+    result: &[u8],
+    omitted: &[u8],
+) -> Compared {
     let mut source = [0u64; 8192];
     let mut fragments = [0u64; 8192];
     let mut columns = [0u64; 8192];
@@ -152,7 +171,19 @@ fn compare(k: u64, head: &[u8], ident: &[u8], image: &[u8], text: &[u8], result:
     let mut list = [0u64; 2049];
     let size = u64_at(head, 8);
     let time = u64_at(head, 56);
-    let answer = convert(image, size, ident, text, time, &mut source, &mut fragments, &mut columns, &mut copies, &mut out, &mut list);
+    let answer = convert(
+        image,
+        size,
+        ident,
+        text,
+        time,
+        &mut source,
+        &mut fragments,
+        &mut columns,
+        &mut copies,
+        &mut out,
+        &mut list,
+    );
     match answer {
         Converted::Refused { number, place } => refused(k, head, number, place),
         Converted::Done(r) => accepted(k, head, r, &out, &list, result, omitted),
@@ -192,7 +223,15 @@ fn next(fd: i32, k: u64) -> Compared {
     if !fill(fd, &mut omitted, 16 * omissions) {
         return Compared::Unread;
     }
-    compare(k, &head, &ident, part(&image, images), part(&text, texts), &result, &omitted)
+    compare(
+        k,
+        &head,
+        &ident,
+        part(&image, images),
+        part(&text, texts),
+        &result,
+        &omitted,
+    )
 }
 
 fn cut_short(k: u64) {

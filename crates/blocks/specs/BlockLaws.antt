@@ -106,7 +106,7 @@ pub record Fits (k : Wanted) (s : List ℕ) (a : ℕ) : Type 0 where
 
 -- 8, 9 and range with another greatest length
 pub length-fits : (most : ℕ) (s : List ℕ) (a : ℕ) → lengthIn most s a ≡ fine
-  → (24 + 8 * linksAt s a ≤ sizeAt s a) × (sizeAt s a ≤ most) × (a + sizeAt s a ≤ length s)
+    → (24 + 8 * linksAt s a ≤ sizeAt s a) × (sizeAt s a ≤ most) × (a + sizeAt s a ≤ length s)
 unfolding lengthIn
 length-fits most s a e =
     let b = lt-back _ _ _ _ e refused≢ok in
@@ -121,7 +121,7 @@ whole-fits s a e =
     record { range = b .2; within = b .0; short = b .1 }
 
 pub wanted-fits : (k : Wanted) (s : List ℕ) (a : ℕ) → wantedAt k s a ≡ fine
-  → (kindAt s a ≡ k .kind) × (k .links ≤ linksAt s a) × (24 + 8 * linksAt s a + k .bytes ≤ sizeAt s a)
+    → (kindAt s a ≡ k .kind) × (k .links ≤ linksAt s a) × (24 + 8 * linksAt s a + k .bytes ≤ sizeAt s a)
 unfolding wantedAt
 wanted-fits k s a e =
     let b = eq-first _ _ _ _ e refused≢ok in

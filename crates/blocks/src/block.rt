@@ -1,5 +1,9 @@
 // A block's header, links and data, and the checks that every block passes.
-use fields::{Check, u8_at, u16_at, u32_at, u64_at};
+use fields::Check;
+use fields::u8_at;
+use fields::u16_at;
+use fields::u32_at;
+use fields::u64_at;
 ghost use mathlib.Core.Path.{_≡_};
 ghost use Prim.Native.Nat.{_+_};
 ghost use Rattle.base.specs.Field.{Field};
@@ -8,15 +12,25 @@ ghost use Rattle.blocks.specs.Data.{Begins};
 ghost use Rattle.mdf.specs.Block.{Wanted, kindAt, sizeAt, linksAt, linkAt, firstLink, dataAt, headerIn, lengthIn, wholeAt, wantedAt, blockAt};
 
 pub const HD: u64 = 1145578275;
+
 pub const DG: u64 = 1195647779;
+
 pub const CG: u64 = 1195582243;
+
 pub const CN: u64 = 1313022755;
+
 pub const DT: u64 = 1413751587;
+
 pub const DV: u64 = 1447306019;
+
 pub const DL: u64 = 1279533859;
+
 pub const HL: u64 = 1279796003;
+
 pub const SD: u64 = 1146299171;
+
 pub const TX: u64 = 1481909027;
+
 pub const MD: u64 = 1145905955;
 
 // The kind of the block at a.
@@ -138,10 +152,16 @@ pub fn header_in(image: &[u8], a: u64) -> Check
 {
     let n = image.len() as u64;
     if n < a {
-        return Check::Refused { number: 4, place: a };
+        return Check::Refused {
+            number: 4,
+            place: a,
+        };
     }
     if n - a < 24 {
-        return Check::Refused { number: 4, place: a };
+        return Check::Refused {
+            number: 4,
+            place: a,
+        };
     }
     Check::Fine
 }
@@ -153,20 +173,35 @@ pub fn length_in(most: u64, image: &[u8], a: u64) -> Check
     let size = size_at(image, a);
     let links = links_at(image, a);
     if size < 24 {
-        return Check::Refused { number: 8, place: a };
+        return Check::Refused {
+            number: 8,
+            place: a,
+        };
     }
     if (size - 24) / 8 < links {
-        return Check::Refused { number: 8, place: a };
+        return Check::Refused {
+            number: 8,
+            place: a,
+        };
     }
     if most < size {
-        return Check::Refused { number: 9, place: a };
+        return Check::Refused {
+            number: 9,
+            place: a,
+        };
     }
     let n = image.len() as u64;
     if n < a {
-        return Check::Refused { number: 4, place: a };
+        return Check::Refused {
+            number: 4,
+            place: a,
+        };
     }
     if n - a < size {
-        return Check::Refused { number: 4, place: a };
+        return Check::Refused {
+            number: 4,
+            place: a,
+        };
     }
     Check::Fine
 }
@@ -187,21 +222,36 @@ pub fn wanted_at(kind: u64, links: u64, bytes: u64, image: &[u8], a: u64) -> Che
     ensures { λ r. ⌜ verdictOf r ≡ wantedAt (record { kind = kind; links = links; bytes = bytes }) (now (image .entry)) a ⌝ }
 {
     if kind_at(image, a) != kind {
-        return Check::Refused { number: 10, place: a };
+        return Check::Refused {
+            number: 10,
+            place: a,
+        };
     }
     let has = links_at(image, a);
     if has < links {
-        return Check::Refused { number: 10, place: a };
+        return Check::Refused {
+            number: 10,
+            place: a,
+        };
     }
     let size = size_at(image, a);
     if size < 24 {
-        return Check::Refused { number: 10, place: a };
+        return Check::Refused {
+            number: 10,
+            place: a,
+        };
     }
     if (size - 24) / 8 < has {
-        return Check::Refused { number: 10, place: a };
+        return Check::Refused {
+            number: 10,
+            place: a,
+        };
     }
     if size - 24 - 8 * has < bytes {
-        return Check::Refused { number: 10, place: a };
+        return Check::Refused {
+            number: 10,
+            place: a,
+        };
     }
     Check::Fine
 }

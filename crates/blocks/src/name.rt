@@ -1,6 +1,10 @@
 // A name: TX or MD, read for its whole length.
+use crate::block::MD;
+use crate::block::TX;
+use crate::block::header_in;
+use crate::block::kind_at;
+use crate::block::size_at;
 use fields::Check;
-use crate::block::{TX, MD, kind_at, size_at, header_in};
 ghost use mathlib.Core.Path.{_≡_};
 ghost use Rattle.fields.specs.Answer.{verdictOf};
 ghost use Rattle.mdf.specs.Name.{textIn, nameAt};
@@ -11,14 +15,23 @@ pub fn text_in(image: &[u8], a: u64) -> Check
 {
     let size = size_at(image, a);
     if size < 24 {
-        return Check::Refused { number: 4, place: a };
+        return Check::Refused {
+            number: 4,
+            place: a,
+        };
     }
     let n = image.len() as u64;
     if n < a {
-        return Check::Refused { number: 4, place: a };
+        return Check::Refused {
+            number: 4,
+            place: a,
+        };
     }
     if n - a < size {
-        return Check::Refused { number: 4, place: a };
+        return Check::Refused {
+            number: 4,
+            place: a,
+        };
     }
     Check::Fine
 }

@@ -47,17 +47,17 @@ module _ {fs : List Fragment} {g h : Found} (e : Onto fs g h) where
   onto-leaf (leaf k) q = q k
 
 onto-found : {fs : List Fragment} {g h : Found} (f f' : List Fragment → Found) → Onto fs g h
-  → ((gs : List Fragment) → Onto fs (f (fs ++ gs)) (f' gs)) → Onto fs (onFound g f) (onFound h f')
+    → ((gs : List Fragment) → Onto fs (f (fs ++ gs)) (f' gs)) → Onto fs (onFound g f) (onFound h f')
 onto-found {h = found gs} f f' e q = record { is = rw (e .is) (q gs .is) }
 onto-found {h = stopped x p gs} f f' e q = record { is = rw (e .is) }
 
 -- where F does so from nothing, it does so from any list
 onto-more : (F : ℕ → List Fragment → Found) → ((n : ℕ) (fs : List Fragment) → Onto fs (F n fs) (F (n + length fs) []))
-  → (n : ℕ) (fs gs : List Fragment) → Onto fs (F n (fs ++ gs)) (F (n + length fs) gs)
+    → (n : ℕ) (fs gs : List Fragment) → Onto fs (F n (fs ++ gs)) (F (n + length fs) gs)
 onto-more F h n fs gs =
     let e : n + length (fs ++ gs) ≡ n + length fs + length gs = simp length-append (omega arith) in
     record {
-      is = h n (fs ++ gs) .is ∙ rw e (sym (onto-onto fs gs (F (n + length fs + length gs) []))) ∙ ap (onto fs) (sym (h (n + length fs) gs .is))
+      is = h n (fs ++ gs) .is ∙ rw e (sym (onto-onto fs gs (F (n + length fs + length gs) []))) ∙ ap (onto fs) (sym (h (n + length fs) gs .is));
     }
 
 added-onto : (l : Limits) (n a : ℕ) (f : Fragment) (fs : List Fragment) → Onto fs (added l n a f fs) (added l (n + length fs) a f [])
@@ -78,14 +78,14 @@ module _ (c : Chain) (l : Limits) (s : List ℕ) where
       (onto-more (λ m gs. listed c l s m k (p + 8) gs) (listed-onto k (p + 8)) n fs)
 
   pub chain-onto : (turns : ℕ) (seen : List ℕ) (a n : ℕ) (fs : List Fragment)
-    → Onto fs (chainFrom c l turns s n seen a fs) (chainFrom c l turns s (n + length fs) seen a [])
+      → Onto fs (chainFrom c l turns s n seen a fs) (chainFrom c l turns s (n + length fs) seen a [])
   unfolding chainFrom
   chain-onto zero seen a n fs = onto-stop fs 19 a
   chain-onto (suc k) seen a n fs =
       let rest = chain-onto k (a ∷ seen) (firstLink s a) in
       let dl = onto-found _ _ (listed-onto (linksAt s a - 1) (a + 32) n fs)
-            (onto-more (λ m gs. chainFrom c l k s m (a ∷ seen) (firstLink s a) gs) rest n fs) in
+      (onto-more (λ m gs. chainFrom c l k s m (a ∷ seen) (firstLink s a) gs) rest n fs) in
       let lists = onto-eq (onto-passed dl (listIn l s seen a))
-            (onto-eq (onto-passed (rest n fs) (listIn l s seen a)) (onto-stop fs 12 a) (kindAt s a) kindHL) (kindAt s a) kindDL in
+      (onto-eq (onto-passed (rest n fs) (listIn l s seen a)) (onto-stop fs 12 a) (kindAt s a) kindHL) (kindAt s a) kindDL in
       let node = onto-leaf lists (leafOf c (kindAt s a)) (λ k. added-onto l n a (fragment s a k) fs) in
       onto-eq (onto-end fs) (onto-pick (onto-stop fs 11 a) (onto-passed node (headerIn s a)) (isIn a seen)) a 0

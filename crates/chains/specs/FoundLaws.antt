@@ -48,7 +48,7 @@ module _ (P : List Fragment → Type 0) where
 
   -- what holds of no fragment and of one more, holds of what a chain finds
   module _ (c : Chain) (l : Limits) (s : List ℕ) (n : ℕ)
-    (more : (a : ℕ) (k : Kind) (fs : List Fragment) → a + 24 ≤ length s → n + length fs < l .fragments → P fs
+      (more : (a : ℕ) (k : Kind) (fs : List Fragment) → a + 24 ≤ length s → n + length fs < l .fragments → P fs
       → P (fs ++ (fragment s a k ∷ []))) where
     added-holds : (a : ℕ) (k : Kind) (fs : List Fragment) → a + 24 ≤ length s → P fs → Holds P (added l n a (fragment s a k) fs)
     unfolding added ifLt
@@ -75,7 +75,7 @@ module _ (P : List Fragment → Type 0) where
     chain-holds zero seen a fs p = record { it = p }
     chain-holds (suc t) seen a fs p =
         let on : (gs : List Fragment) → P gs → Holds P (chainFrom c l t s n (a ∷ seen) (firstLink s a) gs) =
-              λ gs g. chain-holds t (a ∷ seen) (firstLink s a) gs g in
+        λ gs g. chain-holds t (a ∷ seen) (firstLink s a) gs g in
         holds-eq a 0 (record { it = p }) (holds-pick (isIn a seen) (record { it = p })
         (holds-passed (headerIn s a) p (λ e. holds-leaf (leafOf c (kindAt s a))
         (holds-eq (kindAt s a) kindDL

@@ -45,7 +45,7 @@ module _ {b : Bool} {k : ℕ} where
 
 -- a fragment by its size
 pub fragment-size : (s : List ℕ) (a : ℕ) (d : kinds.Kind) {n : ℕ} → n ≡ sizeAt s a - 24
-  → fragmentOf (record { offset = a + 24; size = n; kind = d }) ≡ fragment s a (kindOf d)
+    → fragmentOf (record { offset = a + 24; size = n; kind = d }) ≡ fragment s a (kindOf d)
 fragment-size s a d e = rw e
 
 -- ---- the node: o is the header's check, k the block's kind, x the kind of fragment
@@ -81,9 +81,9 @@ listedNode n a (ok list-header) = stopped 12 a []
 
 module _ (c : Chain) (s : List ℕ) (n a : ℕ) where
   by-cases : (v : Verdict) (x : Leaf) (t u : Bool)
-    → onPassed v [] (onLeaf x (stopped 12 a []) (λ k. added limits n a (fragment s a k) []))
+      → onPassed v [] (onLeaf x (stopped 12 a []) (λ k. added limits n a (fragment s a k) []))
       ≡ listedNode n a
-        (andThen v (λ _. byLeaf x (pick t (ok data-list) (pick u (ok list-header) (refused 12 a))) (λ k. ok (data-block (fragment s a k)))))
+      (andThen v (λ _. byLeaf x (pick t (ok data-list) (pick u (ok list-header) (refused 12 a))) (λ k. ok (data-block (fragment s a k)))))
   by-cases (refused x p) y t u = refl
   by-cases (ok i) (leaf k) t u = refl
   by-cases (ok i) none true u = refl
@@ -109,7 +109,7 @@ on-listed (stopped x p fs) a f = refl
 
 module _ (c : Chain) (s : List ℕ) (n a : ℕ) (seen : List ℕ) (f : ℕ → List Fragment → Found) where
   dl-turn : onPassed (listIn limits s seen a) [] (onFound (listed c limits s n (linksAt s a - 1) (a + 32) []) (f (firstLink s a)))
-    ≡ resumed (listTurn c s n (length seen) a) f
+      ≡ resumed (listTurn c s n (length seen) a) f
   unfolding listTurn listIn listAt
   dl-turn =
       ap (onPassed (listIn limits s seen a) []) (on-listed (listed c limits s n (linksAt s a - 1) (a + 32) []) (firstLink s a) f)
@@ -120,10 +120,10 @@ module _ (c : Chain) (s : List ℕ) (n a : ℕ) (seen : List ℕ) (f : ℕ → L
   hl-turn = on-read (listIn limits s seen a) (next (firstLink s a) []) f
 
   turn-cases : (v : Verdict) (x : Leaf) (t u : Bool) (tl th : Turn) {dl hl : Found} → dl ≡ resumed tl f → hl ≡ resumed th f
-    → onPassed v [] (onLeaf x (pick t dl (pick u hl (stopped 12 a []))) (λ k. added limits n a (fragment s a k) []))
+      → onPassed v [] (onLeaf x (pick t dl (pick u hl (stopped 12 a []))) (λ k. added limits n a (fragment s a k) []))
       ≡ resumed (onStanding
-        (andThen v (λ _. byLeaf x (pick t (ok data-list) (pick u (ok list-header) (refused 12 a))) (λ k. ok (data-block (fragment s a k)))))
-        (λ g. over (added limits n a g [])) tl th) f
+      (andThen v (λ _. byLeaf x (pick t (ok data-list) (pick u (ok list-header) (refused 12 a))) (λ k. ok (data-block (fragment s a k)))))
+      (λ g. over (added limits n a g [])) tl th) f
   turn-cases (refused x p) y t u tl th d h = refl
   turn-cases (ok i) (leaf k) t u tl th d h = refl
   turn-cases (ok i) none true u tl th d h = d
@@ -132,7 +132,7 @@ module _ (c : Chain) (s : List ℕ) (n a : ℕ) (seen : List ℕ) (f : ℕ → L
 
 -- the chain, one block at a time
 pub chain-open : (c : Chain) (turns : ℕ) (s : List ℕ) (n : ℕ) (seen : List ℕ) (a : ℕ) → chainFrom c limits (suc turns) s n seen a []
-  ≡ ifEq a 0 (found []) (pick (isIn a seen) (stopped 11 a [])
+    ≡ ifEq a 0 (found []) (pick (isIn a seen) (stopped 11 a [])
     (resumed (turnAt c s n (length seen) a) (λ b gs. chainFrom c limits turns s n (a ∷ seen) b gs)))
 unfolding chainFrom turnAt nodeAt ifEq
 chain-open c turns s n seen a =

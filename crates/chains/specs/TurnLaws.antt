@@ -46,7 +46,7 @@ met-hit w zero a e p h = absurd (omega arith)
 met-hit w (suc k) a e p h = let h' = rw (sub-one (suc k)) at h in rw (eq-eqb (getD w k 0) a h') at e
 
 pub met-pass : (w : List ℕ) (i a : ℕ) {m : Bool} → isIn a (metIn w i) ≡ m → 0 < i → (getD w (i - 1) 0 ≡ a → ⊥)
-  → isIn a (metIn w (i - 1)) ≡ m
+    → isIn a (metIn w (i - 1)) ≡ m
 unfolding metIn isIn
 met-pass w zero a e p h = absurd (omega arith)
 met-pass w (suc k) a e p h = let h' = rw (sub-one (suc k)) at h in rw (sub-one (suc k)) (rw (ne-eqb (getD w k 0) a h') at e)
@@ -81,8 +81,8 @@ laid-found n w = rw (kept-none, add-zero)
 
 -- ---- a fragment's three words, stored one after the other
 pub keep-three : (n o z : ℕ) (d : Kind) (w : List ℕ) {k : ℕ} {w1 w2 w3 : List ℕ}
-  → w1 ≡ set w (3 * n) o → w2 ≡ set w1 (3 * n + 1) z → k ≡ kindWord d
-  → w3 ≡ set w2 (3 * n + 2) k → w3 ≡ kept n (record { offset = o; size = z; kind = d } ∷ []) w
+    → w1 ≡ set w (3 * n) o → w2 ≡ set w1 (3 * n + 1) z → k ≡ kindWord d
+    → w3 ≡ set w2 (3 * n + 2) k → w3 ≡ kept n (record { offset = o; size = z; kind = d } ∷ []) w
 unfolding kept fragmentWords blit
 keep-three n o z d w e f g h =
     let i : 3 * n + 1 ≡ suc (3 * n) = omega arith in
@@ -105,7 +105,7 @@ module _ (c : Chain) (s : List ℕ) (n a : ℕ) (w : List ℕ) {r : Node} (e : n
   fragment-refused {x} {p} q = rw (fragment-node c s n a, ← e, q) (laid-stopped x p n w)
 
   pub fragment-found : {b : SrcBlock} {g : Given} → r ≡ nodes.Fragment b → g ≡ laid (added limits n a (fragmentOf b) []) n w
-    → g ≡ laid (fragmentAt c limits s n a []) n w
+      → g ≡ laid (fragmentAt c limits s n a []) n w
   fragment-found q h = rw (fragment-node c s n a, ← e, q) h
 
   pub fragment-dl : r ≡ Dl → given (Stopped 12 a n) w ≡ laid (fragmentAt c limits s n a []) n w
@@ -127,13 +127,13 @@ module _ (c : Chain) (s : List ℕ) (n x : ℕ) (w : List ℕ) where
 -- ---- what was found goes on, or ends with it
 module _ (n : ℕ) (w : List ℕ) {w' : List ℕ} where
   after-stop : (g : Found) (f : List Fragment → Found) {x p m : ℕ} → given (Stopped x p m) w' ≡ laid g n w
-    → given (Stopped x p m) w' ≡ laid (onFound g f) n w
+      → given (Stopped x p m) w' ≡ laid (onFound g f) n w
   unfolding laid
   after-stop (found fs) f e = absurd (let z : _≡_ {A = ℕ} 0 1 = cc in omega arith)
   after-stop (stopped x p fs) f e = e
 
   after-done : (g : Found) (f : List Fragment → Found) (F : ℕ → Found) → ((gs : List Fragment) → Onto gs (f gs) (F (n + length gs)))
-    → {m : ℕ} → given (Done m) w' ≡ laid g n w → laid (F m) m w' ≡ laid (onFound g f) n w
+      → {m : ℕ} → given (Done m) w' ≡ laid g n w → laid (F m) m w' ≡ laid (onFound g f) n w
   unfolding laid
   after-done (found fs) f F h {m} e =
       let k : m ≡ n + length fs = cc in
@@ -143,7 +143,7 @@ module _ (n : ℕ) (w : List ℕ) {w' : List ℕ} where
 
 -- ---- the links of a DL: k of them from p on; m is what the whole list gives
 listed-open : (c : Chain) (s : List ℕ) (n k p : ℕ) → 0 < k
-  → listed c limits s n k p [] ≡ onFound (entryAt c s n (leAt 8 s p)) (λ gs. listed c limits s n (k - 1) (p + 8) gs)
+    → listed c limits s n k p [] ≡ onFound (entryAt c s n (leAt 8 s p)) (λ gs. listed c limits s n (k - 1) (p + 8) gs)
 unfolding listed entryAt
 listed-open c s n zero p h = absurd (omega arith)
 listed-open c s n (suc k) p h = rw (sub-one (suc k))
@@ -172,7 +172,7 @@ module _ {c : Chain} {s : List ℕ} {a n₀ : ℕ} {w₀ : List ℕ} {links i n 
     list-open = rw l (rw (listed-open c s n (links - i) (a + 24 + 8 * i) (omega arith)) at (t .rest))
 
     pub list-stop : {y q j : ℕ} → links ≡ linksAt s a → r ≡ Stopped y q j
-      → given (Stopped y q j) w' ≡ laid (listed c limits s n₀ (linksAt s a - 1) (a + 32) []) n₀ w₀
+        → given (Stopped y q j) w' ≡ laid (listed c limits s n₀ (linksAt s a - 1) (a + 32) []) n₀ w₀
     list-stop k g = rw (← k) (after-stop n w (entryAt c s n x) after-link (rw (← g) e) ∙ list-open)
 
     pub list-on : {j : ℕ} → r ≡ Done j → Listing c s a n₀ w₀ links (i + 1) j w'
@@ -182,9 +182,9 @@ module _ {c : Chain} {s : List ℕ} {a n₀ : ℕ} {w₀ : List ℕ} {links i n 
         record {
           same = laid-same (entryAt c s n x) n w e ∙ t .same;
           rest = rw (← k, ← p)
-            (after-done n w (entryAt c s n x) after-link (λ m. listed c limits s m (links - i - 1) (a + 24 + 8 * i + 8) [])
-            (listed-onto c limits s (links - i - 1) (a + 24 + 8 * i + 8) n) (rw (← g) e)
-            ∙ list-open)
+              (after-done n w (entryAt c s n x) after-link (λ m. listed c limits s m (links - i - 1) (a + 24 + 8 * i + 8) [])
+              (listed-onto c limits s (links - i - 1) (a + 24 + 8 * i + 8) n) (rw (← g) e)
+              ∙ list-open);
         }
 
 -- ---- a DL or HL that is read: o is the check of its length
@@ -231,7 +231,7 @@ module _ (c : Chain) (s : List ℕ) (n k a : ℕ) (w : List ℕ) {o : Check} (e 
       dl-stop {x} {p} {j} h = rw (so-fine e q) (go (listed c limits s n (linksAt s a - 1) (a + 32) []) (rw (← h) g))
         where
           go : (i : Found) → given (Stopped x p j) w' ≡ laid i n w
-            → moved (Over (Stopped x p j)) w' ≡ laidTurn (onListed i (next (firstLink s a))) n w
+              → moved (Over (Stopped x p j)) w' ≡ laidTurn (onListed i (next (firstLink s a))) n w
           go (found fs) z = absurd (let l : _≡_ {A = ℕ} 0 1 = cc in omega arith)
           go (stopped y t fs) z = ap ended z
 
@@ -240,7 +240,7 @@ module _ (c : Chain) (s : List ℕ) (n k a : ℕ) (w : List ℕ) {o : Check} (e 
       dl-next {b} {j} h f = rw (so-fine e q, f) (go (listed c limits s n (linksAt s a - 1) (a + 32) []) (rw (← h) g))
         where
           go : (i : Found) → given (Done j) w' ≡ laid i n w
-            → moved (Next (firstLink s a) j) w' ≡ laidTurn (onListed i (next (firstLink s a))) n w
+              → moved (Next (firstLink s a) j) w' ≡ laidTurn (onListed i (next (firstLink s a))) n w
           go (found fs) z = cc
           go (stopped y t fs) z = absurd (let l : _≡_ {A = ℕ} 0 1 = cc in omega arith)
 
@@ -251,7 +251,7 @@ module _ (c : Chain) (s : List ℕ) (n k a : ℕ) (w : List ℕ) {r : Node} (e :
   turn-refused {x} {p} q = rw (← e, q, ← laid-stopped x p n w)
 
   pub turn-block : {b : SrcBlock} {o : Chained} {w' : List ℕ} → r ≡ nodes.Fragment b
-    → given o w' ≡ laid (added limits n a (fragmentOf b) []) n w → moved (Over o) w' ≡ laidTurn (turnAt c s n k a) n w
+      → given o w' ≡ laid (added limits n a (fragmentOf b) []) n w → moved (Over o) w' ≡ laidTurn (turnAt c s n k a) n w
   unfolding laidTurn turnAt
   turn-block q h = rw (← e, q, ← h)
 
@@ -274,8 +274,9 @@ turn-room c s n k a e = go (nodeAt c s a) e
     read : (v : Verdict) (u : Turn) → listAt k s a ≡ v → {b : ℕ} {fs : List Fragment} → onRead v u ≡ next b fs → k < 256
     read (ok i) u h f = list-room k s a h
     read (refused x p) u h f = over≢next f
+
     go : (o : Checked Standing) {b : ℕ} {fs : List Fragment}
-      → onStanding o (λ f. over (added limits n a f [])) (listTurn c s n k a) (headerTurn s k a) ≡ next b fs → k < 256
+        → onStanding o (λ f. over (added limits n a f [])) (listTurn c s n k a) (headerTurn s k a) ≡ next b fs → k < 256
     go (refused x p) f = over≢next f
     go (ok (data-block g)) f = over≢next f
     go (ok data-list) f = read (listAt k s a) _ refl f
@@ -305,11 +306,11 @@ module _ {c : Chain} {s : List ℕ} {n₀ a₀ : ℕ} {w₀ met : List ℕ} {k a
   after b gs = chainFrom c limits (t .fuel - 1) s n (a ∷ metIn met k) b gs
 
   opened : laid (ifEq a 0 (found []) (pick (isIn a (metIn met k)) (stopped 11 a []) (resumed (turnAt c s n k a) after))) n w
-    ≡ laid (chain c limits s n₀ a₀) n₀ w₀
+      ≡ laid (chain c limits s n₀ a₀) n₀ w₀
   opened = go (t .fuel) (t .enough) (t .rest)
     where
       go : (j : ℕ) → 256 < j + k → laid (chainFrom c limits j s n (metIn met k) a []) n w ≡ laid (chain c limits s n₀ a₀) n₀ w₀
-        → laid (ifEq a 0 (found []) (pick (isIn a (metIn met k)) (stopped 11 a [])
+          → laid (ifEq a 0 (found []) (pick (isIn a (metIn met k)) (stopped 11 a [])
           (resumed (turnAt c s n k a) (λ b gs. chainFrom c limits (j - 1) s n (a ∷ metIn met k) b gs)))) n w
           ≡ laid (chain c limits s n₀ a₀) n₀ w₀
       go zero h e = absurd (let r = t .room in omega arith)
@@ -354,5 +355,5 @@ module _ {c : Chain} {s : List ℕ} {n₀ a₀ : ℕ} {w₀ met : List ℕ} {k a
                 room = omega arith;
                 sized = length-set met k a ∙ t .sized;
                 same = rw (v, length-kept) (t .same);
-                rest = rw (met-add met k a (rw (t .sized) f), v, p, l, ← laid-onto fs rest-found n w, ← onto-it .is) (rw x at turned)
+                rest = rw (met-add met k a (rw (t .sized) f), v, p, l, ← laid-onto fs rest-found n w, ← onto-it .is) (rw x at turned);
               }

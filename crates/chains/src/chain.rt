@@ -1,7 +1,13 @@
 // The walk of a data chain, and its fragments kept in lent words.
+use crate::node::Kind;
+use crate::node::Node;
+use crate::node::SrcBlock;
+use crate::node::node_at;
+use blocks::block::first_link;
+use blocks::block::length_in;
+use blocks::block::link_at;
+use blocks::block::links_at;
 use fields::Check;
-use blocks::block::{links_at, link_at, first_link, length_in};
-use crate::node::{Kind, SrcBlock, Node, node_at};
 ghost use mathlib.Core.Path.{_≡_};
 ghost use mathlib.Core.List.{[], _∷_};
 ghost use Prim.Native.Nat.{_+_, _-_, _≤_, _<_};
@@ -80,7 +86,11 @@ fn add(fragments: &mut [u64], n: u64, a: u64, b: SrcBlock) -> Chained
         keep(fragments, n, b);
         return Chained::Done { count: n + 1 };
     }
-    Chained::Stopped { number: 19, place: a, count: n }
+    Chained::Stopped {
+        number: 19,
+        place: a,
+        count: n,
+    }
 }
 
 // A fragment that a DL lists: header range, 12 for another kind, 19.
@@ -90,10 +100,22 @@ fn fragment_at(signal: bool, image: &[u8], fragments: &mut [u64], n: u64, a: u64
 {
     let node = node_at(signal, image, a);
     match node {
-        Node::Refused { number, place } => Chained::Stopped { number, place, count: n },
+        Node::Refused { number, place } => Chained::Stopped {
+            number,
+            place,
+            count: n,
+        },
         Node::Fragment(b) => add(fragments, n, a, b),
-        Node::Dl => Chained::Stopped { number: 12, place: a, count: n },
-        Node::Hl => Chained::Stopped { number: 12, place: a, count: n },
+        Node::Dl => Chained::Stopped {
+            number: 12,
+            place: a,
+            count: n,
+        },
+        Node::Hl => Chained::Stopped {
+            number: 12,
+            place: a,
+            count: n,
+        },
     }
 }
 
@@ -121,8 +143,16 @@ fn list(signal: bool, image: &[u8], fragments: &mut [u64], n: u64, a: u64) -> Ch
         let link = link_at(image, a, i);
         let entry = entry_at(signal, image, fragments, count, link);
         match entry {
-            Chained::Stopped { number, place, count: kept } => {
-                return Chained::Stopped { number, place, count: kept };
+            Chained::Stopped {
+                number,
+                place,
+                count: kept,
+            } => {
+                return Chained::Stopped {
+                    number,
+                    place,
+                    count: kept,
+                };
             }
             Chained::Done { count: kept } => {
                 count = kept;
@@ -144,7 +174,10 @@ fn list_in(image: &[u8], k: usize, a: u64) -> Check
     if k < 256 {
         return Check::Fine;
     }
-    Check::Refused { number: 19, place: a }
+    Check::Refused {
+        number: 19,
+        place: a,
+    }
 }
 
 // A DL: its fragments, then its first link.
@@ -154,12 +187,24 @@ fn list_step(signal: bool, image: &[u8], fragments: &mut [u64], n: u64, k: usize
 {
     let check = list_in(image, k, a);
     if let Check::Refused { number, place } = check {
-        return Step::Over(Chained::Stopped { number, place, count: n });
+        return Step::Over(Chained::Stopped {
+            number,
+            place,
+            count: n,
+        });
     }
     let next = first_link(image, a);
     let all = list(signal, image, fragments, n, a);
     match all {
-        Chained::Stopped { number, place, count } => Step::Over(Chained::Stopped { number, place, count }),
+        Chained::Stopped {
+            number,
+            place,
+            count,
+        } => Step::Over(Chained::Stopped {
+            number,
+            place,
+            count,
+        }),
         Chained::Done { count } => Step::Next { a: next, count },
     }
 }
@@ -170,7 +215,11 @@ fn header_step(image: &[u8], fragments: &mut [u64], n: u64, k: usize, a: u64) ->
 {
     let check = list_in(image, k, a);
     if let Check::Refused { number, place } = check {
-        return Step::Over(Chained::Stopped { number, place, count: n });
+        return Step::Over(Chained::Stopped {
+            number,
+            place,
+            count: n,
+        });
     }
     let next = first_link(image, a);
     Step::Next { a: next, count: n }
@@ -183,7 +232,11 @@ fn node_step(signal: bool, image: &[u8], fragments: &mut [u64], n: u64, k: usize
 {
     let node = node_at(signal, image, a);
     match node {
-        Node::Refused { number, place } => Step::Over(Chained::Stopped { number, place, count: n }),
+        Node::Refused { number, place } => Step::Over(Chained::Stopped {
+            number,
+            place,
+            count: n,
+        }),
         Node::Fragment(b) => Step::Over(add(fragments, n, a, b)),
         Node::Dl => list_step(signal, image, fragments, n, k, a),
         Node::Hl => header_step(image, fragments, n, k, a),
@@ -202,14 +255,21 @@ pub fn chain(signal: bool, image: &[u8], fragments: &mut [u64], n: u64, a: u64) 
     let mut count = n;
     while at != 0 {
         if seen(&met, k, at) {
-            return Chained::Stopped { number: 11, place: at, count };
+            return Chained::Stopped {
+                number: 11,
+                place: at,
+                count,
+            };
         }
         let turn = node_step(signal, image, fragments, count, k, at);
         match turn {
             Step::Over(answer) => {
                 return answer;
             }
-            Step::Next { a: next, count: kept } => {
+            Step::Next {
+                a: next,
+                count: kept,
+            } => {
                 met[k] = at;
                 k += 1;
                 at = next;

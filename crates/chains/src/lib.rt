@@ -1,3 +1,3 @@
 // A data chain: what stands at an address of it, and its walk.
-pub mod node;
 pub mod chain;
+pub mod node;

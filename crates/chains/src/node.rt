@@ -1,6 +1,13 @@
 // What stands at an address of a data chain.
+use blocks::block::DL;
+use blocks::block::DT;
+use blocks::block::DV;
+use blocks::block::HL;
+use blocks::block::SD;
+use blocks::block::header_in;
+use blocks::block::kind_at;
+use blocks::block::size_at;
 use fields::Check;
-use blocks::block::{DT, DV, DL, HL, SD, header_in, kind_at, size_at};
 ghost use mathlib.Core.Path.{_≡_};
 ghost use Prim.Native.Nat.{_+_, _≤_};
 ghost use lib.ListN.{length};
@@ -60,9 +67,17 @@ fn fragment_of(image: &[u8], a: u64, kind: Kind) -> SrcBlock
 {
     let size = size_at(image, a);
     if size < 24 {
-        return SrcBlock { offset: a + 24, size: 0, kind };
+        return SrcBlock {
+            offset: a + 24,
+            size: 0,
+            kind,
+        };
     }
-    SrcBlock { offset: a + 24, size: size - 24, kind }
+    SrcBlock {
+        offset: a + 24,
+        size: size - 24,
+        kind,
+    }
 }
 
 // Header range, 12, then by the block's kind.
@@ -84,5 +99,8 @@ pub fn node_at(signal: bool, image: &[u8], a: u64) -> Node
     if kind == HL {
         return Node::Hl;
     }
-    Node::Refused { number: 12, place: a }
+    Node::Refused {
+        number: 12,
+        place: a,
+    }
 }

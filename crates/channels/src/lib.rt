@@ -1,5 +1,7 @@
 // A channel of a group, and the data blocks of a column: fields, bytes, fit, kept invalidation bit, records per block.
-use blocks::block::{data_u8, data_u16, data_u32};
+use blocks::block::data_u8;
+use blocks::block::data_u16;
+use blocks::block::data_u32;
 ghost use mathlib.Core.Path.{_≡_};
 ghost use Rattle.mdf.specs.Group.{samples, invalBytes, groupFlags, isStorage};
 ghost use Rattle.plan.specs.Channel.{channelType, bitOffset, byteOffset, bitCount, channelFlags, invalPosition};

@@ -1,11 +1,13 @@
 // Prints the columns and omissions that a conversion plans, or its refusal: of the recording on standard input, then of each that an argument names.
-use libc::{STDIN_FILENO, STDOUT_FILENO};
+use libc::STDIN_FILENO;
+use libc::STDOUT_FILENO;
 use listing::recording::list;
 use writing::convert::convert;
 
 // The lines of an image's conversion.
 fn show(image: &[u8]) {
-    let ident = b"MDF     4.20    sitaungo\0\0\0\0\xa4\x01\0\0\0\0\0\0\0\0\0\0\0\0\0\0\0\0\0\0\0\0\0\0\0\0\0\0\0\0\0\0\0\0\0\0";
+    let ident =
+        b"MDF     4.20    sitaungo\0\0\0\0\xa4\x01\0\0\0\0\0\0\0\0\0\0\0\0\0\0\0\0\0\0\0\0\0\0\0\0\0\0\0\0\0\0\0\0\0\0";
     let mut source = [0u64; 8192];
     let mut fragments = [0u64; 8192];
     let mut columns = [0u64; 8192];
@@ -13,8 +15,32 @@ fn show(image: &[u8]) {
     let mut out = [0u8; 65536];
     let mut omitted = [0u64; 2049];
     let mut lines = [0u8; 131072];
-    convert(image, 64, ident, b"convert", 0, &mut source, &mut fragments, &mut columns, &mut copies, &mut out, &mut omitted);
-    let n = list(&mut lines, image, 64, ident, b"convert", 65536, 2049, &mut source, &mut fragments, &mut columns, &mut copies);
+    convert(
+        image,
+        64,
+        ident,
+        b"convert",
+        0,
+        &mut source,
+        &mut fragments,
+        &mut columns,
+        &mut copies,
+        &mut out,
+        &mut omitted,
+    );
+    let n = list(
+        &mut lines,
+        image,
+        64,
+        ident,
+        b"convert",
+        65536,
+        2049,
+        &mut source,
+        &mut fragments,
+        &mut columns,
+        &mut copies,
+    );
     io::write_all(STDOUT_FILENO, &lines[..n]);
 }
 

@@ -10,8 +10,21 @@ use Rattle.base.specs.ChoiceLaws.{lt-first, lt-back}
 use Rattle.base.specs.Checked.{ok}
 use Rattle.mdf.specs.Block.{kindAt, sizeAt, linksAt, firstLink, headerIn}
 use Rattle.plan.specs.Geometry.{align8}
-use Rattle.plan.specs.Copies.{kindAT, Copy, Copies, copyLinks, copyRoot, Attachment, Attached, mostAttachments, isAttached, attachmentIn,
-  attach, attachmentsFrom, attachmentsOf}
+use Rattle.plan.specs.Copies.{
+  kindAT,
+  Copy,
+  Copies,
+  copyLinks,
+  copyRoot,
+  Attachment,
+  Attached,
+  mostAttachments,
+  isAttached,
+  attachmentIn,
+  attach,
+  attachmentsFrom,
+  attachmentsOf,
+}
 use Rattle.copies_laws.specs.AnswerLaws.{refused≢ok, ok-same, then-ok, by-eq, by-pick}
 use Rattle.copies_laws.specs.Laid.{Laid, laid-from, laid-to, laid-ends, align-past, align-near, Grown}
 use Rattle.copies_laws.specs.CopyLaws.{links-grown, root-grown}
@@ -68,30 +81,40 @@ pub record GrownAt (s : List ℕ) (t t' : Attached) : Type 0 where
 pub attached-same : (s : List ℕ) {t t' : Attached} → t ≡ t' → GrownAt s t t'
 unfolding LaidAt ownCopies
 attached-same s {t} e = rw (← e) (record {
-    more = []; attachments = sym (append-nil (t .attachments)); memo = sym (append-nil (t .made .memo)); laid = le-refl (t .made .next);
-    few = λ h. h; most = λ h. h; near = omega arith })
+  more = [];
+  attachments = sym (append-nil (t .attachments));
+  memo = sym (append-nil (t .made .memo));
+  laid = le-refl (t .made .next);
+  few = λ h. h;
+  most = λ h. h;
+  near = omega arith;
+})
 
 -- one attachment, then more
 pub attached-one : {s : List ℕ} {t t' : Attached} {m : Copies} (a : ℕ) → Moved s a → length (t .attachments) < 64 → Grown s 0 (t .made) m
-  → GrownAt s (attach a (sizeAt s a) (t .made) m t) t' → GrownAt s t t'
+    → GrownAt s (attach a (sizeAt s a) (t .made) m t) t' → GrownAt s t t'
 unfolding LaidAt ownCopies attach
 attached-one {s} {t} {t'} {m} a w h f g =
     let one : Attachment = record { from = a; to = align8 (m .next); own = drop (length (t .made .memo)) (m .memo) } in
     let own : one .own ≡ f .new = rw (f .memo) (drop-append-seam (t .made .memo) (f .new)) in
     let near1 : t' .made .next ≤ align8 (align8 (m .next) + sizeAt s a) + 268435463 * length (ownCopies (g .more)) + length (g .more) * (length s + 14) =
-        g .near in
+    g .near in
     let small : a + sizeAt s a ≤ length s = w .range in
     let room : length (m .memo) + 0 ≤ 2048 → length (t' .made .memo) ≤ 2048 = λ q. g .few (omega arith) in
     record {
       more = one ∷ g .more;
       attachments = g .attachments ∙ append-snoc (t .attachments) one (g .more);
       memo = g .memo ∙ rw (own, f .memo) (append-assoc (t .made .memo) (f .new) (ownCopies (g .more)));
-      laid = (rw own (laid-to s _ _ _ (f .new) (f .laid) (align-past (m .next))), w,
-        laidAt-from s _ _ _ (g .more) (align-past (align8 (m .next) + sizeAt s a)) (g .laid));
+      laid = (
+        rw own (laid-to s _ _ _ (f .new) (f .laid) (align-past (m .next))),
+        w,
+        laidAt-from s _ _ _ (g .more) (align-past (align8 (m .next) + sizeAt s a)) (g .laid),
+      );
       few = λ q. room (f .few (omega arith));
       most = λ q. g .most (rw length-append (omega arith));
       near = rw (own, length-append, suc-mul (length (g .more)) (length s + 14))
-        (omega (arith, f .near, align-near (m .next), align-near (align8 (m .next) + sizeAt s a))) }
+          (omega (arith, f .near, align-near (m .next), align-near (align8 (m .next) + sizeAt s a)));
+    }
 
 -- the attachment chain
 pub attachments-grown : (turns : ℕ) (s : List ℕ) (a : ℕ) (t t' : Attached) → attachmentsFrom turns s a t ≡ ok t' → GrownAt s t t'
@@ -100,15 +123,15 @@ attachments-grown zero s a t t' e = attached-same s (ok-same e)
 attachments-grown (suc turns) s a t t' e =
     let same : ok t ≡ ok t' → GrownAt s t t' = λ q. attached-same s (ok-same q) in
     by-eq a 0 _ _ e same (λ q. by-pick (isAttached a (t .attachments)) _ _ q same (λ r.
-      let h = then-ok (headerIn s a) _ r in
-      by-eq (kindAt s a) kindAT _ _ (h .2) (λ k.
-        let w = then-ok (attachmentIn s a) _ k in
-        let l = lt-first _ _ _ _ (w .2) refused≢ok in
-        let m = then-ok (copyLinks (copyRoot s) s (linksAt s a - 1) (a + 32) (t .made)) _ (l .1) in
-        attached-one a (moved-fits s a (w .1)) (l .0)
-        (links-grown s 0 (copyRoot s) (root-grown s) (linksAt s a - 1) (a + 32) (t .made) (m .0) (m .1))
-        (attachments-grown turns s (firstLink s a) _ t' (m .2)))
-        same))
+    let h = then-ok (headerIn s a) _ r in
+    by-eq (kindAt s a) kindAT _ _ (h .2) (λ k.
+    let w = then-ok (attachmentIn s a) _ k in
+    let l = lt-first _ _ _ _ (w .2) refused≢ok in
+    let m = then-ok (copyLinks (copyRoot s) s (linksAt s a - 1) (a + 32) (t .made)) _ (l .1) in
+    attached-one a (moved-fits s a (w .1)) (l .0)
+    (links-grown s 0 (copyRoot s) (root-grown s) (linksAt s a - 1) (a + 32) (t .made) (m .0) (m .1))
+    (attachments-grown turns s (firstLink s a) _ t' (m .2)))
+    same))
 
 -- all attachments: the copies made before are kept, at most 64 are laid from the end of what was placed before
 pub record AllAttached (s : List ℕ) (m : Copies) (t : Attached) : Type 0 where

@@ -11,14 +11,32 @@ use Rattle.base.specs.Checked.{Checked, ok, refused, andThen}
 use Rattle.mdf.specs.Block.{kindAt, sizeAt, linksAt, firstLink, wholeAt}
 use Rattle.mdf.specs.Chain.{isIn}
 use Rattle.plan.specs.Columns.{Column}
-use Rattle.plan.specs.Copies.{Copies, copyOf, placed, isCopied, lostLinks, copyLinks, mostCopies, onCopy, copyAt, depth, copyRoot,
-  copyRoots, History, history, historyFrom, historyOf, columnLinks, columnCopies}
+use Rattle.plan.specs.Copies.{
+  Copies,
+  copyOf,
+  placed,
+  isCopied,
+  lostLinks,
+  copyLinks,
+  mostCopies,
+  onCopy,
+  copyAt,
+  depth,
+  copyRoot,
+  copyRoots,
+  History,
+  history,
+  historyFrom,
+  historyOf,
+  columnLinks,
+  columnCopies,
+}
 use Rattle.copies_laws.specs.AnswerLaws.{refused≢ok, ok-same, then-ok, eq-back, by-eq, by-pick, pick-second, whole-fits}
 use Rattle.copies_laws.specs.Laid.{Grown, grown-same, grown-then, grown-placed}
 
 -- links, by a step that has the property
 pub links-grown : (s : List ℕ) (k : ℕ) (step : ℕ → Copies → Checked Copies) → ((a : ℕ) (m m' : Copies) → step a m ≡ ok m' → Grown s k m m')
-  → (n p : ℕ) (m m' : Copies) → copyLinks step s n p m ≡ ok m' → Grown s k m m'
+    → (n p : ℕ) (m m' : Copies) → copyLinks step s n p m ≡ ok m' → Grown s k m m'
 unfolding copyLinks
 links-grown s k step f zero p m m' e = grown-same s k (ok-same e)
 links-grown s k step f (suc n) p m m' e =
@@ -27,7 +45,7 @@ links-grown s k step f (suc n) p m m' e =
 
 -- a block copied before is as it was
 copied-grown : (s : List ℕ) (k : ℕ) (o : Option ℕ) (m m' : Copies) (new : Checked Copies)
-  → (new ≡ ok m' → Grown s k m m') → onCopy o m new ≡ ok m' → Grown s k m m'
+    → (new ≡ ok m' → Grown s k m m') → onCopy o m new ≡ ok m' → Grown s k m m'
 copied-grown s k none m m' new f e = f e
 copied-grown s k (some a) m m' new f e = grown-same s k (ok-same e)
 
@@ -38,14 +56,14 @@ fresh s way a m links =
     (ifLt (length (m .memo) + length way) mostCopies (andThen links (λ n. ok (placed a (sizeAt s a) n))) (refused 19 a)) (ok m)))
 
 fresh-grown : (s way : List ℕ) (a : ℕ) (m m' : Copies) (links : Checked Copies) → ((n : Copies) → links ≡ ok n → Grown s (suc (length way)) m n)
-  → fresh s way a m links ≡ ok m' → Grown s (length way) m m'
+    → fresh s way a m links ≡ ok m' → Grown s (length way) m m'
 fresh-grown s way a m m' links f e =
     let r = then-ok (wholeAt s a) _ (pick-second (isIn a way) _ _ e refused≢ok) in
     by-pick (isCopied (kindAt s a)) _ _ (r .2) (λ q.
-      let t = lt-first _ _ _ _ q refused≢ok in
-      let l = then-ok links _ (t .1) in
-      rw (← ok-same (l .2)) (grown-placed a (whole-fits s a (r .1)) (t .0) (f (l .0) (l .1))))
-      (λ q. grown-same s _ (ok-same q))
+    let t = lt-first _ _ _ _ q refused≢ok in
+    let l = then-ok links _ (t .1) in
+    rw (← ok-same (l .2)) (grown-placed a (whole-fits s a (r .1)) (t .0) (f (l .0) (l .1))))
+    (λ q. grown-same s _ (ok-same q))
 
 -- a block and all that it links to
 pub copy-grown : (left : ℕ) (s way : List ℕ) (a : ℕ) (m m' : Copies) → copyAt left s way a m ≡ ok m' → Grown s (length way) m m'
@@ -56,7 +74,7 @@ copy-grown zero s way a m m' e =
 copy-grown (suc left) s way a m m' e =
     let links : Checked Copies = copyLinks (copyAt left s (a ∷ way)) s (linksAt s a - lostLinks s a) (a + 24 + 8 * lostLinks s a) m in
     let deeper : (n : Copies) → links ≡ ok n → Grown s (suc (length way)) m n =
-        λ n x. links-grown s (suc (length way)) (copyAt left s (a ∷ way)) (λ b o o' y. copy-grown left s (a ∷ way) b o o' y) _ _ m n x in
+    λ n x. links-grown s (suc (length way)) (copyAt left s (a ∷ way)) (λ b o o' y. copy-grown left s (a ∷ way) b o o' y) _ _ m n x in
     by-eq a 0 _ _ e (λ q. grown-same s _ (ok-same q))
     (λ q. copied-grown s _ (copyOf a (m .memo)) m m' (fresh s way a m links) (λ r. fresh-grown s way a m m' links deeper r) q)
 
@@ -86,12 +104,12 @@ history-grown zero s a h h' e = grown-same s 0 (ap (λ (x : History). x .made) (
 history-grown (suc turns) s a h h' e =
     let same : ok h ≡ ok h' → Grown s 0 (h .made) (h' .made) = λ q. grown-same s 0 (ap (λ (x : History). x .made) (ok-same q)) in
     by-eq a 0 _ _ e same (λ q. by-pick (isIn a (h .chain)) _ _ q same (λ r.
-      let w = then-ok (wholeAt s a) _ r in
-      by-pick (isCopied (kindAt s a)) _ _ (w .2) (λ t.
-        let k = eq-back (linksAt s a) 0 _ _ t refused≢ok in
-        let m = then-ok (copyRoot s a (h .made)) _ k in
-        grown-then (root-grown s a (h .made) (m .0) (m .1)) (history-grown turns s (firstLink s a) _ h' (m .2)))
-        same))
+    let w = then-ok (wholeAt s a) _ r in
+    by-pick (isCopied (kindAt s a)) _ _ (w .2) (λ t.
+    let k = eq-back (linksAt s a) 0 _ _ t refused≢ok in
+    let m = then-ok (copyRoot s a (h .made)) _ k in
+    grown-then (root-grown s a (h .made) (m .0) (m .1)) (history-grown turns s (firstLink s a) _ h' (m .2)))
+    same))
 
 pub past-grown : (s : List ℕ) (a : ℕ) (m : Copies) (h : History) → historyOf s a m ≡ ok h → Grown s 0 m (h .made)
 unfolding historyOf

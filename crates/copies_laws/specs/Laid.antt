@@ -81,19 +81,25 @@ grown-new {s} {k} {m} {m'} g =
 pub grown-same : (s : List ℕ) (k : ℕ) {m m' : Copies} → m ≡ m' → Grown s k m m'
 unfolding Laid
 grown-same s k {m} e = rw (← e) (record {
-    new = []; memo = sym (append-nil (m .memo)); laid = le-refl (m .next); few = λ h. h; near = omega arith })
+  new = [];
+  memo = sym (append-nil (m .memo));
+  laid = le-refl (m .next);
+  few = λ h. h;
+  near = omega arith;
+})
 
 pub grown-then : {s : List ℕ} {k : ℕ} {m n o : Copies} → Grown s k m n → Grown s k n o → Grown s k m o
 grown-then {s} {k} {m} {n} {o} f g = record {
-    new = f .new ++ g .new;
-    memo = g .memo ∙ rw (f .memo) (append-assoc (m .memo) (f .new) (g .new));
-    laid = laid-append s (m .next) (n .next) (o .next) (f .new) (g .new) (f .laid) (g .laid);
-    few = λ h. g .few (f .few h);
-    near = rw length-append (omega arith) }
+  new = f .new ++ g .new;
+  memo = g .memo ∙ rw (f .memo) (append-assoc (m .memo) (f .new) (g .new));
+  laid = laid-append s (m .next) (n .next) (o .next) (f .new) (g .new) (f .laid) (g .laid);
+  few = λ h. g .few (f .few h);
+  near = rw length-append (omega arith);
+}
 
 -- the block itself, after what it links to, which was begun with one block more on the way
 pub grown-placed : {s : List ℕ} {k : ℕ} {m n : Copies} (a : ℕ) → Whole s a → length (m .memo) + k < 2048 → Grown s (suc k) m n
-  → Grown s k m (placed a (sizeAt s a) n)
+    → Grown s k m (placed a (sizeAt s a) n)
 unfolding Laid placed
 grown-placed {s} {k} {m} {n} a w h g =
     let h : length (m .memo) + suc k ≤ 2048 = omega arith in
@@ -103,6 +109,7 @@ grown-placed {s} {k} {m} {n} a w h g =
       new = g .new ++ (one ∷ []);
       memo = rw (g .memo) (append-assoc (m .memo) (g .new) (one ∷ []));
       laid = laid-append s (m .next) (n .next) (align8 (n .next) + sizeAt s a) (g .new) (one ∷ []) (g .laid)
-        (align-past (n .next), w, le-refl _);
+          (align-past (n .next), w, le-refl _);
       few = λ _. rw length-append (omega arith);
-      near = rw length-append (omega (arith, align-near (n .next), w .short)) }
+      near = rw length-append (omega (arith, align-near (n .next), w .short));
+    }

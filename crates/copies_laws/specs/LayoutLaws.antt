@@ -22,8 +22,15 @@ use Rattle.copies_laws.specs.Laid.{Laid, align-past, align-near, Grown, 
 use Rattle.copies_laws.specs.CopyLaws.{root-grown, past-grown, columns-grown}
 use Rattle.copies_laws.specs.AttachLaws.{ownCopies, AllAttached, all-attached}
 use Rattle.copies_laws.specs.LengthLaws.{length-md, length-fh, length-hd, InImage}
-use Rattle.copies_laws.specs.OrderLaws.{ordered-to, ordered-append, ordered-cons, copied-ordered, attached-ordered,
-  structure-ordered, placed-columns}
+use Rattle.copies_laws.specs.OrderLaws.{
+  ordered-to,
+  ordered-append,
+  ordered-cons,
+  copied-ordered,
+  attached-ordered,
+  structure-ordered,
+  placed-columns,
+}
 use Rattle.copies_laws.specs.PlacedLaws.{structures-near, Within, placed-within}
 
 -- the parts of a layout, for n bytes of history text
@@ -47,7 +54,16 @@ laid-out s size n cs l e =
     let e1 : ℕ = dataEnd s size (structureEnd s size (structurePlace (c .0)) cs) cs in
     let d = then-ok (attachmentsOf s (linkAt s 64 3) (copies (c .0 .memo) e1)) _ (c .2) in
     rw (← ok-same (d .2)) (record {
-      comment = a .1; past = b .1; md = refl; fh = refl; metadata = c .1; metadataEnd = refl; placed = refl; attached = d .1; fileSize = refl })
+      comment = a .1;
+      past = b .1;
+      md = refl;
+      fh = refl;
+      metadata = c .1;
+      metadataEnd = refl;
+      placed = refl;
+      attached = d .1;
+      fileSize = refl;
+    })
 
 pub md-near : (n : ℕ) → mdSize n ≤ n + 32
 unfolding mdSize align8
@@ -90,7 +106,7 @@ module _ {s : List ℕ} {size n : ℕ} {cs : List Column} {l : Layout} (o : Laid
         ordered-to 168 (l .past .made .next) (l .md) _ (copied-ordered s chain memo fh 168 _ (l .past .made .memo) history-laid) h
 
     pub columns-ordered :
-      Ordered (l .fh + 56) (copiedBlocks s chain memo fh (drop (length (l .past .made .memo)) (l .metadata .memo))) (structurePlace (l .metadata))
+        Ordered (l .fh + 56) (copiedBlocks s chain memo fh (drop (length (l .past .made .memo)) (l .metadata .memo))) (structurePlace (l .metadata))
     unfolding structurePlace
     columns-ordered =
         ordered-to _ (l .metadata .next) _ _
@@ -98,12 +114,12 @@ module _ {s : List ℕ} {size n : ℕ} {cs : List Column} {l : Layout} (o : Laid
         (align-past (l .metadata .next))
 
     pub attachments-ordered :
-      Ordered (dataEnd s size (l .metadataEnd) cs) (attachmentBlocks s chain memo fh (l .attached .attachments)) (l .fileSize)
+        Ordered (dataEnd s size (l .metadataEnd) cs) (attachmentBlocks s chain memo fh (l .attached .attachments)) (l .fileSize)
     attachments-ordered = rw (o .fileSize) (attached-ordered s chain memo fh _ _ (l .attached .attachments) (attachments-laid .laid))
 
   -- "Then per column DG 64, CG 104 (112 with a master), CN 160", DL
   pub structures-ordered : (memo : List Copy) (all : List Placed) → ((c : Column) → In c cs → InImage s c)
-    → Ordered (structurePlace (l .metadata)) (structureBlocks s size memo all (l .placed)) (l .metadataEnd)
+      → Ordered (structurePlace (l .metadata)) (structureBlocks s size memo all (l .placed)) (l .metadataEnd)
   structures-ordered memo all f =
       rw (o .placed, o .metadataEnd) (structure-ordered s size memo all (structurePlace (l .metadata)) _ cs f)
 
@@ -147,9 +163,9 @@ module _ {s : List ℕ} {size n : ℕ} {cs : List Column} {l : Layout} (o : Laid
 
 -- ---- all blocks, where those with the columns' data stand in order
 pub blocks-ordered : (x : Args) (cs : List Column) (l : Layout) → LaidOut (x .image) (x .blockSize) (length (x .text)) cs l
-  → length (x .ident) ≡ 64 → ((c : Column) → In c cs → InImage (x .image) c)
-  → Ordered (l .metadataEnd) (dataBlocks (x .image) (x .blockSize) (l .placed)) (dataEnd (x .image) (x .blockSize) (l .metadataEnd) cs)
-  → Ordered 0 (blocksOf x l) (l .fileSize)
+    → length (x .ident) ≡ 64 → ((c : Column) → In c cs → InImage (x .image) c)
+    → Ordered (l .metadataEnd) (dataBlocks (x .image) (x .blockSize) (l .placed)) (dataEnd (x .image) (x .blockSize) (l .metadataEnd) cs)
+    → Ordered 0 (blocksOf x l) (l .fileSize)
 unfolding blocksOf hdBlock
 blocks-ordered x cs l o i f d =
     ordered-cons 0 64 _ _ _ (le-refl 0) i

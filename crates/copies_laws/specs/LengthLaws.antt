@@ -14,8 +14,26 @@ use Rattle.plan.specs.Columns.{Column}
 use Rattle.plan.specs.Geometry.{align8}
 use Rattle.plan.specs.Copies.{Copy}
 use Rattle.plan.specs.Layout.{columnBlocks, cgSize, dlSize, Placed, mdSize}
-use Rattle.result.specs.Fill.{header, newLinks, copiedLinks, dataOf, copiedBytes, mdBytes, fhBytes, dgBytes, masterLink, cgData, cgBytes,
-  cnData, cnBytes, blockLinks, dlBytes, atBytes, hdData, hdBytes}
+use Rattle.result.specs.Fill.{
+  header,
+  newLinks,
+  copiedLinks,
+  dataOf,
+  copiedBytes,
+  mdBytes,
+  fhBytes,
+  dgBytes,
+  masterLink,
+  cgData,
+  cgBytes,
+  cnData,
+  cnBytes,
+  blockLinks,
+  dlBytes,
+  atBytes,
+  hdData,
+  hdBytes,
+}
 use Rattle.copies_laws.specs.AnswerLaws.{Whole}
 use Rattle.copies_laws.specs.AttachLaws.{Moved}
 pub use Rattle.base.specs.BlitLaws.{length-part}
@@ -60,7 +78,7 @@ pub length-hd : (s : List ℕ) (firstDG firstFH firstAT comment : ℕ) → lengt
 unfolding hdBytes hdData
 length-hd s firstDG firstFH firstAT comment =
     let k : length (take 32 (dataOf s 64 ++ replicate 32 0)) ≡ 32 =
-        length-take-le 32 (dataOf s 64 ++ replicate 32 0) (rw (length-append, length-replicate) (omega arith)) in
+    length-take-le 32 (dataOf s 64 ++ replicate 32 0) (rw (length-append, length-replicate) (omega arith)) in
     simp (length-append, length-header, length-le, k)
 
 -- ---- a column's DG, CG, CN and DL
@@ -83,7 +101,7 @@ unfolding cgData
 length-cgData s c h = simp (length-append, length-le, length-part (dataAt s (c .group .at) + 18) 2 s (omega arith))
 
 pub length-cg : (s : List ℕ) (memo : List Copy) (ps : List Placed) (p : Placed) → InImage s (p .column)
-  → length (cgBytes s memo ps p) ≡ cgSize (p .column .master)
+    → length (cgBytes s memo ps p) ≡ cgSize (p .column .master)
 unfolding cgBytes
 length-cg s memo ps p i =
     simp (length-append, length-header, length-le, length-cgData s (p .column) (i .group)) (length-masterLink ps (p .column .master))
@@ -91,8 +109,14 @@ length-cg s memo ps p i =
 length-cnData : (s : List ℕ) (g c : ℕ) → dataAt s c + 72 ≤ length s → length (cnData s g c) ≡ 72
 unfolding cnData
 length-cnData s g c h =
-    simp (length-append, length-le, length-part (dataAt s c + 1) 3 s (omega arith), length-part (dataAt s c + 8) 4 s (omega arith),
-      length-part (dataAt s c + 20) 2 s (omega arith), length-part (dataAt s c + 24) 48 s (omega arith))
+    simp (
+      length-append,
+      length-le,
+      length-part (dataAt s c + 1) 3 s (omega arith),
+      length-part (dataAt s c + 8) 4 s (omega arith),
+      length-part (dataAt s c + 20) 2 s (omega arith),
+      length-part (dataAt s c + 24) 48 s (omega arith),
+    )
 
 pub length-cn : (s : List ℕ) (memo : List Copy) (p : Placed) → InImage s (p .column) → length (cnBytes s memo p) ≡ 160
 unfolding cnBytes
@@ -105,6 +129,6 @@ length-blockLinks payload zero a = refl
 length-blockLinks payload (suc n) a = simp (length-append, length-le, length-blockLinks payload n (a + (24 + payload))) (omega arith)
 
 pub length-dl : (s : List ℕ) (size : ℕ) (p : Placed) → (columnBlocks s size (p .column) ≡ 0 → ⊥)
-  → length (dlBytes s size p) ≡ dlSize (columnBlocks s size (p .column))
+    → length (dlBytes s size p) ≡ dlSize (columnBlocks s size (p .column))
 unfolding dlBytes dlSize
 length-dl s size p h = eq-no _ _ _ _ h (simp (length-append, length-header, length-le, length-blockLinks) (omega arith))

@@ -7,8 +7,20 @@ use native.Mathlib.Omega.{arith}
 use lib.ListN.{length}
 use Rattle.plan.specs.Columns.{Column}
 use Rattle.plan.specs.Copies.{Copy, Attachment}
-use Rattle.plan.specs.Layout.{columnBlocks, cgSize, dlSize, structureSize, blocksEnd, signalEnd, Placed, cgOf, cnOf, dlOf, placedFrom,
-  structureEnd}
+use Rattle.plan.specs.Layout.{
+  columnBlocks,
+  cgSize,
+  dlSize,
+  structureSize,
+  blocksEnd,
+  signalEnd,
+  Placed,
+  cgOf,
+  cnOf,
+  dlOf,
+  placedFrom,
+  structureEnd,
+}
 use Rattle.result.specs.Fill.{Block, block, copiedBlocks, nextDG, dlBlocks, structureBlocks, nextAttachment, attachmentBlocks}
 use Rattle.result.specs.Ordered.{Ordered}
 use Rattle.result.specs.Guarantee.{In, here, there, columnsPlaced}
@@ -38,13 +50,13 @@ ordered-ends a e (b ∷ bs) o =
 
 -- a block of n bytes at a or past it, then the rest
 pub ordered-cons : (a n e : ℕ) (b : Block) (bs : List Block) → a ≤ b .at → length (b .bytes) ≡ n
-  → Ordered (b .at + n) bs e → Ordered a (b ∷ bs) e
+    → Ordered (b .at + n) bs e → Ordered a (b ∷ bs) e
 unfolding Ordered
 ordered-cons a n e b bs h l o = (h, rw l o)
 
 -- ---- copies
 pub copied-ordered : (s chain : List ℕ) (memo : List Copy) (fh a e : ℕ) (cs : List Copy) → Laid s a cs e
-  → Ordered a (copiedBlocks s chain memo fh cs) e
+    → Ordered a (copiedBlocks s chain memo fh cs) e
 unfolding Laid copiedBlocks Ordered
 copied-ordered s chain memo fh a e [] l = l
 copied-ordered s chain memo fh a e (c ∷ cs) l =
@@ -52,7 +64,7 @@ copied-ordered s chain memo fh a e (c ∷ cs) l =
 
 -- ---- attachments
 pub attached-ordered : (s chain : List ℕ) (memo : List Copy) (fh a e : ℕ) (ts : List Attachment) → LaidAt s a ts e
-  → Ordered a (attachmentBlocks s chain memo fh ts) e
+    → Ordered a (attachmentBlocks s chain memo fh ts) e
 unfolding LaidAt attachmentBlocks Ordered
 attached-ordered s chain memo fh a e [] l = l
 attached-ordered s chain memo fh a e (t ∷ ts) l =
@@ -76,8 +88,8 @@ dl-ordered s size p =
 
 -- DG, CG, CN and DL of one column, then the rest
 column-ordered : (s : List ℕ) (size : ℕ) (memo : List Copy) (all ps : List Placed) (p : Placed) (e : ℕ) → InImage s (p .column)
-  → Ordered (p .dg + structureSize s size (p .column)) (structureBlocks s size memo all ps) e
-  → Ordered (p .dg) (structureBlocks s size memo all (p ∷ ps)) e
+    → Ordered (p .dg + structureSize s size (p .column)) (structureBlocks s size memo all ps) e
+    → Ordered (p .dg) (structureBlocks s size memo all (p ∷ ps)) e
 unfolding structureBlocks structureSize
 column-ordered s size memo all ps p e i o =
     ordered-cons (p .dg) 64 e _ _ (le-refl _) (length-dg s size memo p (nextDG ps))
@@ -88,7 +100,7 @@ column-ordered s size memo all ps p e i o =
 
 -- those of every column that is placed from a on, where every column's CG and CN lie in the image
 pub structure-ordered : (s : List ℕ) (size : ℕ) (memo : List Copy) (all : List Placed) (a d : ℕ) (cs : List Column)
-  → ((c : Column) → In c cs → InImage s c) → Ordered a (structureBlocks s size memo all (placedFrom s size a d cs)) (structureEnd s size a cs)
+    → ((c : Column) → In c cs → InImage s c) → Ordered a (structureBlocks s size memo all (placedFrom s size a d cs)) (structureEnd s size a cs)
 unfolding placedFrom structureEnd structureBlocks Ordered
 structure-ordered s size memo all a d [] f = le-refl a
 structure-ordered s size memo all a d (c ∷ cs) f =

@@ -11,8 +11,18 @@ use Rattle.base.specs.ChoiceLaws.{lt-back}
 use Rattle.base.specs.Checked.{ok}
 use Rattle.plan.specs.Columns.{Column}
 use Rattle.plan.specs.Data.{blocksIn}
-use Rattle.plan.specs.Layout.{columnWidth, columnBlocks, cgSize, dlSize, structureSize, blocksEnd, signalEnd, Placed, placedFrom,
-  structureEnd}
+use Rattle.plan.specs.Layout.{
+  columnWidth,
+  columnBlocks,
+  cgSize,
+  dlSize,
+  structureSize,
+  blocksEnd,
+  signalEnd,
+  Placed,
+  placedFrom,
+  structureEnd,
+}
 use Rattle.result.specs.Guarantee.{In, here, there}
 use Rattle.copies_laws.specs.AnswerLaws.{refused≢ok, on-eq}
 
@@ -31,14 +41,14 @@ structure-near s size c h = omega (arith, cg-near (c .master), dl-near (columnBl
 
 -- those of all columns, under the limit of blocks
 pub structures-near : (s : List ℕ) (size a : ℕ) (cs : List Column) {u : Unit {0}} → blocksIn s size cs ≡ ok u
-  → structureEnd s size a cs ≤ a + length cs * 34359738744
+    → structureEnd s size a cs ≤ a + length cs * 34359738744
 unfolding structureEnd blocksIn columnBlocks columnWidth
 structures-near s size a [] e = omega arith
 structures-near s size a (c ∷ cs) e =
     let h = lt-back _ _ _ _ e refused≢ok in
     let g : structureSize s size c ≤ 34359738744 = structure-near s size c (h .0) in
     let k : structureEnd s size (a + structureSize s size c) cs ≤ a + structureSize s size c + length cs * 34359738744 =
-        structures-near s size (a + structureSize s size c) cs (h .1) in
+    structures-near s size (a + structureSize s size c) cs (h .1) in
     omega arith
 
 pub structure-grows : (s : List ℕ) (size a : ℕ) (cs : List Column) → a ≤ structureEnd s size a cs
@@ -52,7 +62,7 @@ pub record Within (s : List ℕ) (size a e : ℕ) (p : Placed) : Type 0 where
   pub ends : p .dg + structureSize s size (p .column) ≤ e
 
 pub placed-within : {p : Placed} (s : List ℕ) (size a d : ℕ) (cs : List Column) → In p (placedFrom s size a d cs)
-  → Within s size a (structureEnd s size a cs) p
+    → Within s size a (structureEnd s size a cs) p
 unfolding placedFrom structureEnd
 placed-within s size a d (c ∷ cs) here = record { begins = le-refl a; ends = structure-grows s size (a + structureSize s size c) cs }
 placed-within s size a d (c ∷ cs) (there i) =

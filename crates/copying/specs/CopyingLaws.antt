@@ -43,14 +43,14 @@ length-newLinks s m zero p = refl
 length-newLinks s m (suc k) p = simp (length-append, length-le, length-newLinks s m k (p + 8)) (omega arith)
 
 pub links-begin : (s : List ℕ) (m : List Copy) (a k at : ℕ) (d : List ℕ)
-  → blit at (newLinks s m k (a + 24 + 8 * 1)) d ≡ blit at (newLinks s m k (a + 32)) d
+    → blit at (newLinks s m k (a + 24 + 8 * 1)) d ≡ blit at (newLinks s m k (a + 32)) d
 links-begin s m a k at d =
     let e : a + 24 + 8 * 1 ≡ a + 32 = omega arith in
     rw e
 
 module _ (s : List ℕ) (m : List Copy) (a i p : ℕ) where
   pub links-turn : (k : ℕ) (d : List ℕ) {e g : List ℕ} {old new : ℕ} → 0 < k → blit p (newLinks s m k (a + 24 + 8 * i)) d ≡ g → old ≡ linkAt s a i
-    → new ≡ newLink m old → e ≡ blit p (le 8 new) d → blit (p + 8) (newLinks s m (k - 1) (a + 24 + 8 * (i + 1))) e ≡ g
+      → new ≡ newLink m old → e ≡ blit p (le 8 new) d → blit (p + 8) (newLinks s m (k - 1) (a + 24 + 8 * (i + 1))) e ≡ g
   unfolding newLinks linkAt
   links-turn zero d h t q r u = absurd (omega arith)
   links-turn (suc k) d h t q r u =
@@ -59,7 +59,7 @@ module _ (s : List ℕ) (m : List Copy) (a i p : ℕ) where
 
   -- the links after this one have no room
   pub links-end : (k : ℕ) (d : List ℕ) {e g : List ℕ} {old new : ℕ} → 0 < k → blit p (newLinks s m k (a + 24 + 8 * i)) d ≡ g → old ≡ linkAt s a i
-    → new ≡ newLink m old → e ≡ blit p (le 8 new) d → length e ≤ p + 8 → e ≡ g
+      → new ≡ newLink m old → e ≡ blit p (le 8 new) d → length e ≤ p + 8 → e ≡ g
   links-end k d {e} {g} h t q r u small =
       sym (blit-past (newLinks s m (k - 1) (a + 24 + 8 * (i + 1))) (p + 8) e small) ∙ links-turn k d h t q r u
 
@@ -73,7 +73,7 @@ unfolding part
 chain-all w chain {e} q =
     let z : e - historyAt ≡ min chain (length w - historyAt) = omega arith in
     let all : take (length w - historyAt) (drop historyAt w) ≡ drop historyAt w =
-        take-all (length w - historyAt) (drop historyAt w) (simp length-drop (le-refl _)) in
+    take-all (length w - historyAt) (drop historyAt w) (simp length-drop (le-refl _)) in
     rw z (take-min chain (length w - historyAt) (drop historyAt w) ∙ ap (take chain) all)
 
 part-cons : (w : List ℕ) (i e : ℕ) → i < e → i < length w → part i (e - i) w ≡ getD w i 0 ∷ part (i + 1) (e - (i + 1)) w
@@ -96,12 +96,13 @@ pub record Chain (s w : List ℕ) (m : List Copy) (fh a i e v : ℕ) : Type 0 wh
   pub rest : firstNew s m a (historyLink a (part i (e - i) w) m fh) ≡ v
 
 pub chain-begin : (s w : List ℕ) (m : List Copy) (fh a chain : ℕ) {e : ℕ} → e ≡ historyAt + min chain (length w - historyAt)
-  → Chain s w m fh a historyAt e (firstNew s m a (historyLink a (part historyAt chain w) m fh))
+    → Chain s w m fh a historyAt e (firstNew s m a (historyLink a (part historyAt chain w) m fh))
 chain-begin s w m fh a chain {e} q = record {
-    begun = omega arith;
-    order = omega arith;
-    within = omega (arith, min-le-right chain (length w - historyAt));
-    rest = ap (λ (l : List ℕ). firstNew s m a (historyLink a l m fh)) (chain-all w chain q) }
+  begun = omega arith;
+  order = omega arith;
+  within = omega (arith, min-le-right chain (length w - historyAt));
+  rest = ap (λ (l : List ℕ). firstNew s m a (historyLink a l m fh)) (chain-all w chain q);
+}
 
 miss : (a b fh : ℕ) (m : List Copy) (bs : List ℕ) → (b ≡ a → ⊥) → historyLink a (b ∷ bs) m fh ≡ historyLink a bs m fh
 unfolding historyLink
@@ -122,7 +123,7 @@ module _ {s w : List ℕ} {m : List Copy} {fh a i e v : ℕ} (t : Chain s w m fh
       led-is m (getD w (i + 1) 0) k
       ∙ ap (firstNew s m a) (eq-yes (getD w i 0) a (some (newLink m (getD w (i + 1) 0))) _ q refl)
       ∙ (rw (part-cons w i e (omega arith) (omega (arith, t .begun, t .within)), part-cons w (i + 1) e h (omega (arith, t .begun, t .within)))
-        at (t .rest))
+      at (t .rest))
 
   pub history-end : e ≤ i → {r : ℕ} → r ≡ firstNew s m a none → r ≡ v
   unfolding historyLink
@@ -130,17 +131,18 @@ module _ {s w : List ℕ} {m : List Copy} {fh a i e v : ℕ} (t : Chain s w m fh
 
   pub history-miss : i < e → (getD w i 0 ≡ a → ⊥) → Chain s w m fh a (i + 1) e v
   history-miss h n = record {
-      begun = omega (arith, t .begun);
-      order = omega arith;
-      within = t .within;
-      rest = ap (firstNew s m a) (sym (miss a (getD w i 0) fh m (part (i + 1) (e - (i + 1)) w) n))
-        ∙ (rw (part-cons w i e h (omega (arith, t .begun, t .within))) at (t .rest)) }
+    begun = omega (arith, t .begun);
+    order = omega arith;
+    within = t .within;
+    rest = ap (firstNew s m a) (sym (miss a (getD w i 0) fh m (part (i + 1) (e - (i + 1)) w) n))
+        ∙ (rw (part-cons w i e h (omega (arith, t .begun, t .within))) at (t .rest));
+  }
 
 pub own-lost : (s : List ℕ) (m : List Copy) (a : ℕ) {k : ℕ} → k ≡ kindAt s a → k ≡ kindFH → 0 ≡ firstNew s m a none
 own-lost s m a e q = eq-yes _ _ _ _ (sym e ∙ q) refl
 
 pub own-led : (s : List ℕ) (m : List Copy) (a : ℕ) {k x r : ℕ} → k ≡ kindAt s a → (k ≡ kindFH → ⊥) → x ≡ linkAt s a 0 → r ≡ linkOf (copyOf x m)
-  → r ≡ firstNew s m a none
+    → r ≡ firstNew s m a none
 own-led s m a e n q k = eq-no _ _ _ _ (λ z. n (e ∙ z)) (rw (← q) (led-is m _ k))
 
 -- ---- all links
@@ -149,14 +151,14 @@ unfolding copiedLinks blit
 copied-none s chain m fh a n d e = rw e
 
 pub copied-some : (s chain : List ℕ) (m : List Copy) (fh a n : ℕ) (d : List ℕ) {x : ℕ} {e f : List ℕ} → 0 < n → x ≡ firstNew s m a (historyLink a chain m fh)
-  → e ≡ blit 24 (le 8 x) d → f ≡ blit 32 (newLinks s m (n - 1) (a + 32)) e → f ≡ blit 24 (copiedLinks s chain m fh a n) d
+    → e ≡ blit 24 (le 8 x) d → f ≡ blit 32 (newLinks s m (n - 1) (a + 32)) e → f ≡ blit 24 (copiedLinks s chain m fh a n) d
 unfolding copiedLinks
 copied-some s chain m fh a zero d h q t u = absurd (omega arith)
 copied-some s chain m fh a (suc n) d h q t u = rw (blit-append, length-le) (rw (sub-one, t, q) at u)
 
 -- ---- data
 pub data-from : (s : List ℕ) (a p : ℕ) (d : List ℕ) {b n : ℕ} {e : List ℕ} → b ≡ min (dataAt s a) (length s) → n ≡ sizeAt s a - (24 + 8 * linksAt s a)
-  → e ≡ blit p (part b n s) d → e ≡ blit p (dataOf s a) d
+    → e ≡ blit p (part b n s) d → e ≡ blit p (dataOf s a) d
 unfolding dataOf
 data-from s a p d {b} {n} {e} q r t = go (ltb (length s) (dataAt s a)) refl
   where
@@ -182,8 +184,8 @@ length-copiedLinks s chain m fh a zero = refl
 length-copiedLinks s chain m fh a (suc k) = simp (length-append, length-le, length-newLinks) (omega arith)
 
 pub copied-laid : (s chain : List ℕ) (m : List Copy) (fh a : ℕ) (d₀ : List ℕ) {k z l : ℕ} {d₁ d₂ d₃ : List ℕ} → l ≡ linksAt s a → k ≡ kindAt s a → z ≡ sizeAt s a
-  → d₁ ≡ blit 0 (header k z l) d₀ → d₂ ≡ blit 24 (copiedLinks s chain m fh a l) d₁ → d₃ ≡ blit (24 + 8 * l) (dataOf s a) d₂
-  → d₃ ≡ blit 0 (copiedBytes s chain m fh a) d₀
+    → d₁ ≡ blit 0 (header k z l) d₀ → d₂ ≡ blit 24 (copiedLinks s chain m fh a l) d₁ → d₃ ≡ blit (24 + 8 * l) (dataOf s a) d₂
+    → d₃ ≡ blit 0 (copiedBytes s chain m fh a) d₀
 unfolding copiedBytes
 copied-laid s chain m fh a d₀ {k} {z} {l} {d₁} {d₂} {d₃} e f g t u v =
     let first : d₁ ≡ blit 0 (header (kindAt s a) (sizeAt s a) (linksAt s a)) d₀ = rw (e, f, g) at t in
@@ -196,8 +198,8 @@ unfolding part
 length-front s a = simp (length-take, length-drop)
 
 pub at-laid : (s : List ℕ) (m : List Copy) (a next : ℕ) (d₀ : List ℕ) {n l : ℕ} {d₁ d₂ d₃ d₄ : List ℕ} → n ≡ min 24 (length s - a) → l ≡ linksAt s a - 1
-  → d₁ ≡ blit 0 (part a 24 s) d₀ → d₂ ≡ blit n (le 8 next) d₁ → d₃ ≡ blit (n + 8) (newLinks s m l (a + 32)) d₂
-  → d₄ ≡ blit (n + 8 + 8 * l) (dataOf s a) d₃ → d₄ ≡ blit 0 (atBytes s m a next) d₀
+    → d₁ ≡ blit 0 (part a 24 s) d₀ → d₂ ≡ blit n (le 8 next) d₁ → d₃ ≡ blit (n + 8) (newLinks s m l (a + 32)) d₂
+    → d₄ ≡ blit (n + 8 + 8 * l) (dataOf s a) d₃ → d₄ ≡ blit 0 (atBytes s m a next) d₀
 unfolding atBytes
 at-laid s m a next d₀ {n} {l} {d₁} {d₂} {d₃} {d₄} e f t u v x =
     let k : length (part a 24 s) ≡ n = length-front s a ∙ sym e in

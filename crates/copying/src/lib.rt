@@ -1,7 +1,14 @@
 // A copied block, laid over a slice that begins at the block's place. What would lie past the slice's end is lost.
-use blocks::block::{kind_at, size_at, links_at, link_at, data_at};
+use blocks::block::data_at;
+use blocks::block::kind_at;
+use blocks::block::link_at;
+use blocks::block::links_at;
+use blocks::block::size_at;
 use placing::memo::new_link;
-use puts::{put_u64, least, copy, header};
+use puts::copy;
+use puts::header;
+use puts::least;
+use puts::put_u64;
 ghost use mathlib.Core.Path.{_≡_};
 ghost use Prim.Native.Nat.{_+_, _*_, _-_, _≤_, min};
 ghost use mathlib.Core.Option.{none};
@@ -92,7 +99,16 @@ fn first_link(image: &[u8], memo: &[u64], used: u64, chain: u64, fh: u64, a: u64
 }
 
 // The links of the copy of the block at a, n of them.
-fn put_copied_links(d: &mut [u8], image: &[u8], memo: &[u64], used: u64, chain: u64, fh: u64, a: u64, n: u64)
+fn put_copied_links(
+    d: &mut [u8],
+    image: &[u8],
+    memo: &[u64],
+    used: u64,
+    chain: u64,
+    fh: u64,
+    a: u64,
+    n: u64,
+)
     ensures { λ _. ⌜ now (d .exit) ≡ blit 24 (copiedLinks (now (image .entry)) (part historyAt chain (now (memo .entry)))
         (copiesIn (now (memo .entry)) used) fh a n) (now (d .entry)) ⌝ }
 {

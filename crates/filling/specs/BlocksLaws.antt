@@ -92,7 +92,7 @@ take-pad (suc m) j (x ∷ xs) h = rw suc-sub-suc (ap (λ (ys : List ℕ). x ∷ 
 
 pub hd-data : (s : List ℕ) → hdData s
     ≡ part (dataAt s 64) (min 32 (sizeAt s 64 - (24 + 8 * linksAt s 64))) s
-      ++ replicate (32 - length (part (dataAt s 64) (min 32 (sizeAt s 64 - (24 + 8 * linksAt s 64))) s)) 0
+    ++ replicate (32 - length (part (dataAt s 64) (min 32 (sizeAt s 64 - (24 + 8 * linksAt s 64))) s)) 0
 unfolding hdData dataOf part
 hd-data s =
     rw take-min (take-pad 32 32 (take (sizeAt s 64 - (24 + 8 * linksAt s 64)) (drop (dataAt s 64) s)) (omega arith))
@@ -134,7 +134,7 @@ module _ (s : List ℕ) (g cn name source comment : ℕ) (remote : Bool) (master
   cg-remote d₀ d₁ d₂ d₃ e a b f =
       let there : pick remote (le 8 master) [] ≡ le 8 master = rw e in
       rw there (blit-next 0 80 _ _ d₀ d₂ d₃ (blit-next 0 72 _ _ d₀ d₁ d₂ a b (simp (cg-front remote cn name source comment))) f
-        (simp (length-append, cg-front remote cn name source comment, length-le)))
+      (simp (length-append, cg-front remote cn name source comment, length-le)))
 
   pub cg-own : (d₀ d₁ d₂ : List ℕ) → remote ≡ false → d₁ ≡ blit 0 (cgFront remote cn name source comment) d₀
       → d₂ ≡ blit 72 (cgDataFrom s g remote records bytes inval) d₁
@@ -234,10 +234,10 @@ pub dl-laid : (payload n a size links : ℕ) (d₀ d₁ d₂ d₃ d₄ : List �
 unfolding dlFrom
 dl-laid payload n a size links d₀ d₁ d₂ d₃ d₄ e q s t u v =
     let front : header kindDL size links ≡ header kindDL (dlSize n) (n + 1) =
-        header-wrap kindDL (dlSize n) (n + 1) size links e (ap (le 8) q ∙ le-wrap 8 (n + 1)) in
+    header-wrap kindDL (dlSize n) (n + 1) size links e (ap (le 8) q ∙ le-wrap 8 (n + 1)) in
     let d3 : d₃ ≡ blit 0 (header kindDL (dlSize n) (n + 1) ++ le 8 0 ++ blockLinks payload n a) d₀ =
-        blit-next 0 32 _ _ d₀ d₂ d₃ (blit-next 0 24 _ _ d₀ d₁ d₂ (rw front at s) t (simp length-header)) u
-        (simp (length-append, length-header, length-le)) in
+    blit-next 0 32 _ _ d₀ d₂ d₃ (blit-next 0 24 _ _ d₀ d₁ d₂ (rw front at s) t (simp length-header)) u
+    (simp (length-append, length-header, length-le)) in
     let d4 : d₄ ≡ blit 0 (header kindDL (dlSize n) (n + 1) ++ le 8 0 ++ blockLinks payload n a ++ (le 4 1 ++ le 4 n ++ le 8 payload)) d₀ =
-        blit-next 0 (32 + 8 * n) _ _ d₀ d₃ d₄ d3 v (simp (length-append, length-header, length-le, length-links payload n a) (omega arith)) in
+    blit-next 0 (32 + 8 * n) _ _ d₀ d₃ d₄ d3 v (simp (length-append, length-header, length-le, length-links payload n a) (omega arith)) in
     simp append-assoc (simp append-assoc at d4)

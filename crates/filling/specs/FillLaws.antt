@@ -36,15 +36,15 @@ module _ (s : List ℕ) (size : ℕ) (memo : List Copy) (p : Placed) where
 
   pub cn-from : cnBytes s memo p
       ≡ cnFrom s (p .column .channel) (keepsInval s (p .column .group .at) (p .column .channel)) (newLink memo (linkAt s (p .column .channel) 2))
-        (newLink memo (linkAt s (p .column .channel) 3)) (newLink memo (linkAt s (p .column .channel) 4)) (sdLink (p .column .signalOf) (p .sd))
-        (newLink memo (linkAt s (p .column .channel) 6)) (newLink memo (linkAt s (p .column .channel) 7))
+      (newLink memo (linkAt s (p .column .channel) 3)) (newLink memo (linkAt s (p .column .channel) 4)) (sdLink (p .column .signalOf) (p .sd))
+      (newLink memo (linkAt s (p .column .channel) 6)) (newLink memo (linkAt s (p .column .channel) 7))
   unfolding cnBytes cnData cnFrom cnLinks cnTypes cnRest
   cn-from = simp append-assoc
 
 -- with the master's number taken apart
 cg-made : (s : List ℕ) (ps : List Placed) (g cn name source comment records bytes : ℕ) (inval : Bool) (m : Option ℕ)
     → header kindCG (cgSize m) (cgLinks m) ++ le 8 0 ++ le 8 cn ++ le 8 name ++ le 8 source ++ le 8 0 ++ le 8 comment ++ masterLink ps m
-      ++ (le 8 0 ++ le 8 records ++ le 2 (cgFlags (groupFlags s g) m) ++ part (dataAt s g + 18) 2 s ++ le 4 0 ++ le 4 bytes ++ le 4 (one inval))
+    ++ (le 8 0 ++ le 8 records ++ le 2 (cgFlags (groupFlags s g) m) ++ part (dataAt s g + 18) 2 s ++ le 4 0 ++ le 4 bytes ++ le 4 (one inval))
     ≡ cgFrom s g cn name source comment (hasMaster m) (masterCG ps m) records bytes inval
 unfolding cgFrom cgHeader cgFront cgDataFrom cgCounts
 cg-made s ps g cn name source comment records bytes inval none = simp append-assoc
@@ -52,7 +52,7 @@ cg-made s ps g cn name source comment records bytes inval (some m) = simp append
 
 pub cg-from : (s : List ℕ) (memo : List Copy) (ps : List Placed) (p : Placed) → cgBytes s memo ps p
     ≡ cgFrom s (p .column .group .at) (cnOf p) (newLink memo (linkAt s (p .column .group .at) 2)) (newLink memo (linkAt s (p .column .group .at) 3))
-      (newLink memo (linkAt s (p .column .group .at) 5)) (hasMaster (p .column .master)) (masterCG ps (p .column .master)) (p .column .group .records)
-      (channelBytes s (p .column .channel)) (keepsInval s (p .column .group .at) (p .column .channel))
+    (newLink memo (linkAt s (p .column .group .at) 5)) (hasMaster (p .column .master)) (masterCG ps (p .column .master)) (p .column .group .records)
+    (channelBytes s (p .column .channel)) (keepsInval s (p .column .group .at) (p .column .channel))
 unfolding cgBytes cgData
 cg-from s memo ps p = cg-made s ps _ _ _ _ _ _ _ _ (p .column .master)

@@ -1,6 +1,24 @@
 // Each block of the result, laid over a slice that begins at the block's place. What would lie past the slice's end is lost.
-use blocks::block::{HD, DG, CG, CN, DL, MD, size_at, links_at, data_at, data_u8, data_u16, data_u32};
-use puts::{put_u8, put_u16, put_u32, put_u64, least, copy, zero, header};
+use blocks::block::CG;
+use blocks::block::CN;
+use blocks::block::DG;
+use blocks::block::DL;
+use blocks::block::HD;
+use blocks::block::MD;
+use blocks::block::data_at;
+use blocks::block::data_u8;
+use blocks::block::data_u16;
+use blocks::block::data_u32;
+use blocks::block::links_at;
+use blocks::block::size_at;
+use puts::copy;
+use puts::header;
+use puts::least;
+use puts::put_u8;
+use puts::put_u16;
+use puts::put_u32;
+use puts::put_u64;
+use puts::zero;
 ghost use mathlib.Core.Path.{_≡_};
 ghost use mathlib.Core.List.{_++_};
 ghost use Prim.Native.Nat.{_+_, _*_, _-_, _%_, _≤_, _<_};
@@ -169,7 +187,16 @@ fn one_if(b: bool) -> u64
 }
 
 // Its data.
-fn put_cg_data(d: &mut [u8], at: usize, image: &[u8], g: u64, remote: bool, records: u64, bytes: u64, inval: bool)
+fn put_cg_data(
+    d: &mut [u8],
+    at: usize,
+    image: &[u8],
+    g: u64,
+    remote: bool,
+    records: u64,
+    bytes: u64,
+    inval: bool,
+)
     requires { ⌜ at ≤ 80 ⌝ }
     ensures { λ _. ⌜ now (d .exit) ≡ blit at (cgDataFrom (now (image .entry)) g remote records bytes inval) (now (d .entry)) ⌝ }
 {
@@ -181,12 +208,20 @@ fn put_cg_data(d: &mut [u8], at: usize, image: &[u8], g: u64, remote: bool, reco
 
 // A column's CG, from the CG at g; master is the master's CG where it is remote.
 pub fn put_cg(
-    d: &mut [u8], image: &[u8], g: u64, cn: u64, name: u64, source: u64, comment: u64,
-    remote: bool, master: u64, records: u64, bytes: u64, inval: bool,
+    d: &mut [u8],
+    image: &[u8],
+    g: u64,
+    cn: u64,
+    name: u64,
+    source: u64,
+    comment: u64,
+    remote: bool,
+    master: u64,
+    records: u64,
+    bytes: u64,
+    inval: bool,
 )
-    ensures {
-        λ _. ⌜ now (d .exit) ≡ blit 0 (cgFrom (now (image .entry)) g cn name source comment remote master records bytes inval) (now (d .entry)) ⌝
-    }
+    ensures { λ _. ⌜ now (d .exit) ≡ blit 0 (cgFrom (now (image .entry)) g cn name source comment remote master records bytes inval) (now (d .entry)) ⌝ }
 {
     put_cg_front(d, remote, cn, name, source, comment);
     if remote {
@@ -256,7 +291,18 @@ fn put_cn_rest(d: &mut [u8], at: usize, image: &[u8], c: u64, keeps: bool)
 }
 
 // A column's CN, from the CN at c.
-pub fn put_cn(d: &mut [u8], image: &[u8], c: u64, keeps: bool, name: u64, source: u64, conversion: u64, sd: u64, unit: u64, comment: u64)
+pub fn put_cn(
+    d: &mut [u8],
+    image: &[u8],
+    c: u64,
+    keeps: bool,
+    name: u64,
+    source: u64,
+    conversion: u64,
+    sd: u64,
+    unit: u64,
+    comment: u64,
+)
     ensures { λ _. ⌜ now (d .exit) ≡ blit 0 (cnFrom (now (image .entry)) c keeps name source conversion sd unit comment) (now (d .entry)) ⌝ }
 {
     put_cn_links(d, name, source, conversion, sd, unit);

@@ -69,7 +69,7 @@ signal-small s unsigned e h k = omega arith
 signal-small s (signalData fs) e h k = omega (arith, length-signal s fs e, fragments-small s fs e h k)
 
 signal-end : (s : List ℕ) (g : Signal) (a : ℕ) → signalIn s g ≡ fine → length s ≤ 4294967296 → sizeOfSignal g ≤ 1024
-  → (a ≤ signalEnd g a) × (signalEnd g a ≤ a + 4398046511136)
+    → (a ≤ signalEnd g a) × (signalEnd g a ≤ a + 4398046511136)
 signal-end s unsigned a e h k = (omega arith, omega arith)
 signal-end s (signalData fs) a e h k =
     (omega (arith, align-past (a + (24 + sizeOf fs))), omega (arith, align-near (a + (24 + sizeOf fs)), fragments-small s fs e h k))
@@ -93,7 +93,7 @@ pub record DataWithin (d k : ℕ) (p : Placed) : Type 0 where
   pub sdBelow : p .sd ≤ d + k * 120000000000000 + 120000000000000
 
 pub data-within : (s : List ℕ) (size a d : ℕ) (cs : List Column) (p : Placed) → length s ≤ 4294967296
-  → ((c : Column) → In c cs → Sized s c) → In p (placedFrom s size a d cs) → DataWithin d (length cs) p
+    → ((c : Column) → In c cs → Sized s c) → In p (placedFrom s size a d cs) → DataWithin d (length cs) p
 unfolding placedFrom
 data-within s size a d (c ∷ cs) p h z here =
     let w = z c here in

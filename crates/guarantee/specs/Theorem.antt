@@ -50,10 +50,11 @@ module _ (x : Args) (d : Decided) (k : Known x d) where
       let few = fragments-few (k .steps .source .fragments) (k .steps .source .items) (c .group .dataGroup) (m .listed) in
       record {
         ready = ready (x .image) (dataGroups (k .steps .source)) (d .planned .columns) (k .steps .counted) (k .steps .dataFine) c i (in-source c i)
-          (k .fitting c i) (k .source c i .1);
+            (k .fitting c i) (k .source c i .1);
         signals = column-signal (x .image) (dataGroups (k .steps .source)) (d .planned .columns) (k .steps .counted) (k .steps .dataFine) c i (in-source c i);
         few = omega (arith, few, k .groups .fewFragments);
-        fewSignals = omega (arith, k .fewSignals c i) }
+        fewSignals = omega (arith, k .fewSignals c i);
+      }
 
   -- its CG and CN lie in the image
   pub in-image : (c : Column) → In c (d .planned .columns) → InImage (x .image) c
@@ -61,13 +62,14 @@ module _ (x : Args) (d : Decided) (k : Known x d) where
       let f = k .groups .checked (c .group) (k .source c i .0) in
       record {
         group = data-inside CG (x .image) (c .group .at) (f .block);
-        channel = data-inside CN (x .image) (c .channel) (f .channels (c .channel) (k .source c i .2)) }
+        channel = data-inside CN (x .image) (c .channel) (f .channels (c .channel) (k .source c i .2));
+      }
 
   data-in-order : Ordered (d .laidOut .metadataEnd) (dataBlocks (x .image) (x .blockSize) (d .laidOut .placed))
-    (dataEnd (x .image) (x .blockSize) (d .laidOut .metadataEnd) (d .planned .columns))
+      (dataEnd (x .image) (x .blockSize) (d .laidOut .metadataEnd) (d .planned .columns))
   data-in-order =
       rw (o .placed) (data-ordered (x .image) (x .blockSize) (structurePlace (d .laidOut .metadata)) (d .laidOut .metadataEnd) (d .planned .columns)
-        (λ c i. sized c i .ready) (λ c i. sized c i .signals))
+      (λ c i. sized c i .ready) (λ c i. sized c i .signals))
 
   pub ordered : Ordered 0 (blocksOf x (d .laidOut)) (d .laidOut .fileSize)
   ordered = blocks-ordered x (d .planned .columns) (d .laidOut) o (k .steps .lent .identLength) in-image data-in-order
@@ -75,7 +77,7 @@ module _ (x : Args) (d : Decided) (k : Known x d) where
   -- ---- bounds
 
   in-placed : (p : Placed) → In p (d .laidOut .placed)
-    → In p (placedFrom (x .image) (x .blockSize) (structurePlace (d .laidOut .metadata)) (d .laidOut .metadataEnd) (d .planned .columns))
+      → In p (placedFrom (x .image) (x .blockSize) (structurePlace (d .laidOut .metadata)) (d .laidOut .metadataEnd) (d .planned .columns))
   in-placed p i = subst (In p) (o .placed) i
 
   column-in : (p : Placed) → In p (d .laidOut .placed) → In (p .column) (d .planned .columns)
@@ -122,7 +124,7 @@ module _ (x : Args) (d : Decided) (k : Known x d) where
 
 -- every accepted call's final bytes have the guarantee
 pub guaranteed : (x : Args) (out list : List ℕ) (d : Decided) → AllBytes (x .image) → answer x (length out) (length list) ≡ ok d
-  → Guaranteed x d (blit 0 (fileOf x (d .laidOut)) out)
+    → Guaranteed x d (blit 0 (fileOf x (d .laidOut)) out)
 guaranteed x out list d bytes e =
     let k = answer-known x (length out) (length list) d e in
     let room = answer-accepted x (length out) (length list) d e .outputFits in
@@ -134,4 +136,5 @@ guaranteed x out list d bytes e =
       once = k .once;
       source = k .source;
       counted = λ c i q. counted (x .image) (dataGroups (k .steps .source)) (d .planned .columns) (k .steps .counted) (k .steps .dataFine) c i (in-source x d k c i) q;
-      masters = k .masters }
+      masters = k .masters;
+    }

@@ -17,12 +17,12 @@ use Rattle.result.specs.Guarantee.{In, here, there}
 
 -- "A refusal changes neither output nor list"
 pub refusal-keeps : (x : Args) (out list : List ℕ) (work : List (List ℕ)) (number place : ℕ)
-  → (outcome x out list work (refused number place) .output ≡ out) × (outcome x out list work (refused number place) .list ≡ list)
+    → (outcome x out list work (refused number place) .output ≡ out) × (outcome x out list work (refused number place) .list ≡ list)
 refusal-keeps x out list work number place = (refl, refl)
 
 -- "On acceptance .. list words past its end, keep their value."
 pub list-keeps : (x : Args) (out list : List ℕ) (work : List (List ℕ)) (d : Decided) (j n : ℕ)
-  → length (omissionWords (d .planned .omissions)) ≤ j → part j n (outcome x out list work (ok d) .list) ≡ part j n list
+    → length (omissionWords (d .planned .omissions)) ≤ j → part j n (outcome x out list work (ok d) .list) ≡ part j n list
 list-keeps x out list work d j n h = part-blit-after (omissionWords (d .planned .omissions)) 0 j n list (omega arith)
 
 -- ---- "Gaps are zero."
@@ -53,8 +53,8 @@ gap-zero [] a e i o h out = zeros-at (e - a) (i - a)
 gap-zero (b ∷ bs) a e i o h out = go (λ l. gap-zero bs (b .at + length (b .bytes)) e i (o .1) l (λ c j. out c (there j))) (out b here)
   where
     go : (b .at + length (b .bytes) ≤ i → getD (flat (b .at + length (b .bytes)) bs e) (i - (b .at + length (b .bytes))) 0 ≡ 0)
-      → (i < b .at) ⊎ (b .at + length (b .bytes) ≤ i)
-      → getD (replicate (b .at - a) 0 ++ b .bytes ++ flat (b .at + length (b .bytes)) bs e) (i - a) 0 ≡ 0
+        → (i < b .at) ⊎ (b .at + length (b .bytes) ≤ i)
+        → getD (replicate (b .at - a) 0 ++ b .bytes ++ flat (b .at + length (b .bytes)) bs e) (i - a) 0 ≡ 0
     go later (inl l) =
         let n : i - a < length (replicate (b .at - a) 0 ++ b .bytes) = rw (length-append, length-replicate) (omega (arith, o .0)) in
         let z : List ℕ = replicate (b .at - a) 0 in

@@ -10,7 +10,18 @@ use Rattle.base.specs.Field.{leAt}
 use Rattle.base.specs.Blit.{part}
 use Rattle.base.specs.Checked.{refused, Verdict, fine}
 use Rattle.mdf.specs.Identification.{
-  dropWhile, trimmed, firstPart, pastDot, digitsFrom, digits, number, versionOf, isAscii, versionIn, identified}
+  dropWhile,
+  trimmed,
+  firstPart,
+  pastDot,
+  digitsFrom,
+  digits,
+  number,
+  versionOf,
+  isAscii,
+  versionIn,
+  identified,
+}
 
 abbrev bytes : String → List ℕ
 bytes []ˢ = []
@@ -80,10 +91,50 @@ pub versions :
     × (versionIn (bytes "4.10.xy" ++ (127 ∷ [])) ≡ fine)
     × (versionIn (bytes "4.10.xy" ++ (128 ∷ [])) ≡ refused 6 0)
 unfolding dropWhile trimmed firstPart pastDot digitsFrom digits number versionOf isAscii versionIn ifLt ifLe ifEq
-versions =
-    (refl, refl, refl, refl, refl, refl, refl, refl, refl, refl, refl, refl, refl, refl,
-    refl, refl, refl, refl, refl, refl, refl, refl, refl, refl, refl, refl, refl, refl,
-    refl, refl, refl, refl, refl, refl, refl, refl, refl, refl, refl, refl, refl, refl)
+versions = (
+  refl,
+  refl,
+  refl,
+  refl,
+  refl,
+  refl,
+  refl,
+  refl,
+  refl,
+  refl,
+  refl,
+  refl,
+  refl,
+  refl,
+  refl,
+  refl,
+  refl,
+  refl,
+  refl,
+  refl,
+  refl,
+  refl,
+  refl,
+  refl,
+  refl,
+  refl,
+  refl,
+  refl,
+  refl,
+  refl,
+  refl,
+  refl,
+  refl,
+  refl,
+  refl,
+  refl,
+  refl,
+  refl,
+  refl,
+  refl,
+  refl,
+  refl,
+)
 
 -- 4 before 5 before 6 and 7
 pub blocks :

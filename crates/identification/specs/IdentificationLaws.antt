@@ -11,8 +11,26 @@ use borrow.Author.Tests.{eq-eqb, ne-eqb, le-leb, lt-leb}
 use Rattle.base.specs.Choice.{pick, ifLt, ifEq}
 use Rattle.base.specs.ChoiceLaws.{lt-yes, lt-no, le-yes, le-no, eq-yes, eq-no, lt-back, le-first}
 use Rattle.mdf.specs.Identification.{
-  dropWhile, isZero, isSpace, trimmed, firstPart, Rest, absent, rest, pastDot, Number, unreadable, value,
-  digitsFrom, digits, number, second, versionOf, isAscii, versionIn}
+  dropWhile,
+  isZero,
+  isSpace,
+  trimmed,
+  firstPart,
+  Rest,
+  absent,
+  rest,
+  pastDot,
+  Number,
+  unreadable,
+  value,
+  digitsFrom,
+  digits,
+  number,
+  second,
+  versionOf,
+  isAscii,
+  versionIn,
+}
 use Rattle.base.specs.Checked.{refused, Verdict, fine}
 use Rattle.identification.specs.declared.Parsed.{Parsed}
 use Rattle.identification.specs.declared.Parsed.the-variants.{Unreadable, Value}
@@ -111,7 +129,7 @@ module _ {s : List ℕ} {lo hi i : ℕ} where
         low = omega arith;
         high = omega arith;
         before = rw (longer, append-assoc) (rw (range-front s i hi h k, other) at (p .before));
-        after = rw (range-front s i hi h k, other) at (p .after)
+        after = rw (range-front s i hi h k, other) at (p .after);
       }
 
   pub dot-found : Passed s lo hi i → i < hi → hi ≤ length s → getD s i 0 ≡ 46 → Dot s lo hi i
@@ -122,7 +140,7 @@ module _ {s : List ℕ} {lo hi i : ℕ} where
         low = p .low;
         high = p .high;
         before = rw (range-front s i hi h k, dot, append-nil) at (p .before);
-        after = sym (lt-yes _ _ _ _ h refl) ∙ rw (range-front s i hi h k, dot) at (p .after)
+        after = sym (lt-yes _ _ _ _ h refl) ∙ rw (range-front s i hi h k, dot) at (p .after);
       }
 
   pub dot-none : Passed s lo hi i → hi ≤ i → Dot s lo hi i
@@ -132,7 +150,7 @@ module _ {s : List ℕ} {lo hi i : ℕ} where
         low = p .low;
         high = p .high;
         before = rw (range-empty s i hi h, append-nil) at (p .before);
-        after = sym (lt-no _ _ _ _ h refl) ∙ rw (range-empty s i hi h) at (p .after)
+        after = sym (lt-no _ _ _ _ h refl) ∙ rw (range-empty s i hi h) at (p .after);
       }
 
 pub dot-begin : (s : List ℕ) (lo hi : ℕ) → lo ≤ hi → Passed s lo hi lo

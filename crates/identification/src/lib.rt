@@ -1,5 +1,6 @@
 // The identification block, the first 64 bytes of the image: refusals 4, 5, 6 and 7.
-use fields::{Check, u64_at};
+use fields::Check;
+use fields::u64_at;
 ghost use mathlib.Core.Path.{_≡_};
 ghost use Prim.Native.Nat.{_≤_};
 ghost use lib.ListN.{length};
@@ -197,17 +198,29 @@ fn version_fits(image: &[u8]) -> Check
 {
     let plain = is_ascii(image);
     if !plain {
-        return Check::Refused { number: 6, place: 0 };
+        return Check::Refused {
+            number: 6,
+            place: 0,
+        };
     }
     let version = trimmed_version(image);
     match version {
-        Parsed::Unreadable => Check::Refused { number: 6, place: 0 },
+        Parsed::Unreadable => Check::Refused {
+            number: 6,
+            place: 0,
+        },
         Parsed::Value(n) => {
             if n < 410 {
-                return Check::Refused { number: 7, place: 0 };
+                return Check::Refused {
+                    number: 7,
+                    place: 0,
+                };
             }
             if 65535 < n {
-                return Check::Refused { number: 7, place: 0 };
+                return Check::Refused {
+                    number: 7,
+                    place: 0,
+                };
             }
             Check::Fine
         }
@@ -219,10 +232,16 @@ pub fn identify(image: &[u8]) -> Check
     ensures { λ r. ⌜ verdictOf r ≡ identified (now (image .entry)) ⌝ }
 {
     if image.len() < 64 {
-        return Check::Refused { number: 4, place: 0 };
+        return Check::Refused {
+            number: 4,
+            place: 0,
+        };
     }
     if u64_at(image, 0) != FILE_MARK {
-        return Check::Refused { number: 5, place: 0 };
+        return Check::Refused {
+            number: 5,
+            place: 0,
+        };
     }
     version_fits(image)
 }

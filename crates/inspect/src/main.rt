@@ -32,7 +32,11 @@ fn show(image: &[u8]) {
             print(b" refused ", number);
             print(b" place ", place);
         }
-        Read::Done { items, groups, fragments: count } => {
+        Read::Done {
+            items,
+            groups,
+            fragments: count,
+        } => {
             print(b" items ", items);
             print(b" groups ", groups);
             print(b" fragments ", count);

@@ -25,7 +25,8 @@ laid-then {at} {m} {n} {p} {r} {xs} {ys} {d} {e} {f} a b =
     record {
       is = rw (b .is, a .is, a .past) (sym (blit-append xs at ys d));
       past = rw l (omega (arith, a .past, b .past));
-      small = rw l (omega (arith, a .small, b .small)) }
+      small = rw l (omega (arith, a .small, b .small));
+    }
 
 -- the same bytes, said otherwise
 pub laid-as : {at m r : ℕ} {xs ys d e : List ℕ} → Laid at xs m d e r → xs ≡ ys → Laid at ys m d e r
@@ -54,7 +55,7 @@ unfolding digitsOf
 digits-none most n at d h = rw h laid-none
 
 pub digits-one : (most n : ℕ) {at r : ℕ} {d e : List ℕ} → (most ≡ 0 → ⊥) → n / 10 ≡ 0 → Laid at ((48 + n % 10) ∷ []) 1 d e r
-  → Laid at (digitsOf most n) most d e r
+    → Laid at (digitsOf most n) most d e r
 unfolding digitsOf
 digits-one zero n h q a = absurd (h refl)
 digits-one (suc k) n {at} {r} {d} {e} h q a =
@@ -62,7 +63,7 @@ digits-one (suc k) n {at} {r} {d} {e} h q a =
     rw none (laid-most a (omega arith))
 
 pub digits-more : (most n : ℕ) {at p r : ℕ} {d e f : List ℕ} → (most ≡ 0 → ⊥) → (n / 10 ≡ 0 → ⊥) → Laid at (digitsOf (most - 1) (n / 10)) (most - 1) d e p
-  → Laid p ((48 + n % 10) ∷ []) 1 e f r → Laid at (digitsOf most n) most d f r
+    → Laid p ((48 + n % 10) ∷ []) 1 e f r → Laid at (digitsOf most n) most d f r
 unfolding digitsOf
 digits-more zero n h q a b = absurd (h refl)
 digits-more (suc k) n {at} {p} {r} {d} {e} {f} h q a b =

@@ -73,10 +73,13 @@ omissionsIn w i (suc n) = omissionIn w i ++ omissionsIn w (i + 2) n
 -- `columns`, `omitted`, `refused` with a blank after, `place` with a blank before and after
 abbrev pub columnsWord : List ℕ
 columnsWord = 99 ∷ 111 ∷ 108 ∷ 117 ∷ 109 ∷ 110 ∷ 115 ∷ 32 ∷ []
+
 abbrev pub omittedWord : List ℕ
 omittedWord = 111 ∷ 109 ∷ 105 ∷ 116 ∷ 116 ∷ 101 ∷ 100 ∷ 32 ∷ []
+
 abbrev pub refusedWord : List ℕ
 refusedWord = 114 ∷ 101 ∷ 102 ∷ 117 ∷ 115 ∷ 101 ∷ 100 ∷ 32 ∷ []
+
 abbrev pub placeWord : List ℕ
 placeWord = 32 ∷ 112 ∷ 108 ∷ 97 ∷ 99 ∷ 101 ∷ 32 ∷ []
 

@@ -12,8 +12,28 @@ use Rattle.plan.specs.Geometry.{blockCount}
 use Rattle.placing.specs.InWords.{widthAt, blocksAt, payloadAt}
 use Rattle.result.specs.Fill.{one}
 use Rattle.result.specs.Listing.{decimal}
-use Rattle.listing.specs.Lines.{Laid, numberThen, letterOf, Letter, masterOf, lineFront, lineSizes, lineAmounts, lineIn, linesIn, omissionIn, omissionsIn,
-  columnsWord, omittedWord, refusedWord, placeWord, columnsPart, omissionsPart, planIn, refusalLine}
+use Rattle.listing.specs.Lines.{
+  Laid,
+  numberThen,
+  letterOf,
+  Letter,
+  masterOf,
+  lineFront,
+  lineSizes,
+  lineAmounts,
+  lineIn,
+  linesIn,
+  omissionIn,
+  omissionsIn,
+  columnsWord,
+  omittedWord,
+  refusedWord,
+  placeWord,
+  columnsPart,
+  omissionsPart,
+  planIn,
+  refusalLine,
+}
 use Rattle.listing.specs.LaidLaws.{laid-none, laid-then, laid-as, laid-most}
 
 -- ---- the pieces of a line
@@ -41,13 +61,13 @@ module _ (m : ℕ) {at r : ℕ} {d e : List ℕ} where
   master-some h a = laid-as a (eq-no _ _ _ _ h refl)
 
 pub front-laid : (w : List ℕ) (k : ℕ) {at m t p q r : ℕ} {d₀ d₁ d₂ d₃ : List ℕ} → t ≡ getD w (8 * k + 4) 0 → m ≡ letterOf t
-  → Laid at (numberThen k 32) 21 d₀ d₁ p → Laid p (m ∷ []) 1 d₁ d₂ q → Laid q (32 ∷ []) 1 d₂ d₃ r → Laid at (lineFront w k) 23 d₀ d₃ r
+    → Laid at (numberThen k 32) 21 d₀ d₁ p → Laid p (m ∷ []) 1 d₁ d₂ q → Laid q (32 ∷ []) 1 d₂ d₃ r → Laid at (lineFront w k) 23 d₀ d₃ r
 unfolding lineFront
 front-laid w k e f a b c = laid-as (laid-then (laid-then a b) c) (rw (f, e))
 
 module _ (s w : List ℕ) (k : ℕ) {cn cg : ℕ} (i : cn ≡ getD w (8 * k) 0) (j : cg ≡ getD w (8 * k + 1) 0) where
   pub sizes-laid : {at b v p r : ℕ} {d₀ d₁ d₂ : List ℕ} → b ≡ channelBytes s cn → v ≡ one (keepsInval s cg cn)
-    → Laid at (numberThen b 32) 21 d₀ d₁ p → Laid p (numberThen v 32) 21 d₁ d₂ r → Laid at (lineSizes s w k) 42 d₀ d₂ r
+      → Laid at (numberThen b 32) 21 d₀ d₁ p → Laid p (numberThen v 32) 21 d₁ d₂ r → Laid at (lineSizes s w k) 42 d₀ d₂ r
   unfolding lineSizes
   sizes-laid e f a b = laid-as (laid-then a b) (rw (e, f, i, j))
 
@@ -57,19 +77,19 @@ module _ (s w : List ℕ) (k : ℕ) {cn cg : ℕ} (i : cn ≡ getD w (8 * k) 0) 
     payload-fits h = rw (u, i, j, l) h
 
     pub amounts-laid : (size : ℕ) {at b p q r : ℕ} {d₀ d₁ d₂ d₃ : List ℕ} → b ≡ blockCount size y n
-      → Laid at (numberThen n 32) 21 d₀ d₁ p → Laid p (numberThen b 32) 21 d₁ d₂ q → Laid q (numberThen (y * n) 32) 21 d₂ d₃ r
-      → Laid at (lineAmounts s size w k) 63 d₀ d₃ r
+        → Laid at (numberThen n 32) 21 d₀ d₁ p → Laid p (numberThen b 32) 21 d₁ d₂ q → Laid q (numberThen (y * n) 32) 21 d₂ d₃ r
+        → Laid at (lineAmounts s size w k) 63 d₀ d₃ r
     unfolding lineAmounts blocksAt payloadAt widthAt
     amounts-laid size v a b c = laid-as (laid-then (laid-then a b) c) (rw (v, u, i, j, l))
 
 pub line-laid : (s : List ℕ) (size : ℕ) (w : List ℕ) (k : ℕ) {at m p q t u r : ℕ} {d₀ d₁ d₂ d₃ d₄ d₅ : List ℕ} → m ≡ getD w (8 * k + 5) 0
-  → Laid at (lineFront w k) 23 d₀ d₁ p → Laid p (lineSizes s w k) 42 d₁ d₂ q → Laid q (lineAmounts s size w k) 63 d₂ d₃ t
-  → Laid t (masterOf m) 20 d₃ d₄ u → Laid u (10 ∷ []) 1 d₄ d₅ r → Laid at (lineIn s size w k) 149 d₀ d₅ r
+    → Laid at (lineFront w k) 23 d₀ d₁ p → Laid p (lineSizes s w k) 42 d₁ d₂ q → Laid q (lineAmounts s size w k) 63 d₂ d₃ t
+    → Laid t (masterOf m) 20 d₃ d₄ u → Laid u (10 ∷ []) 1 d₄ d₅ r → Laid at (lineIn s size w k) 149 d₀ d₅ r
 unfolding lineIn
 line-laid s size w k e a b c f g = laid-as (laid-then (laid-then (laid-then (laid-then a b) c) f) g) (rw e)
 
 pub omission-laid : (w : List ℕ) (i : ℕ) {at a b p r : ℕ} {d₀ d₁ d₂ : List ℕ} → a ≡ getD w i 0 → b ≡ getD w (i + 1) 0
-  → Laid at (numberThen a 32) 21 d₀ d₁ p → Laid p (numberThen b 10) 21 d₁ d₂ r → Laid at (omissionIn w i) 42 d₀ d₂ r
+    → Laid at (numberThen a 32) 21 d₀ d₁ p → Laid p (numberThen b 10) 21 d₁ d₂ r → Laid at (omissionIn w i) 42 d₀ d₂ r
 unfolding omissionIn
 omission-laid w i e f x y = laid-as (laid-then x y) (rw (e, f))
 
@@ -83,7 +103,7 @@ module _ (s : List ℕ) (size : ℕ) (w : List ℕ) where
       let f : suc n + 1 ≡ suc (n + 1) = omega arith in
       let rest : linesIn s size w (k + 1) (n + 1) ≡ linesIn s size w (k + 1) n ++ lineIn s size w (k + suc n) = rw e at (lines-more (k + 1) n) in
       rw f (ap (λ (l : List ℕ). lineIn s size w k ++ l) rest
-        ∙ sym (append-assoc (lineIn s size w k) (linesIn s size w (k + 1) n) (lineIn s size w (k + suc n))))
+      ∙ sym (append-assoc (lineIn s size w k) (linesIn s size w (k + 1) n) (lineIn s size w (k + suc n))))
 
   pub lines-begin : {at : ℕ} {d : List ℕ} → Laid at (linesIn s size w 0 0) (149 * 0) d d at
   unfolding linesIn
@@ -106,7 +126,7 @@ module _ (w : List ℕ) where
       let f : suc n + 1 ≡ suc (n + 1) = omega arith in
       let rest : omissionsIn w (i + 2) (n + 1) ≡ omissionsIn w (i + 2) n ++ omissionIn w (i + 2 * suc n) = rw e at (omissions-more (i + 2) n) in
       rw f (ap (λ (l : List ℕ). omissionIn w i ++ l) rest
-        ∙ sym (append-assoc (omissionIn w i) (omissionsIn w (i + 2) n) (omissionIn w (i + 2 * suc n))))
+      ∙ sym (append-assoc (omissionIn w i) (omissionsIn w (i + 2) n) (omissionIn w (i + 2 * suc n))))
 
   pub omissions-begin : {at : ℕ} {d : List ℕ} → Laid at (omissionsIn w 4096 0) (42 * 0) d d at
   unfolding omissionsIn
@@ -121,22 +141,22 @@ module _ (w : List ℕ) where
 
 -- ---- the whole
 pub columns-laid : (s : List ℕ) (size : ℕ) (w : List ℕ) (n : ℕ) {at p q r : ℕ} {d₀ d₁ d₂ d₃ : List ℕ} → Laid at columnsWord 8 d₀ d₁ p
-  → Laid p (numberThen n 10) 21 d₁ d₂ q → Laid q (linesIn s size w 0 n) (149 * n) d₂ d₃ r → Laid at (columnsPart s size w n) (29 + 149 * n) d₀ d₃ r
+    → Laid p (numberThen n 10) 21 d₁ d₂ q → Laid q (linesIn s size w 0 n) (149 * n) d₂ d₃ r → Laid at (columnsPart s size w n) (29 + 149 * n) d₀ d₃ r
 unfolding columnsPart
 columns-laid s size w n a b c = laid-then (laid-then a b) c
 
 pub omissions-laid : (w : List ℕ) (n : ℕ) {at p q r : ℕ} {d₀ d₁ d₂ d₃ : List ℕ} → Laid at omittedWord 8 d₀ d₁ p
-  → Laid p (numberThen n 10) 21 d₁ d₂ q → Laid q (omissionsIn w 4096 n) (42 * n) d₂ d₃ r → Laid at (omissionsPart w n) (29 + 42 * n) d₀ d₃ r
+    → Laid p (numberThen n 10) 21 d₁ d₂ q → Laid q (omissionsIn w 4096 n) (42 * n) d₂ d₃ r → Laid at (omissionsPart w n) (29 + 42 * n) d₀ d₃ r
 unfolding omissionsPart
 omissions-laid w n a b c = laid-then (laid-then a b) c
 
 pub plan-put : (s : List ℕ) (size : ℕ) (w : List ℕ) (n m : ℕ) {at p r : ℕ} {d₀ d₁ d₂ : List ℕ} → n ≤ 512 → m ≤ 1024
-  → Laid at (columnsPart s size w n) (29 + 149 * n) d₀ d₁ p → Laid p (omissionsPart w m) (29 + 42 * m) d₁ d₂ r
-  → Laid at (planIn s size w n m) 119354 d₀ d₂ r
+    → Laid at (columnsPart s size w n) (29 + 149 * n) d₀ d₁ p → Laid p (omissionsPart w m) (29 + 42 * m) d₁ d₂ r
+    → Laid at (planIn s size w n m) 119354 d₀ d₂ r
 unfolding planIn
 plan-put s size w n m h l a b = laid-most (laid-then a b) (omega arith)
 
 pub refusal-laid : (number place : ℕ) {at p q t r : ℕ} {d₀ d₁ d₂ d₃ d₄ : List ℕ} → Laid at refusedWord 8 d₀ d₁ p → Laid p (decimal number) 20 d₁ d₂ q
-  → Laid q placeWord 8 d₂ d₃ t → Laid t (numberThen place 10) 21 d₃ d₄ r → Laid at (refusalLine number place) 57 d₀ d₄ r
+    → Laid q placeWord 8 d₂ d₃ t → Laid t (numberThen place 10) 21 d₃ d₄ r → Laid at (refusalLine number place) 57 d₀ d₄ r
 unfolding refusalLine
 refusal-laid number place a b c e = laid-then (laid-then (laid-then a b) c) e

@@ -40,12 +40,12 @@ module _ (s : List ℕ) (size : ℕ) (w : List ℕ) (n m bytes out list : ℕ) {
   answer-output h a = laid-as (laid-most a (omega arith)) (lt-yes _ _ _ _ h refl)
 
   pub answer-list : bytes ≤ out → list < 2 * m + 1 → Laid 0 (refusalLine 21 (2 * m + 1)) 57 d e r
-    → Laid 0 (answerIn s size w n m bytes out list) 119354 d e r
+      → Laid 0 (answerIn s size w n m bytes out list) 119354 d e r
   unfolding answerIn
   answer-list h l a = laid-as (laid-most a (omega arith)) (lt-no _ _ _ _ h (lt-yes _ _ _ _ l refl))
 
   pub answer-plan : bytes ≤ out → 2 * m + 1 ≤ list → Laid 0 (planIn s size w n m) 119354 d e r
-    → Laid 0 (answerIn s size w n m bytes out list) 119354 d e r
+      → Laid 0 (answerIn s size w n m bytes out list) 119354 d e r
   unfolding answerIn
   answer-plan h l a = laid-as a (lt-no _ _ _ _ h (lt-no _ _ _ _ l refl))
 
@@ -74,20 +74,20 @@ at-choice x m n a b = go (ltb m n)
     go false = refl
 
 apart : (x : Args) (d : Decided) (out bytes list words : ℕ)
-  → ifLt out bytes (refusalLine 20 bytes) (ifLt list words (refusalLine 21 words) (planLines (x .image) (x .blockSize) (d .planned)))
+    → ifLt out bytes (refusalLine 20 bytes) (ifLt list words (refusalLine 21 words) (planLines (x .image) (x .blockSize) (d .planned)))
     ≡ listing x (ifLt out bytes (refused 20 bytes) (ifLt list words (refused 21 words) (ok d)))
 apart x d out bytes list words =
     rw (refusal-listed x 20 bytes, refusal-listed x 21 words)
     (ap (λ (l : List ℕ). ifLt out bytes (listing x (refused 20 bytes)) l) (at-choice x list words (refused 21 words) (ok d))
-      ∙ at-choice x out bytes (refused 20 bytes) (ifLt list words (refused 21 words) (ok d)))
+    ∙ at-choice x out bytes (refused 20 bytes) (ifLt list words (refused 21 words) (ok d)))
 
 -- ---- what was decided stands in the words
 pub decides-done : {x : Args} {a b c d : List ℕ} {r : Decision} {a' b' c' d' : List ℕ} {i f k o : ℕ} {n : Numbers}
-  → Decides x a b c d r a' b' c' d' → r ≡ Done i f k o n → DecidedIn x i f k o n a b c d a' b' c' d'
+    → Decides x a b c d r a' b' c' d' → r ≡ Done i f k o n → DecidedIn x i f k o n a b c d a' b' c' d'
 decides-done {x} {a} {b} {c} {d} {a' = a'} {b' = b'} {c' = c'} {d' = d'} h e = subst (λ (r : Decision). Decides x a b c d r a' b' c' d') e h
 
 pub decides-refused : {x : Args} {a b c d : List ℕ} {r : Decision} {a' b' c' d' : List ℕ} {n p : ℕ}
-  → Decides x a b c d r a' b' c' d' → r ≡ Refused n p → RefusedIn x n p (four a b c d) (four a' b' c' d')
+    → Decides x a b c d r a' b' c' d' → r ≡ Refused n p → RefusedIn x n p (four a b c d) (four a' b' c' d')
 decides-refused {x} {a} {b} {c} {d} {a' = a'} {b' = b'} {c' = c'} {d' = d'} h e = subst (λ (r : Decision). Decides x a b c d r a' b' c' d') e h
 
 module _ {x : Args} {i f k o : ℕ} {n : Numbers} {a b c d a' b' c' d' : List ℕ} (t : DecidedIn x i f k o n a b c d a' b' c' d') where
@@ -108,7 +108,7 @@ module _ {x : Args} {i f k o : ℕ} {n : Numbers} {a b c d a' b' c' d' : List �
   done-counts =
       let l = t .longC in
       rw (t .inColumns, t .columns) (laid-counts (x .image) (x .blockSize) (length (t .source .fragments)) (t .told .planned) c
-        (known .fewColumns) (omega arith) bounded)
+      (known .fewColumns) (omega arith) bounded)
 
   -- its lines are those of the answer
   pub done-answer : (out list : ℕ) → answerIn (x .image) (x .blockSize) c' k o (n .«file_size») out list ≡ listing x (answer x out list)
@@ -141,9 +141,9 @@ module _ {x : Args} {i f k o : ℕ} {n : Numbers} {a b c d a' b' c' d' : List �
   lent-fine = then-fine (lentIn x) _ (t .is) .0
 
   pub done-listed : (out list : ℕ) {lines lines' : List ℕ} {r bytes : ℕ} {a'' b'' c'' d'' : List ℕ} → bytes ≡ n .«file_size»
-    → Laid 0 (answerIn (x .image) (x .blockSize) c' k o bytes out list) 119354 lines lines' r
-    → a'' ≡ replicate (length a') 0 → b'' ≡ replicate (length b') 0 → c'' ≡ replicate (length c') 0 → d'' ≡ replicate (length d') 0
-    → Listed x out list (four a b c d) lines r lines' (four a'' b'' c'' d'')
+      → Laid 0 (answerIn (x .image) (x .blockSize) c' k o bytes out list) 119354 lines lines' r
+      → a'' ≡ replicate (length a') 0 → b'' ≡ replicate (length b') 0 → c'' ≡ replicate (length c') 0 → d'' ≡ replicate (length d') 0
+      → Listed x out list (four a b c d) lines r lines' (four a'' b'' c'' d'')
   done-listed out list {a'' = a''} {b'' = b''} {c'' = c''} {d'' = d''} q z e f g h =
       let w = work-fine a b c d (t .longA) (t .longB) (t .longC) (t .longD) in
       let l = done-answer out list in
@@ -153,7 +153,8 @@ module _ {x : Args} {i f k o : ℕ} {n : Numbers} {a b c d a' b' c' d' : List �
         is = rw w (y .is);
         long = rw w (rw zero-add at (y .past));
         small = omega (arith, y .past, y .small);
-        words = rw (w, lent-fine) zs }
+        words = rw (w, lent-fine) zs;
+      }
 
 -- ---- a refusal before anything was decided
 refused-answer : (x : Args) (out list : ℕ) (v : Verdict) {n p : ℕ} → andThen v (λ _. decided x) ≡ refused n p → andThen v (λ _. answer x out list) ≡ refused n p
@@ -162,7 +163,7 @@ refused-answer x out list (refused m q) e = cc
 refused-answer x out list (ok z) e = rw e
 
 pub refused-listed : {x : Args} {n p : ℕ} {ws ws' : List (List ℕ)} (out list : ℕ) {lines lines' : List ℕ} {r : ℕ} → RefusedIn x n p ws ws'
-  → Laid 0 (refusalLine n p) 57 lines lines' r → Listed x out list ws lines r lines' ws'
+    → Laid 0 (refusalLine n p) 57 lines lines' r → Listed x out list ws lines r lines' ws'
 refused-listed {x} {n} {p} {ws} out list t z =
     let e = refused-answer x out list (workIn ws) (t .is) in
     let y = rw (refusal-listed x n p) at z in
@@ -170,4 +171,5 @@ refused-listed {x} {n} {p} {ws} out list t z =
       is = rw e (y .is);
       long = rw e (y .past ∙ zero-add _);
       small = omega (arith, z .past, z .small);
-      words = t .words }
+      words = t .words;
+    }

@@ -21,8 +21,26 @@ use Rattle.result.specs.Guarantee.{here, there}
 use Rattle.result.specs.Listing.{decimal, columnLine, columnLines, omissionLines, planLines, listing}
 use Rattle.result.specs.Result.{Args}
 use Rattle.listing.specs.LaidLaws.{laid-as}
-use Rattle.listing.specs.Lines.{Laid, numberThen, letterOf, masterOf, lineFront, lineSizes, lineAmounts, lineIn, linesIn, omissionIn, omissionsIn,
-  columnsWord, omittedWord, columnsPart, omissionsPart, planIn, refusalLine, AllCount}
+use Rattle.listing.specs.Lines.{
+  Laid,
+  numberThen,
+  letterOf,
+  masterOf,
+  lineFront,
+  lineSizes,
+  lineAmounts,
+  lineIn,
+  linesIn,
+  omissionIn,
+  omissionsIn,
+  columnsWord,
+  omittedWord,
+  columnsPart,
+  omissionsPart,
+  planIn,
+  refusalLine,
+  AllCount,
+}
 
 -- ---- the words of column k
 record Reads (w : List ℕ) (k : ℕ) (c : Column) : Type 0 where
@@ -40,7 +58,8 @@ stand-reads w n k c cs h =
       group = h .at 1 (omega arith);
       records = h .at 3 (omega arith);
       isTime = h .at 4 (omega arith);
-      master = h .at 5 (omega arith) }
+      master = h .at 5 (omega arith);
+    }
 
 letter-time : letterOf 1 ≡ 116
 unfolding letterOf
@@ -89,7 +108,7 @@ lines-of s size w n k (c ∷ cs) h =
     rw (line-of s size (stand-reads w n k c cs h), lines-of s size w (n + sizeOfSignal (c .signalOf)) (k + 1) cs (stand-rest w n k c cs h))
 
 pub omissions-of : (w : List ℕ) (i : ℕ) (os : List Omission) → ((j : ℕ) → j < 2 * length os → getD w (i + j) 0 ≡ getD (omissionPairs os) j 0)
-  → omissionsIn w i (length os) ≡ omissionLines os
+    → omissionsIn w i (length os) ≡ omissionLines os
 unfolding omissionsIn omissionIn numberThen omissionPairs omissionLines
 omissions-of w i [] h = refl
 omissions-of w i (o ∷ os) h =
@@ -121,10 +140,10 @@ module _ (n : ℕ) (p : Plan) (w : List ℕ) (few : length (p .columns) ≤ 512)
   plan-listed s size =
       rw (lines-of s size (laidPlan n p w) n 0 (p .columns) (laid-stand n p w few (omega arith)), omissions-of (laidPlan n p w) 4096 (p .omissions) laid-pairs)
       (join columnsWord (decimal (length (p .columns))) (10 ∷ []) (columnLines s size 0 (p .columns))
-        omittedWord (decimal (length (p .omissions))) (10 ∷ []) (omissionLines (p .omissions)))
+      omittedWord (decimal (length (p .omissions))) (10 ∷ []) (omissionLines (p .omissions)))
 
   pub plan-laid : (s : List ℕ) (size : ℕ) {at most r : ℕ} {d e : List ℕ}
-    → Laid at (planIn s size (laidPlan n p w) (length (p .columns)) (length (p .omissions))) most d e r → Laid at (planLines s size p) most d e r
+      → Laid at (planIn s size (laidPlan n p w) (length (p .columns)) (length (p .omissions))) most d e r → Laid at (planLines s size p) most d e r
   plan-laid s size a = laid-as a (plan-listed s size)
 
 -- ---- bounds of columns are bounds of their words
@@ -141,7 +160,7 @@ counts-of s size w n cs h b = record { each = λ k l. let e : 0 + k ≡ k = omeg
         rw e (go (n + sizeOfSignal (c .signalOf)) (i + 1) cs k (stand-rest w n i c cs h) (record { each = λ x j. b .each x (there j) }) (omega arith))
 
 pub laid-counts : (s : List ℕ) (size n : ℕ) (p : Plan) (w : List ℕ) → length (p .columns) ≤ 512 → 4096 ≤ length w → AllBounded s size (p .columns)
-  → AllCount s (laidPlan n p w) (length (p .columns))
+    → AllCount s (laidPlan n p w) (length (p .columns))
 laid-counts s size n p w few long b = counts-of s size (laidPlan n p w) n (p .columns) (laid-stand n p w few long) b
 
 -- ---- a refusal

@@ -1,7 +1,13 @@
 // The lines of columns and omissions, out of the words in which planning keeps them, and the line of a refusal.
-use channels::{channel_bytes, keeps_inval, width_of, block_count};
+use crate::text::put_byte;
+use crate::text::put_decimal;
+use crate::text::put_number;
+use crate::text::put_text;
+use channels::block_count;
+use channels::channel_bytes;
+use channels::keeps_inval;
+use channels::width_of;
 use placing::columns::word;
-use crate::text::{put_byte, put_text, put_decimal, put_number};
 ghost use mathlib.Core.Path.{_≡_};
 ghost use Prim.Native.Nat.{_+_, _*_, _≤_, _<_};
 ghost use Rattle.placing.specs.InWords.{payloadAt};
@@ -55,7 +61,14 @@ fn put_sizes(lines: &mut [u8], at: usize, image: &[u8], columns: &[u64], k: u64)
 }
 
 // Its records, data blocks and payload bytes.
-fn put_amounts(lines: &mut [u8], at: usize, image: &[u8], size: u64, columns: &[u64], k: u64) -> usize
+fn put_amounts(
+    lines: &mut [u8],
+    at: usize,
+    image: &[u8],
+    size: u64,
+    columns: &[u64],
+    k: u64,
+) -> usize
     requires { ⌜ (at ≤ 1125899906842624) × (k ≤ 512) × (payloadAt (now image) (now columns) (8 * k) < 18446744073709551616) ⌝ }
     ensures { λ r. ⌜ Laid at (lineAmounts (now (image .entry)) size (now (columns .entry)) k) 63 (now (lines .entry)) (now (lines .exit)) r ⌝ }
 {
@@ -82,7 +95,14 @@ fn put_master(lines: &mut [u8], at: usize, master: u64) -> usize
 }
 
 // The line of column k.
-pub(crate) fn put_column_line(lines: &mut [u8], at: usize, image: &[u8], size: u64, columns: &[u64], k: u64) -> usize
+pub(crate) fn put_column_line(
+    lines: &mut [u8],
+    at: usize,
+    image: &[u8],
+    size: u64,
+    columns: &[u64],
+    k: u64,
+) -> usize
     requires { ⌜ (at ≤ 281474976710656) × (k ≤ 512) × (payloadAt (now image) (now columns) (8 * k) < 18446744073709551616) ⌝ }
     ensures { λ r. ⌜ Laid at (lineIn (now (image .entry)) size (now (columns .entry)) k) 149 (now (lines .entry)) (now (lines .exit)) r ⌝ }
 {
@@ -95,7 +115,14 @@ pub(crate) fn put_column_line(lines: &mut [u8], at: usize, image: &[u8], size: u
 }
 
 // The lines of n columns.
-pub(crate) fn put_column_lines(lines: &mut [u8], at: usize, image: &[u8], size: u64, columns: &[u64], n: u64) -> usize
+pub(crate) fn put_column_lines(
+    lines: &mut [u8],
+    at: usize,
+    image: &[u8],
+    size: u64,
+    columns: &[u64],
+    n: u64,
+) -> usize
     requires { ⌜ (at ≤ 17592186044416) × (n ≤ 512) × AllCount (now image) (now columns) n ⌝ }
     ensures { λ r. ⌜ Laid at (linesIn (now (image .entry)) size (now (columns .entry)) 0 n) (149 * n) (now (lines .entry)) (now (lines .exit)) r ⌝ }
 {
@@ -134,7 +161,14 @@ pub(crate) fn put_omission_lines(lines: &mut [u8], at: usize, columns: &[u64], n
 }
 
 // `columns`, their number, and their lines.
-fn put_columns(lines: &mut [u8], at: usize, image: &[u8], size: u64, columns: &[u64], n: u64) -> usize
+fn put_columns(
+    lines: &mut [u8],
+    at: usize,
+    image: &[u8],
+    size: u64,
+    columns: &[u64],
+    n: u64,
+) -> usize
     requires { ⌜ (at ≤ 2199023255552) × (n ≤ 512) × AllCount (now image) (now columns) n ⌝ }
     ensures { λ r. ⌜ Laid at (columnsPart (now (image .entry)) size (now (columns .entry)) n) (29 + 149 * n) (now (lines .entry)) (now (lines .exit)) r ⌝ }
 {
@@ -154,7 +188,15 @@ fn put_omissions(lines: &mut [u8], at: usize, columns: &[u64], n: u64) -> usize
 }
 
 // The listing of a plan of n columns and m omissions that stands in words.
-pub(crate) fn put_plan_lines(lines: &mut [u8], at: usize, image: &[u8], size: u64, columns: &[u64], n: u64, m: u64) -> usize
+pub(crate) fn put_plan_lines(
+    lines: &mut [u8],
+    at: usize,
+    image: &[u8],
+    size: u64,
+    columns: &[u64],
+    n: u64,
+    m: u64,
+) -> usize
     requires { ⌜ (at ≤ 1099511627776) × (n ≤ 512) × (m ≤ 1024) × AllCount (now image) (now columns) n ⌝ }
     ensures { λ r. ⌜ Laid at (planIn (now (image .entry)) size (now (columns .entry)) n m) 119354 (now (lines .entry)) (now (lines .exit)) r ⌝ }
 {

@@ -1,13 +1,26 @@
 // The listing of a recording: the columns and omissions that its conversion plans, or its refusal.
-use placing::decide::{Decision, decide, clear};
-use crate::lines::{put_plan_lines, put_refusal};
+use crate::lines::put_plan_lines;
+use crate::lines::put_refusal;
+use placing::decide::Decision;
+use placing::decide::decide;
+use reading::recording::clear;
 ghost use Prim.Native.Nat.{_≤_};
 ghost use Rattle.placing.specs.Decision.{untimed, four};
 ghost use Rattle.listing.specs.Lines.{Laid, AllCount};
 ghost use Rattle.listing.specs.Listed.{answerIn, Listed};
 
 // 20 for an output shorter than the file, 21 for a list too short for m omissions, else the plan of n columns and m omissions that stands in words.
-fn put_answer(lines: &mut [u8], image: &[u8], size: u64, columns: &[u64], n: u64, m: u64, bytes: u64, out: u64, list_words: u64) -> usize
+fn put_answer(
+    lines: &mut [u8],
+    image: &[u8],
+    size: u64,
+    columns: &[u64],
+    n: u64,
+    m: u64,
+    bytes: u64,
+    out: u64,
+    list_words: u64,
+) -> usize
     requires { ⌜ (n ≤ 512) × (m ≤ 1024) × AllCount (now image) (now columns) n ⌝ }
     ensures { λ r. ⌜ Laid 0 (answerIn (now (image .entry)) size (now (columns .entry)) n m bytes out «list_words») 119354
         (now (lines .entry)) (now (lines .exit)) r ⌝ }
@@ -24,8 +37,17 @@ fn put_answer(lines: &mut [u8], image: &[u8], size: u64, columns: &[u64], n: u64
 
 // The listing for an output of so many bytes and a list of so many words, and its length. The four work slices hold 8,192 words each.
 pub fn list(
-    lines: &mut [u8], image: &[u8], size: u64, ident: &[u8], text: &[u8], out: u64, list_words: u64,
-    source: &mut [u64], fragments: &mut [u64], columns: &mut [u64], copies: &mut [u64],
+    lines: &mut [u8],
+    image: &[u8],
+    size: u64,
+    ident: &[u8],
+    text: &[u8],
+    out: u64,
+    list_words: u64,
+    source: &mut [u64],
+    fragments: &mut [u64],
+    columns: &mut [u64],
+    copies: &mut [u64],
 ) -> usize
     ensures { λ r. ⌜ Listed (untimed (now (image .entry)) size (now (ident .entry)) (now (text .entry))) out «list_words»
         (four (now (source .entry)) (now (fragments .entry)) (now (columns .entry)) (now (copies .entry))) (now (lines .entry))
@@ -34,8 +56,24 @@ pub fn list(
     let decision = decide(image, size, ident, text, source, fragments, columns, copies);
     match decision {
         Decision::Refused { number, place } => put_refusal(lines, 0, number, place),
-        Decision::Done { items: _, fragments: _, columns: n, omissions, numbers } => {
-            let end = put_answer(lines, image, size, columns, n, omissions, numbers.file_size, out, list_words);
+        Decision::Done {
+            items: _,
+            fragments: _,
+            columns: n,
+            omissions,
+            numbers,
+        } => {
+            let end = put_answer(
+                lines,
+                image,
+                size,
+                columns,
+                n,
+                omissions,
+                numbers.file_size,
+                out,
+                list_words,
+            );
             clear(source);
             clear(fragments);
             clear(columns);

@@ -1,5 +1,6 @@
 // Texts and decimal numbers, laid over a lent slice from an index on; each answers the index past what it wrote.
-use puts::{put_u8, copy};
+use puts::copy;
+use puts::put_u8;
 ghost use mathlib.Core.List.{[], _∷_};
 ghost use Prim.Native.Nat.{_+_, _≤_, _<_};
 ghost use lib.ListN.{length};

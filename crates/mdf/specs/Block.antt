@@ -9,24 +9,34 @@ use Rattle.base.specs.Checked.{Checked, ok, refused, andThen, Verdict, fine}
 -- the kinds, as the 32-bit number of the four bytes `##` and two letters
 abbrev pub kindHD : ℕ
 kindHD = 1145578275
+
 abbrev pub kindDG : ℕ
 kindDG = 1195647779
+
 abbrev pub kindCG : ℕ
 kindCG = 1195582243
+
 abbrev pub kindCN : ℕ
 kindCN = 1313022755
+
 abbrev pub kindDT : ℕ
 kindDT = 1413751587
+
 abbrev pub kindDV : ℕ
 kindDV = 1447306019
+
 abbrev pub kindDL : ℕ
 kindDL = 1279533859
+
 abbrev pub kindHL : ℕ
 kindHL = 1279796003
+
 abbrev pub kindSD : ℕ
 kindSD = 1146299171
+
 abbrev pub kindTX : ℕ
 kindTX = 1481909027
+
 abbrev pub kindMD : ℕ
 kindMD = 1145905955
 
@@ -82,10 +92,13 @@ pub record Wanted : Type 0 where
 -- "10: not the HD, DG, CG or CN wanted; links under 6, 4, 6, 8; data under 0, 1, 32, 72 bytes"
 abbrev pub HD : Wanted
 HD = record { kind = kindHD; links = 6; bytes = 0 }
+
 abbrev pub DG : Wanted
 DG = record { kind = kindDG; links = 4; bytes = 1 }
+
 abbrev pub CG : Wanted
 CG = record { kind = kindCG; links = 6; bytes = 32 }
+
 abbrev pub CN : Wanted
 CN = record { kind = kindCN; links = 8; bytes = 72 }
 

@@ -96,11 +96,11 @@ unfoldable pub chainFrom : Chain → Limits → ℕ → List ℕ → ℕ → Lis
 chainFrom c l zero s n seen a fs = stopped 19 a fs
 chainFrom c l (suc turns) s n seen a fs =
     let dl = onPassed (listIn l s seen a) fs
-          (onFound (listed c l s n (linksAt s a - 1) (a + 32) fs) (λ gs. chainFrom c l turns s n (a ∷ seen) (firstLink s a) gs)) in
+    (onFound (listed c l s n (linksAt s a - 1) (a + 32) fs) (λ gs. chainFrom c l turns s n (a ∷ seen) (firstLink s a) gs)) in
     let hl = onPassed (listIn l s seen a) fs (chainFrom c l turns s n (a ∷ seen) (firstLink s a) fs) in
     let node = onLeaf (leafOf c (kindAt s a))
-          (ifEq (kindAt s a) kindDL dl (ifEq (kindAt s a) kindHL hl (stopped 12 a fs)))
-          (λ k. added l n a (fragment s a k) fs) in
+    (ifEq (kindAt s a) kindDL dl (ifEq (kindAt s a) kindHL hl (stopped 12 a fs)))
+    (λ k. added l n a (fragment s a k) fs) in
     let unseen = onPassed (headerIn s a) fs node in
     ifEq a 0 (found fs) (pick (isIn a seen) (stopped 11 a fs) unseen)
 

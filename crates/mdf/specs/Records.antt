@@ -165,7 +165,7 @@ unfoldable pub framesFrom : ℕ → List ℕ → ℕ → List ℕ → List Fragm
 framesFrom zero s n gs fs d p done = ok done
 framesFrom (suc turns) s n gs fs d p done =
     let here = onFramed (frameAt s n gs d) (refused 15 (placeOf fs p))
-          (λ r. framesFrom turns s n gs fs (drop (r .size) d) (p + r .size) (done ++ (r ∷ []))) in
+    (λ r. framesFrom turns s n gs fs (drop (r .size) d) (p + r .size) (done ++ (r ∷ []))) in
     ifEq (length d) 0 (ok done) here
 
 -- all records; each takes at least its id's bytes, so there are at most as many as bytes

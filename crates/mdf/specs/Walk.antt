@@ -58,8 +58,10 @@ ownCN (cn a) = 1
 
 abbrev pub levelDG : Level
 levelDG = record { wanted = DG; entry = λ a st. dg a (length (st .fragments)); own = ownDG }
+
 abbrev pub levelCG : Level
 levelCG = record { wanted = CG; entry = λ a st. cg a; own = ownCG }
+
 abbrev pub levelCN : Level
 levelCN = record { wanted = CN; entry = λ a st. cn a; own = ownCN }
 

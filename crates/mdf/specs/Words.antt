@@ -48,10 +48,13 @@ groupWords (cn a ∷ is) = groupWords is
 -- where the marks, the groups and the counts begin; the addresses begin at 0
 abbrev pub marksAt : ℕ
 marksAt = 1536
+
 abbrev pub groupsAt : ℕ
 groupsAt = 3072
+
 abbrev pub countsAt : ℕ
 countsAt = 3584
+
 abbrev pub sourceWords : ℕ
 sourceWords = 4096
 

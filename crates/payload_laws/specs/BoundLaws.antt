@@ -55,11 +55,13 @@ payload-bound s c w = go (isNonempty s c) refl
   where
     wide : payloadSize s c ≡ width s (c .group .at) (c .channel) * c .group .records
     wide = refl
+
     some : isNonempty s c ≡ true → payloadSize s c ≤ sizeOf (c .group .dataGroup .fragments)
     some q =
         let a = mul-le-mul-right (c .group .records) (width-within s (c .group .at) (c .channel) (w .fit)) in
         let b = mul-comm (samples s (c .group .at) + invalBytes s (c .group .at)) (c .group .records) in
         omega (arith, w .read q .bytes (w .kept), wide)
+
     go : (t : Bool) → isNonempty s c ≡ t → payloadSize s c ≤ sizeOf (c .group .dataGroup .fragments)
     go true q = some q
     go false q = omega (arith, empty-none s c q)
@@ -86,14 +88,14 @@ full-bound s size c =
 
 -- an image of at most 4,294,967,296 bytes, and at most 1,024 fragments: at most 2^42 bytes
 pub fragments-small : (s : List ℕ) (fs : List Fragment) → rangesIn s fs ≡ fine → length s ≤ 4294967296 → length fs ≤ 1024
-  → sizeOf fs ≤ 4398046511104
+    → sizeOf fs ≤ 4398046511104
 fragments-small s fs e h k =
     let a = sizes-bound s fs e in
     let b : length fs * length s ≤ 1024 * 4294967296 = mul-le-mul k h in
     omega arith
 
 pub payload-small : (s : List ℕ) (c : Column) → Ready s c → length s ≤ 4294967296 → length (c .group .dataGroup .fragments) ≤ 1024
-  → payloadSize s c ≤ 4398046511104
+    → payloadSize s c ≤ 4398046511104
 payload-small s c w h k = go (isNonempty s c) refl
   where
     go : (t : Bool) → isNonempty s c ≡ t → payloadSize s c ≤ 4398046511104
@@ -102,18 +104,18 @@ payload-small s c w h k = go (isNonempty s c) refl
 
 -- a column's data blocks take less than 2^47 bytes
 pub data-small : (s : List ℕ) (size : ℕ) (c : Column) → Ready s c → length s ≤ 4294967296 → length (c .group .dataGroup .fragments) ≤ 1024
-  → 24 * columnBlocks s size c + payloadSize s c ≤ 109951162777600
+    → 24 * columnBlocks s size c + payloadSize s c ≤ 109951162777600
 data-small s size c w h k = omega (arith, payload-small s c w h k, blocks-bound s size c)
 
 pub end-small : (s : List ℕ) (size : ℕ) (c : Column) (a : ℕ) → Ready s c → length s ≤ 4294967296
-  → length (c .group .dataGroup .fragments) ≤ 1024
-  → blocksEnd s size c a < a + 109951162777608
+    → length (c .group .dataGroup .fragments) ≤ 1024
+    → blocksEnd s size c a < a + 109951162777608
 unfolding blocksEnd
 end-small s size c a w h k = omega (arith, data-small s size c w h k, align-near (a + (24 * columnBlocks s size c + payloadSize s c)))
 
 -- "19: a column (its CN) has over 4,294,967,295 blocks"
 pub blocks-small : (s : List ℕ) (size : ℕ) (cs : List Column) (c : Column) → blocksIn s size cs ≡ fine → In c cs
-  → columnBlocks s size c ≤ 4294967295
+    → columnBlocks s size c ≤ 4294967295
 unfolding blocksIn columnBlocks columnWidth
 blocks-small s size (b ∷ cs) c e here = lt-back _ _ _ _ e refused≢ok .0
 blocks-small s size (b ∷ cs) c e (there i) = blocks-small s size cs c (lt-back _ _ _ _ e refused≢ok .1) i
@@ -130,7 +132,7 @@ one-small s d g fs {ms} e =
     omega (arith, ap (λ (x : List ℕ). getD x 0 0) (ok-same (c .1)))
 
 several-small : (s : List ℕ) (d k g h : ℕ) (gs : List ℕ) (fs : List Fragment) {ms : List ℕ} → countGroups s d (g ∷ h ∷ gs) fs ≡ ok ms
-  → k < length (g ∷ h ∷ gs) → length s ≤ 4294967296 → length fs ≤ 1024 → getD ms k 0 < 18446744073709551616
+    → k < length (g ∷ h ∷ gs) → length s ≤ 4294967296 → length fs ≤ 1024 → getD ms k 0 < 18446744073709551616
 several-small s d k g h gs fs {ms} e l a b =
     let c = several-counts s d g h gs fs e in
     let w = unsorted-several s d (g ∷ h ∷ gs) fs (c .1) in
@@ -139,7 +141,7 @@ several-small s d k g h gs fs {ms} e l a b =
     omega (arith, fragments-small s fs (w .ranges) a b)
 
 counts-small : (s : List ℕ) (d k : ℕ) (gs : List ℕ) (fs : List Fragment) {ms : List ℕ} → countGroups s d gs fs ≡ ok ms
-  → k < length gs → length s ≤ 4294967296 → length fs ≤ 1024 → getD ms k 0 < 18446744073709551616
+    → k < length gs → length s ≤ 4294967296 → length fs ≤ 1024 → getD ms k 0 < 18446744073709551616
 unfolding countGroups
 counts-small s d k [] fs e l a b = absurd (omega arith)
 counts-small s d zero (g ∷ []) fs e l a b = one-small s d g fs e
@@ -147,8 +149,8 @@ counts-small s d (suc k) (g ∷ []) fs e l a b = absurd (omega arith)
 counts-small s d k (g ∷ h ∷ gs) fs e l a b = several-small s d k g h gs fs e l a b
 
 pub records-small : {s : List ℕ} {ds : List DataGroup} (g : SrcGroup) → Member s ds g → length s ≤ 4294967296
-  → length (g .dataGroup .fragments) ≤ 1024
-  → g .records < 18446744073709551616
+    → length (g .dataGroup .fragments) ≤ 1024
+    → g .records < 18446744073709551616
 records-small {s} g m a b =
     rw (m .records) at (counts-small s (g .dataGroup .at) (g .number) (addresses (g .dataGroup .groups)) (g .dataGroup .fragments)
-      (m .counted) (m .within) a b)
+    (m .counted) (m .within) a b)

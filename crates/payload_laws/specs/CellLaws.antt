@@ -41,7 +41,7 @@ unfolding width
 width-within s g c e = go (keepsInval s g c) refl (fits-within s g c e)
   where
     go : (t : Bool) → keepsInval s g c ≡ t → byteOffset s c + channelBytes s c ≤ samples s g
-      → channelBytes s c + pick (keepsInval s g c) 1 0 ≤ samples s g + invalBytes s g
+        → channelBytes s c + pick (keepsInval s g c) 1 0 ≤ samples s g + invalBytes s g
     go true q h = rw q (omega (arith, keeps-some s g c q))
     go false q h = rw q (omega arith)
 
@@ -55,7 +55,7 @@ length-cell s g c r h = rw (length-append, length-part (byteOffset s c) (channel
 
 -- the cells of whole records of a fitting channel
 pub length-cells : {rs : List (List ℕ)} (s : List ℕ) (g c : ℕ) → fits s g c ≡ true → Long (samples s g + invalBytes s g) rs
-  → length (cells s g c rs) ≡ width s g c * length rs
+    → length (cells s g c rs) ≡ width s g c * length rs
 unfolding cells
 length-cells s g c f none = rw mul-zero
 length-cells s g c f (next {r} {rs} e l) =

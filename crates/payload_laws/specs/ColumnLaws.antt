@@ -35,8 +35,8 @@ pub record Ready (s : List ℕ) (c : Column) : Type 0 where
   pub read : isNonempty s c ≡ true → Read s (c .group .at) (c .group .records) (c .group .dataGroup .fragments) (recordsOf s (c .group))
 
 pub ready : (s : List ℕ) (ds : List DataGroup) (cs : List Column) {ns : List ℕ} → counts s ds ≡ ok ns → allDataIn s cs ds ≡ fine
-  → (c : Column) → In c cs → In (c .group) (srcGroups ds ns) → fits s (c .group .at) (c .channel) ≡ true
-  → isStorage s (c .group .at) ≡ false → Ready s c
+    → (c : Column) → In c cs → In (c .group) (srcGroups ds ns) → fits s (c .group .at) (c .channel) ≡ true
+    → isStorage s (c .group .at) ≡ false → Ready s c
 ready s ds cs e w c i j f k = record { fit = f; kept = k; read = λ q. column-read s ds cs e w c i j q }
 
 -- ---- with and without blocks
@@ -52,7 +52,7 @@ unfolding isNonempty payloadSize columnWidth
 empty-none s c e = go (ltb 0 (width s (c .group .at) (c .channel))) refl e
   where
     go : (t : Bool) → ltb 0 (width s (c .group .at) (c .channel)) ≡ t → both t (ltb 0 (c .group .records)) ≡ false
-      → width s (c .group .at) (c .channel) * c .group .records ≡ 0
+        → width s (c .group .at) (c .channel) * c .group .records ≡ 0
     go true q f =
         let z : c .group .records ≡ 0 = omega (arith, ltb-false 0 (c .group .records) f) in
         rw z (mul-zero (width s (c .group .at) (c .channel)))
@@ -65,7 +65,7 @@ unfolding columnBlocks payloadSize
 empty-blocks s size c e = no-blocks size (columnWidth s c) (c .group .records) (empty-none s c e)
 
 pub nonempty-split : (s : List ℕ) (size : ℕ) (c : Column) → isNonempty s c ≡ true
-  → Split (perFull size (columnWidth s c) (c .group .records)) (columnBlocks s size c) (c .group .records)
+    → Split (perFull size (columnWidth s c) (c .group .records)) (columnBlocks s size c) (c .group .records)
 unfolding columnBlocks
 nonempty-split s size c e = let b = nonempty-some s c e in split size _ _ (b .0) (b .1)
 
@@ -89,7 +89,7 @@ module _ (s : List ℕ) (size : ℕ) (c : Column) (w : Ready s c) where
       let k : columnBlocks s size c * m ≡ x .full * m + m = rw (x .blocks) (suc-mul (x .full) m) in
       payloads-joined s (c .group .at) (c .channel) m (columnBlocks s size c) (recordsOf s (c .group))
       ∙ ap (cells s (c .group .at) (c .channel))
-        (take-all (columnBlocks s size c * m) (recordsOf s (c .group)) (omega (arith, w .read e .many, x .enough)))
+      (take-all (columnBlocks s size c * m) (recordsOf s (c .group)) (omega (arith, w .read e .many, x .enough)))
 
   some-bytes : isNonempty s c ≡ true → length (cells s (c .group .at) (c .channel) (recordsOf s (c .group))) ≡ payloadSize s c
   unfolding payloadSize columnWidth
@@ -102,7 +102,7 @@ module _ (s : List ℕ) (size : ℕ) (c : Column) (w : Ready s c) where
   column-joined = go (isNonempty s c) refl
     where
       go : (t : Bool) → isNonempty s c ≡ t
-        → together (columnPayloads s size c) ≡ pick (isNonempty s c) (cells s (c .group .at) (c .channel) (recordsOf s (c .group))) []
+          → together (columnPayloads s size c) ≡ pick (isNonempty s c) (cells s (c .group .at) (c .channel) (recordsOf s (c .group))) []
       go true q = some-joined q ∙ rw q
       go false q = rw (q, empty-payloads s size c q)
 
@@ -139,7 +139,7 @@ module _ (s : List ℕ) (size : ℕ) (c : Column) (w : Ready s c) where
   column-single k = go (isNonempty s c) refl
     where
       go : (t : Bool) → isNonempty s c ≡ t
-        → perFull size (columnWidth s c) (c .group .records) * columnWidth s c ≡ columnWidth s c * c .group .records
+          → perFull size (columnWidth s c) (c .group .records) * columnWidth s c ≡ columnWidth s c * c .group .records
       go true q =
           let x = nonempty-split s size c q in
           let z : x .full ≡ 0 = omega (arith, x .blocks) in
@@ -148,7 +148,7 @@ module _ (s : List ℕ) (size : ℕ) (c : Column) (w : Ready s c) where
 
   -- "the last block holds what is left": with blocks, all but one are full and the last is not empty
   pub column-left : isNonempty s c ≡ true → (full : ℕ) × (columnBlocks s size c ≡ suc full)
-    × (full * columnPayload s size c < payloadSize s c) × (payloadSize s c ≤ full * columnPayload s size c + columnPayload s size c)
+      × (full * columnPayload s size c < payloadSize s c) × (payloadSize s c ≤ full * columnPayload s size c + columnPayload s size c)
   unfolding columnPayload blockPayload payloadSize
   column-left e =
       let x = nonempty-split s size c e in
@@ -172,5 +172,5 @@ module _ (s : List ℕ) (size : ℕ) (c : Column) (w : Ready s c) where
 
   -- the DL's links are their addresses
   pub column-links : (kind a : ℕ)
-    → blockLinks (columnPayload s size c) (columnBlocks s size c) a ≡ words (places (payloadBlocks kind a (columnPayloads s size c)))
+      → blockLinks (columnPayload s size c) (columnBlocks s size c) a ≡ words (places (payloadBlocks kind a (columnPayloads s size c)))
   column-links kind a = rw (← column-count s size c) (links-places kind a column-even)

@@ -31,11 +31,11 @@ use Rattle.payload_laws.specs.FramedLaws.{counted-group, length-tallies,
 data Counted (s : List ℕ) : List DataGroup → List ℕ → Type 0 where
   none : Counted s [] []
   next : {d : DataGroup} {ds : List DataGroup} {ms ns : List ℕ} → countGroups s (d .at) (addresses (d .groups)) (d .fragments) ≡ ok ms
-    → Counted s ds ns → Counted s (d ∷ ds) (ms ++ ns)
+      → Counted s ds ns → Counted s (d ∷ ds) (ms ++ ns)
 
 -- the counts are those counted before and those of the DG left
 counted-from : (s : List ℕ) (ds : List DataGroup) (done : List ℕ) {ns : List ℕ} → countsFrom s ds done ≡ ok ns
-  → (ms : List ℕ) × (ns ≡ done ++ ms) × Counted s ds ms
+    → (ms : List ℕ) × (ns ≡ done ++ ms) × Counted s ds ms
 unfolding countsFrom
 counted-from s [] done e = ([], sym (ok-same e) ∙ sym (append-nil done), none)
 counted-from s (d ∷ ds) done {ns} e =
@@ -59,14 +59,14 @@ one-count s d g fs e =
 
 -- of several groups, what framing gives is counted
 pub several-counts : (s : List ℕ) (d g h : ℕ) (gs : List ℕ) (fs : List Fragment) {ms : List ℕ} → countGroups s d (g ∷ h ∷ gs) fs ≡ ok ms
-  → (rs : List Frame) × (unsortedFrames s d (g ∷ h ∷ gs) fs ≡ ok rs) × (tallies (length (g ∷ h ∷ gs)) 0 rs ≡ ms)
+    → (rs : List Frame) × (unsortedFrames s d (g ∷ h ∷ gs) fs ≡ ok rs) × (tallies (length (g ∷ h ∷ gs)) 0 rs ≡ ms)
 unfolding countGroups
 several-counts s d g h gs fs e =
     let a = then-ok (unsortedFrames s d (g ∷ h ∷ gs) fs) (λ rs. ok (tallies (length (g ∷ h ∷ gs)) 0 rs)) e in
     (a .0, a .1, ok-same (a .2))
 
 length-counts : (s : List ℕ) (d : ℕ) (gs : List ℕ) (fs : List Fragment) {ms : List ℕ} → countGroups s d gs fs ≡ ok ms
-  → length ms ≡ length gs
+    → length ms ≡ length gs
 unfolding countGroups
 length-counts s d [] fs e = ap length (sym (ok-same e))
 length-counts s d (g ∷ []) fs e = ap length (sym (one-count s d g fs e))
@@ -93,7 +93,7 @@ record Placed (d : DataGroup) (k : ℕ) (gs : List Group) (ms : List ℕ) (g : S
   records : getD ms place 0 ≡ g .records
 
 with-counts : (d : DataGroup) (k : ℕ) (gs : List Group) (ms ns : List ℕ) (g : SrcGroup) → length ms ≡ length gs
-  → In g (withCounts d k gs (ms ++ ns)) → Placed d k gs ms g
+    → In g (withCounts d k gs (ms ++ ns)) → Placed d k gs ms g
 unfolding withCounts addresses
 with-counts d k (h ∷ gs) [] ns g l i = absurd (omega arith)
 with-counts d k (h ∷ gs) (m ∷ ms) ns g l here =
@@ -103,27 +103,35 @@ with-counts d k (h ∷ gs) (m ∷ ms) ns g l (there i) =
     record { place = suc (p .place); same = p .same; number = omega arith; within = omega arith; address = p .address; records = p .records }
 
 placed-member : {s : List ℕ} {ds : List DataGroup} (d : DataGroup) (ms : List ℕ) (g : SrcGroup)
-  → countGroups s (d .at) (addresses (d .groups)) (d .fragments) ≡ ok ms → Placed d 0 (d .groups) ms g → Member s (d ∷ ds) g
+    → countGroups s (d .at) (addresses (d .groups)) (d .fragments) ≡ ok ms → Placed d 0 (d .groups) ms g → Member s (d ∷ ds) g
 placed-member {s} {ds} d ms g e p =
     let n : g .number ≡ p .place = omega arith in
     let f : In (g .dataGroup) (d ∷ ds) = subst (λ (x : DataGroup). In x (d ∷ ds)) (sym (p .same)) here in
     record {
-      listed = f; numbers = ms;
+      listed = f;
+      numbers = ms;
       counted = rw (p .same) e;
       within = rw (p .same) (omega arith);
       address = rw (p .same, n) (p .address);
-      records = rw n (p .records) }
+      records = rw n (p .records);
+    }
 
 later-member : {s : List ℕ} {ds : List DataGroup} {g : SrcGroup} (d : DataGroup) → Member s ds g → Member s (d ∷ ds) g
 later-member d m =
     record {
-      listed = there (m .listed); numbers = m .numbers; counted = m .counted; within = m .within; address = m .address; records = m .records }
+      listed = there (m .listed);
+      numbers = m .numbers;
+      counted = m .counted;
+      within = m .within;
+      address = m .address;
+      records = m .records;
+    }
 
 members-of : {s : List ℕ} {ds : List DataGroup} {ns : List ℕ} → Counted s ds ns → (g : SrcGroup) → In g (srcGroups ds ns) → Member s ds g
 unfolding srcGroups
 members-of {s} (next {d} {ds} {ms} {ns} e c) g i =
     let l : length ms ≡ length (d .groups) =
-          length-counts s (d .at) (addresses (d .groups)) (d .fragments) e ∙ length-addresses (d .groups) in
+    length-counts s (d .at) (addresses (d .groups)) (d .fragments) e ∙ length-addresses (d .groups) in
     in-append (withCounts d 0 (d .groups) (ms ++ ns)) (srcGroups ds (drop (length (d .groups)) (ms ++ ns)))
     (λ j. placed-member d ms g e (with-counts d 0 (d .groups) ms ns g l j))
     (λ j. later-member d (members-of c g (subst (λ (x : List ℕ). In g (srcGroups ds x)) (drop-at ms ns (length (d .groups)) l) j)))
@@ -131,7 +139,7 @@ members-of {s} (next {d} {ds} {ms} {ns} e c) g i =
 
 -- every group with its count is one of a DG, with the count that was counted there
 pub member : (s : List ℕ) (ds : List DataGroup) {ns : List ℕ} → counts s ds ≡ ok ns → (g : SrcGroup) → In g (srcGroups ds ns)
-  → Member s ds g
+    → Member s ds g
 unfolding counts
 member s ds {ns} e g i =
     let c = counted-from s ds [] e in
@@ -147,25 +155,25 @@ pub record Read (s : List ℕ) (a n : ℕ) (fs : List Fragment) (rs : List (List
   pub ranges : rangesIn s fs ≡ fine
 
 read-alone : (s : List ℕ) (d g n : ℕ) (fs : List Fragment) {ms : List ℕ} → countOne s d g fs ≡ ok ms → getD ms 0 0 ≡ n
-  → sortedIn s d g fs ≡ fine
-  → Read s g n fs (sortedRecords s d g (runs fs))
+    → sortedIn s d g fs ≡ fine
+    → Read s g n fs (sortedRecords s d g (runs fs))
 read-alone s d g n fs {ms} e q w =
     let c : sortedCount s d g fs ≡ n = ap (λ (x : List ℕ). getD x 0 0) (one-count s d g fs e) ∙ q in
     let m : length (sortedRecords s d g (runs fs)) ≡ n = sorted-count s d g fs w ∙ c in
     record { many = m; long = λ z. sorted-long s d g fs w; bytes = λ z. rw m at (sorted-bytes s d g fs w); ranges = sorted-ranges s d g fs w }
 
 read-several : (s : List ℕ) (d k n g h : ℕ) (gs : List ℕ) (fs : List Fragment) {ms : List ℕ} → countGroups s d (g ∷ h ∷ gs) fs ≡ ok ms
-  → k < length (g ∷ h ∷ gs) → getD ms k 0 ≡ n → Read s (getD (g ∷ h ∷ gs) k 0) n fs (framedRecords k (unsortedFrames s d (g ∷ h ∷ gs) fs))
+    → k < length (g ∷ h ∷ gs) → getD ms k 0 ≡ n → Read s (getD (g ∷ h ∷ gs) k 0) n fs (framedRecords k (unsortedFrames s d (g ∷ h ∷ gs) fs))
 read-several s d k n g h gs fs {ms} e l q =
     let c = several-counts s d g h gs fs e in
     let w = unsorted-several s d (g ∷ h ∷ gs) fs (c .1) in
     let t : ofGroup k (c .0) ≡ n =
-          rw zero-add at (sym (tallies-at (length (g ∷ h ∷ gs)) 0 k (c .0) l)) ∙ ap (λ (x : List ℕ). getD x k 0) (c .2) ∙ q in
+    rw zero-add at (sym (tallies-at (length (g ∷ h ∷ gs)) 0 k (c .0) l)) ∙ ap (λ (x : List ℕ). getD x k 0) (c .2) ∙ q in
     let m : length (unsortedRecords k (c .0)) ≡ n = counted-group k (c .0) ∙ t in
     rw (c .1) (record { many = m; long = λ z. framed-long k w z; bytes = λ z. rw m at (framed-bytes k w z); ranges = w .ranges })
 
 read-at : (s : List ℕ) (d k n : ℕ) (gs : List ℕ) (fs : List Fragment) {ms : List ℕ} → countGroups s d gs fs ≡ ok ms
-  → k < length gs → getD ms k 0 ≡ n → recordsIn s d gs fs ≡ fine → Read s (getD gs k 0) n fs (groupRecords s d k gs fs)
+    → k < length gs → getD ms k 0 ≡ n → recordsIn s d gs fs ≡ fine → Read s (getD gs k 0) n fs (groupRecords s d k gs fs)
 unfolding countGroups
 read-at s d k n [] fs e l q w = absurd (omega arith)
 read-at s d zero n (g ∷ []) fs e l q w = read-alone s d g n fs e q w
@@ -174,17 +182,17 @@ read-at s d k n (g ∷ h ∷ gs) fs e l q w = read-several s d k n g h gs fs e l
 
 -- a group whose DG's data was checked
 pub checked-group : {s : List ℕ} {ds : List DataGroup} (g : SrcGroup) → Member s ds g
-  → recordsIn s (g .dataGroup .at) (addresses (g .dataGroup .groups)) (g .dataGroup .fragments) ≡ fine
-  → Read s (g .at) (g .records) (g .dataGroup .fragments) (recordsOf s g)
+    → recordsIn s (g .dataGroup .at) (addresses (g .dataGroup .groups)) (g .dataGroup .fragments) ≡ fine
+    → Read s (g .at) (g .records) (g .dataGroup .fragments) (recordsOf s g)
 unfolding recordsOf
 checked-group {s} g m w =
     rw (m .address) at (read-at s (g .dataGroup .at) (g .number) (g .records) (addresses (g .dataGroup .groups)) (g .dataGroup .fragments)
-      (m .counted) (m .within) (m .records) w)
+    (m .counted) (m .within) (m .records) w)
 
 -- ---- the DG of a nonempty column is checked
 
 any-nonempty : (s : List ℕ) (d : ℕ) (cs : List Column) (c : Column) → In c cs → isNonempty s c ≡ true → c .group .dataGroup .at ≡ d
-  → anyNonempty s d cs ≡ true
+    → anyNonempty s d cs ≡ true
 unfolding anyNonempty
 any-nonempty s d (b ∷ cs) c here e q = rw (eq-eqb (c .group .dataGroup .at) d q, e)
 any-nonempty s d (b ∷ cs) c (there i) e q = rw (any-nonempty s d cs c i e q) (go (both (eqb (b .group .dataGroup .at) d) (isNonempty s b)))
@@ -194,13 +202,13 @@ any-nonempty s d (b ∷ cs) c (there i) e q = rw (any-nonempty s d cs c i e q) (
     go false = refl
 
 pub all-checked : (s : List ℕ) (cs : List Column) (ds : List DataGroup) (d : DataGroup) → allDataIn s cs ds ≡ fine → In d ds
-  → dataIn s cs d ≡ fine
+    → dataIn s cs d ≡ fine
 unfolding allDataIn
 all-checked s cs (b ∷ ds) d e here = then-fine (dataIn s cs d) (λ _. allDataIn s cs ds) e .0
 all-checked s cs (b ∷ ds) d e (there i) = all-checked s cs ds d (then-fine (dataIn s cs b) (λ _. allDataIn s cs ds) e .1) i
 
 records-checked : (s : List ℕ) (cs : List Column) (d : DataGroup) → dataIn s cs d ≡ fine → anyNonempty s (d .at) cs ≡ true
-  → recordsIn s (d .at) (addresses (d .groups)) (d .fragments) ≡ fine
+    → recordsIn s (d .at) (addresses (d .groups)) (d .fragments) ≡ fine
 unfolding dataIn
 records-checked s cs d e q =
     let r : Verdict = recordsIn s (d .at) (addresses (d .groups)) (d .fragments) in
@@ -208,8 +216,8 @@ records-checked s cs d e q =
 
 -- so the records of a nonempty column's group are as counted
 pub column-read : (s : List ℕ) (ds : List DataGroup) (cs : List Column) {ns : List ℕ} → counts s ds ≡ ok ns → allDataIn s cs ds ≡ fine
-  → (c : Column) → In c cs → In (c .group) (srcGroups ds ns) → isNonempty s c ≡ true
-  → Read s (c .group .at) (c .group .records) (c .group .dataGroup .fragments) (recordsOf s (c .group))
+    → (c : Column) → In c cs → In (c .group) (srcGroups ds ns) → isNonempty s c ≡ true
+    → Read s (c .group .at) (c .group .records) (c .group .dataGroup .fragments) (recordsOf s (c .group))
 column-read s ds cs e w c i j q =
     let m = member s ds e (c .group) j in
     let d : DataGroup = c .group .dataGroup in
@@ -217,5 +225,5 @@ column-read s ds cs e w c i j q =
 
 -- the guarantee's `counted`
 pub counted : (s : List ℕ) (ds : List DataGroup) (cs : List Column) {ns : List ℕ} → counts s ds ≡ ok ns → allDataIn s cs ds ≡ fine
-  → (c : Column) → In c cs → In (c .group) (srcGroups ds ns) → isNonempty s c ≡ true → length (recordsOf s (c .group)) ≡ c .group .records
+    → (c : Column) → In c cs → In (c .group) (srcGroups ds ns) → isNonempty s c ≡ true → length (recordsOf s (c .group)) ≡ c .group .records
 counted s ds cs e w c i j q = column-read s ds cs e w c i j q .many

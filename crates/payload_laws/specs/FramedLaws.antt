@@ -29,7 +29,8 @@ counted-group k (r ∷ rs) = go (eq-cases (r .group) k (r .bytes ∷ unsortedRec
   where
     Cases : Type 0
     Cases = ((r .group ≡ k) × (r .bytes ∷ unsortedRecords k rs ≡ unsortedRecords k (r ∷ rs)))
-      ⊎ ((r .group ≡ k → ⊥) × (unsortedRecords k rs ≡ unsortedRecords k (r ∷ rs)))
+        ⊎ ((r .group ≡ k → ⊥) × (unsortedRecords k rs ≡ unsortedRecords k (r ∷ rs)))
+
     go : Cases → length (unsortedRecords k rs) ≡ ofGroup k rs → length (unsortedRecords k (r ∷ rs)) ≡ ifEq (r .group) k 1 0 + ofGroup k rs
     go (inl e) ih = let z : _≡_ {A = ℕ} 1 (ifEq (r .group) k 1 0) = eq-yes _ _ _ _ (e .0) refl in omega (arith, ap length (e .1))
     go (inr e) ih = let z : _≡_ {A = ℕ} 0 (ifEq (r .group) k 1 0) = eq-no _ _ _ _ (e .0) refl in omega (arith, ap length (e .1))
@@ -69,7 +70,7 @@ id-listed s id k j g (h ∷ gs) e =
     go (eq-cases (recordId s h) id (known k h) (withId s id (k + 1) gs) e) (λ q. id-listed s id (k + 1) j g gs q)
   where
     go : ((recordId s h ≡ id) × (known k h ≡ known j g)) ⊎ ((recordId s h ≡ id → ⊥) × (withId s id (k + 1) gs ≡ known j g))
-      → (withId s id (k + 1) gs ≡ known j g → Listed gs (k + 1) j g) → Listed (h ∷ gs) k j g
+        → (withId s id (k + 1) gs ≡ known j g → Listed gs (k + 1) j g) → Listed (h ∷ gs) k j g
     go (inl q) ih =
         let both = known-same (q .1) in
         record { place = 0; number = omega arith; within = omega arith; address = both .1 }
@@ -104,19 +105,19 @@ bytes-framing d n k m {r} e =
 pub record KnownFrame (s : List ℕ) (n : ℕ) (gs : List ℕ) (r : Frame) : Type 0 where
   pub within : r .group < length gs
   pub long : isStorage s (getD gs (r .group) 0) ≡ false
-    → length (r .bytes) ≡ samples s (getD gs (r .group) 0) + invalBytes s (getD gs (r .group) 0)
+      → length (r .bytes) ≡ samples s (getD gs (r .group) 0) + invalBytes s (getD gs (r .group) 0)
   pub size : r .size ≡ n + length (r .bytes)
 
 frame-known : (s d : List ℕ) (n k g : ℕ) {r : Frame} → frameOf s d n k g ≡ framed r
-  → (r .group ≡ k) × (r .size ≤ length d) × (r .size ≡ n + length (r .bytes))
-  × (isStorage s g ≡ false → length (r .bytes) ≡ samples s g + invalBytes s g)
+    → (r .group ≡ k) × (r .size ≤ length d) × (r .size ≡ n + length (r .bytes))
+    × (isStorage s g ≡ false → length (r .bytes) ≡ samples s g + invalBytes s g)
 unfolding frameOf
 frame-known s d n k g {r} e = go (isStorage s g) refl e
   where
     go : (b : Bool) → isStorage s g ≡ b
-      → pick b (ifLe (n + 4) (length d) (ofBytes d n k (4 + leAt 4 d n)) broken) (ofBytes d n k (samples s g + invalBytes s g)) ≡ framed r
-      → (r .group ≡ k) × (r .size ≤ length d) × (r .size ≡ n + length (r .bytes))
-      × (isStorage s g ≡ false → length (r .bytes) ≡ samples s g + invalBytes s g)
+        → pick b (ifLe (n + 4) (length d) (ofBytes d n k (4 + leAt 4 d n)) broken) (ofBytes d n k (samples s g + invalBytes s g)) ≡ framed r
+        → (r .group ≡ k) × (r .size ≤ length d) × (r .size ≡ n + length (r .bytes))
+        × (isStorage s g ≡ false → length (r .bytes) ≡ samples s g + invalBytes s g)
     go true q f =
         let w = bytes-framing d n k _ (le-first _ _ _ _ f broken≢framed .1) in
         (w .group, w .fits, omega arith, λ z. absurd (false≢true (sym z ∙ q)))
@@ -127,7 +128,7 @@ unfolding frameAt
 known-at s n gs d {r} e = go (withId s (leAt n d 0) 0 gs) refl (le-first _ _ _ _ e broken≢framed .1)
   where
     go : (o : Known) → withId s (leAt n d 0) 0 gs ≡ o → onKnown o (λ k g. frameOf s d n k g) ≡ framed r
-      → KnownFrame s n gs r × (r .size ≤ length d)
+        → KnownFrame s n gs r × (r .size ≤ length d)
     go unknown q f = absurd (broken≢framed f)
     go (known k g) q f =
         let l = id-listed s (leAt n d 0) 0 k g gs q in
@@ -148,7 +149,7 @@ taken [] = 0
 taken (r ∷ rs) = r .size + taken rs
 
 known-snoc : {s gs : List ℕ} {n : ℕ} {rs : List Frame} {r : Frame} → AllKnown s n gs rs → KnownFrame s n gs r
-  → AllKnown s n gs (rs ++ (r ∷ []))
+    → AllKnown s n gs (rs ++ (r ∷ []))
 known-snoc none k = next k none
 known-snoc (next h l) k = next h (known-snoc l k)
 
@@ -159,13 +160,13 @@ taken-snoc (t ∷ rs) r = omega (arith, taken-snoc rs r)
 
 -- one record more
 onFramed-ok : (o : Framed) (n p : ℕ) (f : Frame → Checked (List Frame)) {rs : List Frame} → onFramed o (refused n p) f ≡ ok rs
-  → (r : Frame) × (o ≡ framed r) × (f r ≡ ok rs)
+    → (r : Frame) × (o ≡ framed r) × (f r ≡ ok rs)
 onFramed-ok broken n p f e = absurd (refused≢ok e)
 onFramed-ok (framed r) n p f e = (r, refl, e)
 
 -- the records are known, and what they take lies in N bytes
 frames-known : (turns : ℕ) (s : List ℕ) (n : ℕ) (gs : List ℕ) (fs : List Fragment) (d : List ℕ) (p N : ℕ) (done : List Frame) {rs : List Frame}
-  → framesFrom turns s n gs fs d p done ≡ ok rs → AllKnown s n gs done → taken done + length d ≤ N → AllKnown s n gs rs × (taken rs ≤ N)
+    → framesFrom turns s n gs fs d p done ≡ ok rs → AllKnown s n gs done → taken done + length d ≤ N → AllKnown s n gs rs × (taken rs ≤ N)
 unfolding framesFrom
 frames-known zero s n gs fs d p N done {rs} e a h =
     let b : taken done ≤ N = omega arith in
@@ -175,10 +176,11 @@ frames-known (suc turns) s n gs fs d p N done {rs} e a h =
   where
     later : Frame → Checked (List Frame)
     later r = framesFrom turns s n gs fs (drop (r .size) d) (p + r .size) (done ++ (r ∷ []))
+
     go : ((length d ≡ 0) × (ok done ≡ ok rs)) ⊎ ((length d ≡ 0 → ⊥) × (onFramed (frameAt s n gs d) (refused 15 (placeOf fs p)) later ≡ ok rs))
-      → ((r : Frame) → later r ≡ ok rs → AllKnown s n gs (done ++ (r ∷ [])) → taken (done ++ (r ∷ [])) + length (drop (r .size) d) ≤ N
+        → ((r : Frame) → later r ≡ ok rs → AllKnown s n gs (done ++ (r ∷ [])) → taken (done ++ (r ∷ [])) + length (drop (r .size) d) ≤ N
         → AllKnown s n gs rs × (taken rs ≤ N))
-      → AllKnown s n gs rs × (taken rs ≤ N)
+        → AllKnown s n gs rs × (taken rs ≤ N)
     go (inl q) ih =
         let b : taken done ≤ N = omega arith in
         (subst (AllKnown s n gs) (ok-same (q .1)) a, subst (λ (x : List Frame). taken x ≤ N) (ok-same (q .1)) b)
@@ -199,9 +201,10 @@ module _ {s gs : List ℕ} {n : ℕ} (k : ℕ) (kept : isStorage s (getD gs k 0)
     where
       L : ℕ
       L = samples s (getD gs k 0) + invalBytes s (getD gs k 0)
+
       go : ((r .group ≡ k) × (r .bytes ∷ unsortedRecords k rs ≡ unsortedRecords k (r ∷ rs)))
-        ⊎ ((r .group ≡ k → ⊥) × (unsortedRecords k rs ≡ unsortedRecords k (r ∷ rs)))
-        → Long L (unsortedRecords k rs) → Long L (unsortedRecords k (r ∷ rs))
+          ⊎ ((r .group ≡ k → ⊥) × (unsortedRecords k rs ≡ unsortedRecords k (r ∷ rs)))
+          → Long L (unsortedRecords k rs) → Long L (unsortedRecords k (r ∷ rs))
       go (inl q) ih = subst (Long L) (q .1) (Long.next ((rw (q .0) at (f .long)) kept) ih)
       go (inr q) ih = subst (Long L) (q .1) ih
 
@@ -212,8 +215,9 @@ module _ {s gs : List ℕ} {n : ℕ} (k : ℕ) (kept : isStorage s (getD gs k 0)
     where
       L : ℕ
       L = samples s (getD gs k 0) + invalBytes s (getD gs k 0)
+
       go : ((r .group ≡ k) × (_≡_ {A = ℕ} 1 (ifEq (r .group) k 1 0))) ⊎ ((r .group ≡ k → ⊥) × (_≡_ {A = ℕ} 0 (ifEq (r .group) k 1 0)))
-        → ofGroup k rs * L ≤ taken rs → (ifEq (r .group) k 1 0 + ofGroup k rs) * L ≤ r .size + taken rs
+          → ofGroup k rs * L ≤ taken rs → (ifEq (r .group) k 1 0 + ofGroup k rs) * L ≤ r .size + taken rs
       go (inl q) ih =
           let b : length (r .bytes) ≡ L = (rw (q .0) at (f .long)) kept in
           rw (← (q .1), add-mul, one-mul) (omega (arith, f .size))
@@ -229,7 +233,7 @@ pub record Several (s : List ℕ) (d : ℕ) (gs : List ℕ) (fs : List Fragment)
   pub bytes : taken rs ≤ sizeOf fs
 
 frames-read : (s : List ℕ) (n : ℕ) (gs : List ℕ) (fs : List Fragment) {rs : List Frame} → frames s n gs fs ≡ ok rs
-  → AllKnown s n gs rs × (taken rs ≤ length (joined s fs))
+    → AllKnown s n gs rs × (taken rs ≤ length (joined s fs))
 unfolding frames taken
 frames-read s n gs fs e = frames-known (length (joined s fs) + 1) s n gs fs (joined s fs) 0 (length (joined s fs)) [] e none (omega arith)
 
@@ -241,7 +245,7 @@ some-id n d e = go (eq-cases n 0 (refused 14 d) fine e)
     go (inr q) = let h = q .0 in omega arith
 
 pub unsorted-several : (s : List ℕ) (d : ℕ) (gs : List ℕ) (fs : List Fragment) {rs : List Frame} → unsortedFrames s d gs fs ≡ ok rs
-  → Several s d gs fs rs
+    → Several s d gs fs rs
 unfolding unsortedFrames
 unsorted-several s d gs fs {rs} e =
     let read : Checked (List Frame) = frames s (idSize s d) gs fs in
@@ -256,19 +260,24 @@ unsorted-several s d gs fs {rs} e =
     let a5 = then-fine (ifLt most64 (sizeOf fs) (refused 19 d) fine) (λ _. read) (a4 .1) in
     let k = frames-read s (idSize s d) gs fs (a5 .1) in
     record {
-      distinct = passed _ _ _ (a1 .0); ids = some-id (idSize s d) d (a2 .0); onlyDT = passed _ _ _ (a3 .0); ranges = a4 .0; known = k .0;
-      bytes = rw (joined-length s fs (a4 .0)) at (k .1) }
+      distinct = passed _ _ _ (a1 .0);
+      ids = some-id (idSize s d) d (a2 .0);
+      onlyDT = passed _ _ _ (a3 .0);
+      ranges = a4 .0;
+      known = k .0;
+      bytes = rw (joined-length s fs (a4 .0)) at (k .1);
+    }
 
 -- the records of group k, which is no VLSD storage: each of samples and invalidation bytes
 pub framed-long : {s gs : List ℕ} {d : ℕ} {fs : List Fragment} {rs : List Frame} (k : ℕ) → Several s d gs fs rs
-  → isStorage s (getD gs k 0) ≡ false
-  → Long (samples s (getD gs k 0) + invalBytes s (getD gs k 0)) (unsortedRecords k rs)
+    → isStorage s (getD gs k 0) ≡ false
+    → Long (samples s (getD gs k 0) + invalBytes s (getD gs k 0)) (unsortedRecords k rs)
 framed-long k w q = known-long k q (w .known)
 
 -- which are bytes of the fragments
 pub framed-bytes : {s gs : List ℕ} {d : ℕ} {fs : List Fragment} {rs : List Frame} (k : ℕ) → Several s d gs fs rs
-  → isStorage s (getD gs k 0) ≡ false
-  → length (unsortedRecords k rs) * (samples s (getD gs k 0) + invalBytes s (getD gs k 0)) ≤ sizeOf fs
+    → isStorage s (getD gs k 0) ≡ false
+    → length (unsortedRecords k rs) * (samples s (getD gs k 0) + invalBytes s (getD gs k 0)) ≤ sizeOf fs
 framed-bytes {rs = rs} k w q = rw (counted-group k rs) (omega (arith, known-bytes k q (w .known), w .bytes))
 
 -- each takes its id, so there are no more than bytes
@@ -278,7 +287,7 @@ known-few k none h = omega arith
 known-few k (next {r} {rs} f l) h = go (eq-cases (r .group) k 1 0 refl) (known-few k l h)
   where
     go : ((r .group ≡ k) × (_≡_ {A = ℕ} 1 (ifEq (r .group) k 1 0))) ⊎ ((r .group ≡ k → ⊥) × (_≡_ {A = ℕ} 0 (ifEq (r .group) k 1 0)))
-      → ofGroup k rs ≤ taken rs → ifEq (r .group) k 1 0 + ofGroup k rs ≤ r .size + taken rs
+        → ofGroup k rs ≤ taken rs → ifEq (r .group) k 1 0 + ofGroup k rs ≤ r .size + taken rs
     go (inl q) ih = omega (arith, q .1, f .size)
     go (inr q) ih = omega (arith, q .1, f .size)
 

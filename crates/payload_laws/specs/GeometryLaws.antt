@@ -53,8 +53,12 @@ split-many p n (suc j) h a b =
     let e : suc j * p ≡ j * p + p = suc-mul j p in
     let f : n ≤ j * p + p = omega arith in
     record {
-      full = j; blocks = refl; left = omega arith; enough = f;
-      single = λ q. let g : n ≤ 0 * p + p = rw q at f in absurd (omega (arith, zero-mul p)) }
+      full = j;
+      blocks = refl;
+      left = omega arith;
+      enough = f;
+      single = λ q. let g : n ≤ 0 * p + p = rw q at f in absurd (omega (arith, zero-mul p));
+    }
 
 -- p records at most in a block
 split-by : (p n : ℕ) → 0 < p → 0 < n → Split (ifLe n p n p) ((n + p - 1) / p) n
@@ -66,7 +70,12 @@ split-by p n hp hn = go (leb n p) refl
         let m : n ≡ ifLe n p n p = le-yes n p n p h refl in
         let one : (n + p - 1) / p ≡ 1 = div-eq-of-lt-le p (omega (arith, one-mul p)) (omega arith) in
         rw (← m, one) (record {
-          full = 0; blocks = refl; left = omega (arith, zero-mul n); enough = omega (arith, zero-mul n); single = λ e. refl })
+          full = 0;
+          blocks = refl;
+          left = omega (arith, zero-mul n);
+          enough = omega (arith, zero-mul n);
+          single = λ e. refl;
+        })
     go false q =
         let h = leb-false n p q in
         let m : p ≡ ifLe n p n p = le-no n p n p h refl in
@@ -77,7 +86,7 @@ pub split : (size w n : ℕ) → 0 < w → 0 < n → Split (perFull size w n) (b
 unfolding perFull blockCount
 split size w n hw hn =
     let e : (n + perBlock size w - 1) / perBlock size w ≡ ifEq (w * n) 0 0 ((n + perBlock size w - 1) / perBlock size w) =
-          eq-no (w * n) 0 0 ((n + perBlock size w - 1) / perBlock size w) (λ q. omega (arith, mul-pos hw hn)) refl in
+    eq-no (w * n) 0 0 ((n + perBlock size w - 1) / perBlock size w) (λ q. omega (arith, mul-pos hw hn)) refl in
     rw (← e) (split-by (perBlock size w) n (per-some size w) hn)
 
 -- "A column of width 0 or without records has no blocks"

@@ -40,8 +40,8 @@ pub data Even (q : ℕ) : List (List ℕ) → Type 0 where
   next : {p r : List ℕ} {ps : List (List ℕ)} → length p ≡ q → Even q (r ∷ ps) → Even q (p ∷ r ∷ ps)
 
 pub payloads-even : (s : List ℕ) (g c m j : ℕ) (rs : List (List ℕ)) → fits s g c ≡ true → Long (samples s g + invalBytes s g) rs
-  → j * m < length rs
-  → Even (m * width s g c) (payloads s g c m (suc j) rs)
+    → j * m < length rs
+    → Even (m * width s g c) (payloads s g c m (suc j) rs)
 unfolding payloads
 payloads-even s g c m zero rs f l h = last
 payloads-even s g c m (suc j) rs f l h =
@@ -57,7 +57,7 @@ unfolding framed
 length-framed kind p = rw (length-append, length-header)
 
 pub payloads-ordered : (kind a e : ℕ) (ps : List (List ℕ)) → a + (24 * length ps + length (together ps)) ≤ e
-  → Ordered a (payloadBlocks kind a ps) e
+    → Ordered a (payloadBlocks kind a ps) e
 unfolding Ordered payloadBlocks together
 payloads-ordered kind a e [] h = omega arith
 payloads-ordered kind a e (p ∷ ps) h =
@@ -71,7 +71,7 @@ places (b ∷ bs) = b .at ∷ places bs
 
 -- a DL's links are the addresses of its blocks, since only the last may be shorter
 pub links-places : {q : ℕ} {ps : List (List ℕ)} (kind a : ℕ) → Even q ps
-  → blockLinks q (length ps) a ≡ words (places (payloadBlocks kind a ps))
+    → blockLinks q (length ps) a ≡ words (places (payloadBlocks kind a ps))
 unfolding blockLinks words places payloadBlocks
 links-places kind a none = refl
 links-places kind a last = refl

@@ -31,7 +31,7 @@ pub use Rattle.result.specs.OrderedLaws.{ordered-append}
 
 -- of the columns from the DG at d
 signals-each : (s : List ℕ) (d : ℕ) (cs : List Column) (c : Column) → signalsIn s d cs ≡ fine → In c cs → c .group .dataGroup .at ≡ d
-  → signalIn s (c .signalOf) ≡ fine
+    → signalIn s (c .signalOf) ≡ fine
 unfolding signalsIn
 signals-each s d (b ∷ cs) c e here q =
     let a = then-fine (ifEq (c .group .dataGroup .at) d (signalIn s (c .signalOf)) fine) (λ _. signalsIn s d cs) e in
@@ -47,14 +47,14 @@ data-signals s cs d e =
 
 -- the signal data of every planned column lies in the image
 pub column-signal : (s : List ℕ) (ds : List DataGroup) (cs : List Column) {ns : List ℕ} → counts s ds ≡ ok ns → allDataIn s cs ds ≡ fine
-  → (c : Column) → In c cs → In (c .group) (srcGroups ds ns) → signalIn s (c .signalOf) ≡ fine
+    → (c : Column) → In c cs → In (c .group) (srcGroups ds ns) → signalIn s (c .signalOf) ≡ fine
 column-signal s ds cs e w c i j =
     let d : DataGroup = c .group .dataGroup in
     signals-each s (d .at) cs c (data-signals s cs d (all-checked s cs ds d w (member s ds e (c .group) j .listed))) i refl
 
 -- it has all bytes of its fragments
 pub length-signal : (s : List ℕ) (fs : List Fragment) → signalIn s (signalData fs) ≡ fine
-  → length (signalBytes s (signalData fs)) ≡ sizeOf fs
+    → length (signalBytes s (signalData fs)) ≡ sizeOf fs
 length-signal s fs e = joined-length s fs e
 
 pub signal-ordered : (s : List ℕ) (g : Signal) (a : ℕ) → signalIn s g ≡ fine → Ordered a (sdBlocks s g a) (signalEnd g a)
@@ -69,8 +69,8 @@ signal-ordered s (signalData fs) a e =
 
 -- the data of all columns, in order, from d on to its end
 pub data-ordered : (s : List ℕ) (size a d : ℕ) (cs : List Column) → ((c : Column) → In c cs → Ready s c)
-  → ((c : Column) → In c cs → signalIn s (c .signalOf) ≡ fine)
-  → Ordered d (dataBlocks s size (placedFrom s size a d cs)) (dataEnd s size d cs)
+    → ((c : Column) → In c cs → signalIn s (c .signalOf) ≡ fine)
+    → Ordered d (dataBlocks s size (placedFrom s size a d cs)) (dataEnd s size d cs)
 unfolding Ordered dataBlocks placedFrom dataEnd
 data-ordered s size a d [] r g = le-refl d
 data-ordered s size a d (c ∷ cs) r g =

@@ -47,7 +47,7 @@ front-dt f [] = go (f .kind) refl
 front-dt f (r ∷ rs) = go (f .kind) (r .kind) refl refl
   where
     go : (k j : Kind) → f .kind ≡ k → r .kind ≡ j
-      → sumDT (inFront f (r ∷ rs)) ≡ dtOnly (f .kind) (f .size) + (dtOnly (r .kind) (sizeOf (r .fragments)) + sumDT rs)
+        → sumDT (inFront f (r ∷ rs)) ≡ dtOnly (f .kind) (f .size) + (dtOnly (r .kind) (sizeOf (r .fragments)) + sumDT rs)
     go dt dt p q = rw (p, q) (omega arith)
     go dt dv p q = rw (p, q) (omega arith)
     go dv dt p q = rw (p, q) (omega arith)
@@ -63,7 +63,7 @@ front-dv f [] = go (f .kind) refl
 front-dv f (r ∷ rs) = go (f .kind) (r .kind) refl refl
   where
     go : (k j : Kind) → f .kind ≡ k → r .kind ≡ j
-      → sumDV (inFront f (r ∷ rs)) ≡ dvOnly (f .kind) (f .size) + (dvOnly (r .kind) (sizeOf (r .fragments)) + sumDV rs)
+        → sumDV (inFront f (r ∷ rs)) ≡ dvOnly (f .kind) (f .size) + (dvOnly (r .kind) (sizeOf (r .fragments)) + sumDV rs)
     go dt dt p q = rw (p, q) (omega arith)
     go dt dv p q = rw (p, q) (omega arith)
     go dv dt p q = rw (p, q) (omega arith)
@@ -136,7 +136,7 @@ unfolding runWhole
 run-whole n fs e h = eq-first _ _ _ _ (eq-no n 0 _ _ (λ z. omega arith) refl ∙ e) refused≢ok .0
 
 whole-cons : (s : List ℕ) (d g : ℕ) (r : Run) (rs : List Run) → runsWhole s d g (r ∷ rs) ≡ fine
-  → (0 < recordSize s d g (r .kind) → sizeOf (r .fragments) % recordSize s d g (r .kind) ≡ 0) × (runsWhole s d g rs ≡ fine)
+    → (0 < recordSize s d g (r .kind) → sizeOf (r .fragments) % recordSize s d g (r .kind) ≡ 0) × (runsWhole s d g rs ≡ fine)
 unfolding runsWhole
 whole-cons s d g r rs e =
     let b = then-fine (runWhole (recordSize s d g (r .kind)) (r .fragments)) (λ _. runsWhole s d g rs) e in
@@ -148,7 +148,7 @@ quotient-nil (suc n) = quotient-some 0 (suc n) (omega arith) ∙ zero-div (suc n
 
 -- every run holds whole records, so their numbers add up to the quotients of all bytes
 runs-count : (s : List ℕ) (d g : ℕ) (rs : List Run) → runsWhole s d g rs ≡ fine
-  → length (sortedRecords s d g rs) ≡ quotient (sumDT rs) (recordSize s d g dt) + quotient (sumDV rs) (recordSize s d g dv)
+    → length (sortedRecords s d g rs) ≡ quotient (sumDT rs) (recordSize s d g dt) + quotient (sumDV rs) (recordSize s d g dv)
 unfolding sortedRecords sumDT sumDV
 runs-count s d g [] e = omega (arith, quotient-nil (recordSize s d g dt), quotient-nil (recordSize s d g dv))
 runs-count s d g (r ∷ rs) e =
@@ -156,9 +156,9 @@ runs-count s d g (r ∷ rs) e =
     rw (length-append, length-run) (go (r .kind) refl (w .0) (runs-count s d g rs (w .1)))
   where
     go : (k : Kind) → r .kind ≡ k → (0 < recordSize s d g (r .kind) → sizeOf (r .fragments) % recordSize s d g (r .kind) ≡ 0)
-      → length (sortedRecords s d g rs) ≡ quotient (sumDT rs) (recordSize s d g dt) + quotient (sumDV rs) (recordSize s d g dv)
-      → sizeOf (r .fragments) / recordSize s d g (r .kind) + length (sortedRecords s d g rs)
-      ≡ quotient (sumDT (r ∷ rs)) (recordSize s d g dt) + quotient (sumDV (r ∷ rs)) (recordSize s d g dv)
+        → length (sortedRecords s d g rs) ≡ quotient (sumDT rs) (recordSize s d g dt) + quotient (sumDV rs) (recordSize s d g dv)
+        → sizeOf (r .fragments) / recordSize s d g (r .kind) + length (sortedRecords s d g rs)
+        ≡ quotient (sumDT (r ∷ rs)) (recordSize s d g dt) + quotient (sumDV (r ∷ rs)) (recordSize s d g dv)
     go dt q w ih =
         let a = quotient-add (sizeOf (r .fragments)) (sumDT rs) (recordSize s d g dt) (rw q at w) in
         rw (q, zero-add) (omega arith)
@@ -178,7 +178,7 @@ pieces-long (suc k) n l h =
 ids-long : {n : ℕ} {rs : List (List ℕ)} (i m : ℕ) → n ≡ i + m → Long n rs → Long m (withoutIds i rs)
 unfolding withoutIds
 ids-long i m e none = none
-ids-long i m e (next {r} l ls) = 
+ids-long i m e (next {r} l ls) =
     let x : length (drop i r) ≡ m = rw length-drop (omega arith) in
     next x (ids-long i m e ls)
 
@@ -195,7 +195,7 @@ joined-length s (f ∷ fs) e =
 data Sound (s : List ℕ) (inval : ℕ) : List Run → Type 0 where
   end : Sound s inval []
   run : {r : Run} {rs : List Run} → length (joined s (r .fragments)) ≡ sizeOf (r .fragments) → (r .kind ≡ dv → inval ≡ 0) → Sound s inval rs
-    → Sound s inval (r ∷ rs)
+      → Sound s inval (r ∷ rs)
 
 -- a fragment in front makes the first run longer, or is a run of its own
 abbrev longer : Fragment → Run → Run
@@ -215,8 +215,8 @@ front-cases f r rs = go (f .kind) (r .kind) refl refl
     go dv dv p q = inl (rw (p, q))
 
 sound-front : (s : List ℕ) (inval : ℕ) (f : Fragment) (rs : List Run) → f .offset + f .size ≤ length s → (f .kind ≡ dv → inval ≡ 0)
-  → Sound s inval rs
-  → Sound s inval (inFront f rs)
+    → Sound s inval rs
+    → Sound s inval (inFront f rs)
 unfolding inFront joined sizeOf
 sound-front s inval f [] h v w =
     let one : length (part (f .offset) (f .size) s ++ []) ≡ f .size + 0 = rw (length-append, length-part (f .offset) (f .size) s h) in
@@ -225,8 +225,10 @@ sound-front s inval f (r ∷ rs) h v (run l u w) = go (front-cases f r rs)
   where
     more : length (part (f .offset) (f .size) s ++ joined s (r .fragments)) ≡ f .size + sizeOf (r .fragments)
     more = rw (length-append, length-part (f .offset) (f .size) s h, l)
+
     one : length (part (f .offset) (f .size) s ++ []) ≡ f .size + 0
     one = rw (length-append, length-part (f .offset) (f .size) s h)
+
     go : (inFront f (r ∷ rs) ≡ longer f r ∷ rs) ⊎ (inFront f (r ∷ rs) ≡ alone f ∷ r ∷ rs) → Sound s inval (inFront f (r ∷ rs))
     go (inl e) = subst (Sound s inval) (sym e) (run {r = longer f r} more u w)
     go (inr e) = subst (Sound s inval) (sym e) (run {r = alone f} one v (run l u w))
@@ -252,21 +254,23 @@ sound-runs s inval (f ∷ fs) e v =
     sound-front s inval f (runs fs) (b .0) (λ q. v (any-here f fs q)) (sound-runs s inval fs (b .1) (λ q. v (any-later f fs q)))
 
 run-long : (s : List ℕ) (d g : ℕ) (r : Run) → length (joined s (r .fragments)) ≡ sizeOf (r .fragments) → (r .kind ≡ dv → invalBytes s g ≡ 0)
-  → Long (samples s g + invalBytes s g) (runRecords s d g r)
+    → Long (samples s g + invalBytes s g) (runRecords s d g r)
 unfolding runRecords
 run-long s d g r l v = go (r .kind) refl
   where
     n : ℕ
     n = recordSize s d g (r .kind)
+
     all : Long n (pieces (sizeOf (r .fragments) / n) n (joined s (r .fragments)))
     all = pieces-long _ n _ (rw l (div-mul-le-self (sizeOf (r .fragments)) n))
+
     go : (k : Kind) → r .kind ≡ k
-      → Long (samples s g + invalBytes s g) (withoutIds (idBytes s d (r .kind)) (pieces (sizeOf (r .fragments) / n) n (joined s (r .fragments))))
+        → Long (samples s g + invalBytes s g) (withoutIds (idBytes s d (r .kind)) (pieces (sizeOf (r .fragments) / n) n (joined s (r .fragments))))
     go dt q = ids-long _ _ (rw q (omega arith)) all
     go dv q = ids-long _ _ (let z = v q in rw q (omega arith)) all
 
 runs-long : {s : List ℕ} {rs : List Run} (d g : ℕ) → Sound s (invalBytes s g) rs
-  → Long (samples s g + invalBytes s g) (sortedRecords s d g rs)
+    → Long (samples s g + invalBytes s g) (sortedRecords s d g rs)
 unfolding sortedRecords
 runs-long d g end = none
 runs-long {s} d g (run {r} {rs} l v w) = long-append (sortedRecords s d g rs) (run-long s d g r l v) (runs-long d g w)
@@ -274,11 +278,11 @@ runs-long {s} d g (run {r} {rs} l v w) = long-append (sortedRecords s d g rs) (r
 -- ---- bytes
 
 run-bytes : (s : List ℕ) (d g : ℕ) (r : Run) → (r .kind ≡ dv → invalBytes s g ≡ 0)
-  → length (runRecords s d g r) * (samples s g + invalBytes s g) ≤ sizeOf (r .fragments)
+    → length (runRecords s d g r) * (samples s g + invalBytes s g) ≤ sizeOf (r .fragments)
 run-bytes s d g r v = rw length-run (go (r .kind) refl)
   where
     go : (k : Kind) → r .kind ≡ k
-      → sizeOf (r .fragments) / recordSize s d g (r .kind) * (samples s g + invalBytes s g) ≤ sizeOf (r .fragments)
+        → sizeOf (r .fragments) / recordSize s d g (r .kind) * (samples s g + invalBytes s g) ≤ sizeOf (r .fragments)
     go dt q =
         let n : ℕ = recordSize s d g dt in
         let a : samples s g + invalBytes s g ≤ n = omega arith in
@@ -300,7 +304,7 @@ sums r rs = go (r .kind) refl
     go dv q = rw q (omega arith)
 
 runs-bytes : {s : List ℕ} {rs : List Run} (d g : ℕ) → Sound s (invalBytes s g) rs
-  → length (sortedRecords s d g rs) * (samples s g + invalBytes s g) ≤ sumDT rs + sumDV rs
+    → length (sortedRecords s d g rs) * (samples s g + invalBytes s g) ≤ sumDT rs + sumDV rs
 unfolding sortedRecords
 runs-bytes {s} d g end = omega (arith, zero-mul (samples s g + invalBytes s g))
 runs-bytes {s} d g (run {r} {rs} l v w) =
@@ -324,20 +328,20 @@ sorted-alone s d g fs e =
 
 -- as many records as the count
 pub sorted-count : (s : List ℕ) (d g : ℕ) (fs : List Fragment) → sortedIn s d g fs ≡ fine
-  → length (sortedRecords s d g (runs fs)) ≡ sortedCount s d g fs
+    → length (sortedRecords s d g (runs fs)) ≡ sortedCount s d g fs
 unfolding sortedCount
 sorted-count s d g fs e = runs-count s d g (runs fs) (sorted-alone s d g fs e .1) ∙ rw (runs-dt, runs-dv)
 
 -- each of samples and invalidation bytes
 pub sorted-long : (s : List ℕ) (d g : ℕ) (fs : List Fragment) → sortedIn s d g fs ≡ fine
-  → Long (samples s g + invalBytes s g) (sortedRecords s d g (runs fs))
+    → Long (samples s g + invalBytes s g) (sortedRecords s d g (runs fs))
 sorted-long s d g fs e =
     let a = sorted-alone s d g fs e .0 in
     runs-long d g (sound-runs s (invalBytes s g) fs (a .ranges) (a .unmixed))
 
 -- which are bytes of the fragments
 pub sorted-bytes : (s : List ℕ) (d g : ℕ) (fs : List Fragment) → sortedIn s d g fs ≡ fine
-  → length (sortedRecords s d g (runs fs)) * (samples s g + invalBytes s g) ≤ sizeOf fs
+    → length (sortedRecords s d g (runs fs)) * (samples s g + invalBytes s g) ≤ sizeOf fs
 sorted-bytes s d g fs e =
     let a = sorted-alone s d g fs e .0 in
     let b = runs-bytes d g (sound-runs s (invalBytes s g) fs (a .ranges) (a .unmixed)) in

@@ -64,12 +64,12 @@ attached-blit (t ∷ ts) w p a h =
     let x : List ℕ = set (set (set w p (t .from)) (suc p) (t .to)) (suc (suc p)) (length (t .own)) in
     let n : suc (suc (suc p)) ≡ p + 3 = omega arith in
     let first : getD (blit (suc (suc (suc p))) (attachmentWords ts) x) p 0 ≡ t .from =
-          getD-before (attachmentWords ts) (suc (suc (suc p))) p x (omega arith)
-          ∙ getD-set-other (set (set w p (t .from)) (suc p) (t .to)) (suc (suc p)) p (length (t .own)) 0 (λ e. omega arith)
-          ∙ getD-set-other (set w p (t .from)) (suc p) p (t .to) 0 (λ e. omega arith) ∙ getD-set-same w p (t .from) 0 (omega arith) in
+    getD-before (attachmentWords ts) (suc (suc (suc p))) p x (omega arith)
+    ∙ getD-set-other (set (set w p (t .from)) (suc p) (t .to)) (suc (suc p)) p (length (t .own)) 0 (λ e. omega arith)
+    ∙ getD-set-other (set w p (t .from)) (suc p) p (t .to) 0 (λ e. omega arith) ∙ getD-set-same w p (t .from) 0 (omega arith) in
     let room : p + 3 + 3 * length ts ≤ length x = simp length-set (omega arith) in
     let rest : attachedIn (blit (suc (suc (suc p))) (attachmentWords ts) x) (p + 3) (length ts) a ≡ isAttached a ts =
-          rw n (attached-blit ts x (p + 3) a room) in
+    rw n (attached-blit ts x (p + 3) a room) in
     rw (first, rest)
 
 attached-past : {n : ℕ} {x y : List ℕ} (p k a : ℕ) → Past n x y → n ≤ p → attachedIn y p k a ≡ attachedIn x p k a
@@ -78,8 +78,8 @@ attached-past p zero a h l = refl
 attached-past {n} {x} {y} p (suc k) a h l =
     let e : p ≡ n + (p - n) = omega arith in
     let g : getD y p 0 ≡ getD x p 0 =
-          ap (λ (i : ℕ). getD y i 0) e ∙ sym (getD-drop n y (p - n) 0) ∙ ap (λ (z : List ℕ). getD z (p - n) 0) (h .kept) ∙ getD-drop n x (p - n) 0
-          ∙ ap (λ (i : ℕ). getD x i 0) (sym e) in
+    ap (λ (i : ℕ). getD y i 0) e ∙ sym (getD-drop n y (p - n) 0) ∙ ap (λ (z : List ℕ). getD z (p - n) 0) (h .kept) ∙ getD-drop n x (p - n) 0
+    ∙ ap (λ (i : ℕ). getD x i 0) (sym e) in
     rw (g, attached-past (p + 3) k a h (omega arith))
 
 words-snoc : (ts : List Attachment) (t : Attachment) → attachmentWords (ts ++ (t ∷ [])) ≡ attachmentWords ts ++ (t .from ∷ t .to ∷ length (t .own) ∷ [])
@@ -111,7 +111,7 @@ three-stores i a b b' c w e =
     rw (n, m, e)
 
 pub attached-state : (used n size : ℕ) {x y : ℕ} → x ≡ align8 n → y ≡ align8 (x + size)
-  → _≡_ {A = Copying} (record { used = used; next = y }) (record { used = used; next = align8 (align8 n + size) })
+    → _≡_ {A = Copying} (record { used = used; next = y }) (record { used = used; next = align8 (align8 n + size) })
 attached-state used n size p q = rw (q, p)
 
 -- ---- the checks of an AT: 18 for its links, its length and the most bytes; its range
@@ -216,7 +216,7 @@ attachMore turns s a t =
     (λ m. attachmentsFrom turns s (firstLink s a) (attach a (sizeAt s a) (t .made) m t))
 
 attach-open : (turns : ℕ) (s : List ℕ) (a : ℕ) (t : Attached) → 0 < turns
-  → attachmentsFrom turns s a t ≡ onAttaches (attachesAt s a (isAttached a (t .attachments)) (length (t .attachments))) t (attachMore (turns - 1) s a t)
+    → attachmentsFrom turns s a t ≡ onAttaches (attachesAt s a (isAttached a (t .attachments)) (length (t .attachments))) t (attachMore (turns - 1) s a t)
 unfolding attachmentsFrom attachesAt ifEq ifLt attachMore
 attach-open zero s a t h = absurd (omega arith)
 attach-open (suc turns) s a t h =
@@ -224,8 +224,8 @@ attach-open (suc turns) s a t h =
     (go (eqb a 0) (isAttached a (t .attachments)) (headerIn s a) (eqb (kindAt s a) kindAT) (attachmentIn s a) (ltb (length (t .attachments)) mostAttachments))
   where
     go : (e i : Bool) (v : Verdict) (k : Bool) (f : Verdict) (l : Bool)
-      → pick e (ok t) (pick i (ok t) (andThen v (λ _. pick k (andThen f (λ _. pick l (attachMore turns s a t) (refused 19 a))) (ok t))))
-      ≡ onAttaches
+        → pick e (ok t) (pick i (ok t) (andThen v (λ _. pick k (andThen f (λ _. pick l (attachMore turns s a t) (refused 19 a))) (ok t))))
+        ≡ onAttaches
         (pick e (ok false) (pick i (ok false) (andThen v (λ _. pick k (andThen f (λ _. pick l (ok true) (refused 19 a))) (ok false)))))
         t (attachMore turns s a t)
     go true i v k f l = refl
@@ -248,17 +248,31 @@ pub record Chaining (s w₀ : List ℕ) (a : ℕ) (st₀ : Copying) (w : List �
   pub rest : attachmentsFrom turns s at (moving .told) ≡ attachmentsOf s a (standing w₀ st₀)
 
 pub chain-begin : (s w : List ℕ) (a : ℕ) (st : Copying) → 8192 ≤ length w → length s ≤ 4294967296 → st .used ≤ 2048 → st .next ≤ 576460752303423488
-  → Chaining s w a st w a 0 66 st
+    → Chaining s w a st w a 0 66 st
 unfolding attachmentsOf attachmentWords blit
 chain-begin s w a st h l u n =
     record {
       moving = record {
-        told = record { attachments = []; made = standing w st }; made = refl; counted = refl; few = omega arith; more = omega arith; most = u;
-        near = omega arith; past = past-same _ w };
-      same = refl; words = h; short = l; start = n; sum = refl; room = record { few = u; near = omega arith }; rest = refl }
+        told = record { attachments = []; made = standing w st };
+        made = refl;
+        counted = refl;
+        few = omega arith;
+        more = omega arith;
+        most = u;
+        near = omega arith;
+        past = past-same _ w;
+      };
+      same = refl;
+      words = h;
+      short = l;
+      start = n;
+      sum = refl;
+      room = record { few = u; near = omega arith };
+      rest = refl;
+    }
 
 module _ {s w₀ : List ℕ} {a : ℕ} {st₀ : Copying} {w : List ℕ} {at count turns : ℕ} {st : Copying}
-  (u : Chaining s w₀ a st₀ w at count turns st) where
+    (u : Chaining s w₀ a st₀ w at count turns st) where
   pub chain-out : turns ≡ 0 → MovedAll count w₀ w st₀ st (attachmentsOf s a (standing w₀ st₀))
   unfolding attachmentsFrom
   chain-out e = record { moving = u .moving; is = sym (rw e at (u .rest)) }
@@ -272,11 +286,11 @@ module _ {s w₀ : List ℕ} {a : ℕ} {st₀ : Copying} {w : List ℕ} {at coun
 
   module _ (h : 0 < turns) where
     opened : {v : Checked Bool} → attachesAt s at (attachedIn w 4096 count at) count ≡ v
-      → onAttaches v (u .moving .told) (attachMore (turns - 1) s at (u .moving .told)) ≡ attachmentsOf s a (standing w₀ st₀)
+        → onAttaches v (u .moving .told) (attachMore (turns - 1) s at (u .moving .told)) ≡ attachmentsOf s a (standing w₀ st₀)
     opened e =
         ap (λ (v : Checked Bool). onAttaches v (u .moving .told) (attachMore (turns - 1) s at (u .moving .told)))
         (sym e ∙ ap (λ (b : Bool). attachesAt s at b count) met-told
-          ∙ ap (λ (n : ℕ). attachesAt s at (isAttached at (u .moving .told .attachments)) n) (sym (u .moving .counted)))
+        ∙ ap (λ (n : ℕ). attachesAt s at (isAttached at (u .moving .told .attachments)) n) (sym (u .moving .counted)))
         ∙ sym (attach-open turns s at (u .moving .told) h) ∙ u .rest
 
     pub chain-ends : attachesAt s at (attachedIn w 4096 count at) count ≡ ok false → MovedAll count w₀ w st₀ st (attachmentsOf s a (standing w₀ st₀))
@@ -286,9 +300,9 @@ module _ {s w₀ : List ℕ} {a : ℕ} {st₀ : Copying} {w : List ℕ} {at coun
     chain-refused e = sym (opened e)
 
     module _ (e : attachesAt s at (attachedIn w 4096 count at) count ≡ ok true) {n : ℕ} (l : n ≡ linksAt s at) {w' : List ℕ} {g : Got}
-      (c : Copied w w' g (copyLinks (copyRoot s) s (n - 1) (at + 32) (standing w st))) where
+        (c : Copied w w' g (copyLinks (copyRoot s) s (n - 1) (at + 32) (standing w st))) where
       followed : {v : Checked Copies} → v ≡ copyLinks (copyRoot s) s (n - 1) (at + 32) (standing w st)
-        → copyLinks (copyRoot s) s (linksAt s at - 1) (at + 32) (standing w st) ≡ v
+          → copyLinks (copyRoot s) s (linksAt s at - 1) (at + 32) (standing w st) ≡ v
       followed q = rw (← l) (sym q)
 
       pub chain-stopped : {k p : ℕ} → g ≡ got.Refused k p → attachmentsOf s a (standing w₀ st₀) ≡ refused k p
@@ -296,9 +310,9 @@ module _ {s w₀ : List ℕ} {a : ℕ} {st₀ : Copying} {w : List ℕ} {at coun
       chain-stopped q = sym (rw (u .moving .made, followed (copied-refused c q)) at (opened e))
 
       pub chain-next : {t r : Copying} {b size : ℕ} {x : List ℕ} → AfterGot g st → g ≡ got.At t → length w' ≡ length w → size ≡ sizeAt s at
-        → x ≡ blit (4096 + 3 * count) (at ∷ align8 (t .next) ∷ (t .used - st .used) ∷ []) w'
-        → r ≡ record { used = t .used; next = align8 (align8 (t .next) + size) } → b ≡ firstLink s at
-        → Chaining s w₀ a st₀ x b (count + 1) (turns - 1) r
+          → x ≡ blit (4096 + 3 * count) (at ∷ align8 (t .next) ∷ (t .used - st .used) ∷ []) w'
+          → r ≡ record { used = t .used; next = align8 (align8 (t .next) + size) } → b ≡ firstLink s at
+          → Chaining s w₀ a st₀ x b (count + 1) (turns - 1) r
       unfolding attachMore attach
       chain-next {t} {r} {b} {size} {x} f q k z j i y =
           let d = copied-at c q in
@@ -314,8 +328,8 @@ module _ {s w₀ : List ℕ} {a : ℕ} {st₀ : Copying} {w : List ℕ} {at coun
           let near' = align-near (align8 (t .next) + size) in
           let words : length (attachmentWords (m .told .attachments)) ≡ 3 * count = length-words (m .told .attachments) ∙ ap (λ (n : ℕ). 3 * n) (m .counted) in
           let past : Past (2 * t .used) (blit attachmentsAt (attachmentWords (told .attachments)) w₀) x =
-                rw (words-snoc (m .told .attachments) new, own, blit-append (attachmentWords (m .told .attachments)) 4096 _ w₀, words, j)
-                (past-blit _ (4096 + 3 * count) (omega arith) (past-then (past-more _ (omega arith) (m .past)) (d .1))) in
+          rw (words-snoc (m .told .attachments) new, own, blit-append (attachmentWords (m .told .attachments)) 4096 _ w₀, words, j)
+          (past-blit _ (4096 + 3 * count) (omega arith) (past-then (past-more _ (omega arith) (m .past)) (d .1))) in
           rw i
           (record {
             moving = record {
@@ -326,11 +340,13 @@ module _ {s w₀ : List ℕ} {a : ℕ} {st₀ : Copying} {w : List ℕ} {at coun
               more = omega arith;
               most = omega arith;
               near = omega arith;
-              past = past };
+              past = past;
+            };
             same = long ∙ k ∙ u .same;
             words = omega arith;
             short = u .short;
             start = u .start;
             sum = omega arith;
             room = record { few = omega arith; near = omega arith };
-            rest = rw y (rw (u .moving .made, followed (d .0)) at (opened e)) })
+            rest = rw y (rw (u .moving .made, followed (d .0)) at (opened e));
+          })

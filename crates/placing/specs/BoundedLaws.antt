@@ -32,27 +32,28 @@ signal-small s unsigned e h k = omega arith
 signal-small s (signalData fs) e h k = fragments-small s fs e h k
 
 pub all-bounded : (s : List ℕ) (size : ℕ) (cs : List Column) → length s ≤ 4294967296 → blocksIn s size cs ≡ fine
-  → ((c : Column) → In c cs → Known s c) → AllBounded s size cs
+    → ((c : Column) → In c cs → Known s c) → AllBounded s size cs
 all-bounded s size cs h b z = record {
-    each = λ c i.
+  each = λ c i.
       let k = z c i in
       record {
         blocks = blocks-small s size cs c b i;
         payload = payload-small s c (k .ready) h (k .few);
-        signal = signal-small s (c .signalOf) (k .signals) h (k .fewSignals) }
-  }
+        signal = signal-small s (c .signalOf) (k .signals) h (k .fewSignals);
+      };
+}
 
 -- the columns of a plan, in the words that planning leaves, are within the bounds
 pub plan-within : (s : List ℕ) (size : ℕ) (p : Plan) (fs : List Fragment) (w f : List ℕ) → length (p .columns) ≤ 512 → 4096 ≤ length w
-  → length fs + length (signalFragments (p .columns)) ≤ 1024 → 3072 ≤ length f → AllBounded s size (p .columns)
-  → AllWithin s size (laidPlan (length fs) p w) (blit 0 (fragmentWords (fs ++ signalFragments (p .columns))) f) 0 (length (p .columns))
+    → length fs + length (signalFragments (p .columns)) ≤ 1024 → 3072 ≤ length f → AllBounded s size (p .columns)
+    → AllWithin s size (laidPlan (length fs) p w) (blit 0 (fragmentWords (fs ++ signalFragments (p .columns))) f) 0 (length (p .columns))
 plan-within s size p fs w f a b c d e =
     all-within s size (laidPlan (length fs) p w) (blit 0 (fragmentWords (fs ++ signalFragments (p .columns))) f) (length fs) 0 (p .columns)
     (columns-stand p fs w f a b c d) c e
 
 -- and what is laid out over those words is the plan's layout
 pub plan-laid : (s : List ℕ) (size text : ℕ) (p : Plan) (fs : List Fragment) (w f : List ℕ) (n : ℕ) {m m' : List ℕ} {r : Laid}
-  → length (p .columns) ≤ 512 → 4096 ≤ length w → length fs + length (signalFragments (p .columns)) ≤ 1024 → 3072 ≤ length f → length (p .columns) ≡ n
-  → LaysOut s size text (laidPlan (length fs) p w) (blit 0 (fragmentWords (fs ++ signalFragments (p .columns))) f) n m m' r
-  → Lays m m' r (layout s size text (p .columns))
+    → length (p .columns) ≤ 512 → 4096 ≤ length w → length fs + length (signalFragments (p .columns)) ≤ 1024 → 3072 ≤ length f → length (p .columns) ≡ n
+    → LaysOut s size text (laidPlan (length fs) p w) (blit 0 (fragmentWords (fs ++ signalFragments (p .columns))) f) n m m' r
+    → Lays m m' r (layout s size text (p .columns))
 plan-laid s size text p fs w f n a b c d l h = h .is (length fs) (p .columns) (columns-stand p fs w f a b c d) l

@@ -21,8 +21,27 @@ use Rattle.plan.specs.Layout.{columnWidth, columnBlocks, cgSize, structureSize,
 use Rattle.result.specs.Guarantee.{here, there}
 use Rattle.placing.specs.Roots.{roots, roots-of}
 use Rattle.placing.specs.AttachingLaws.{getD-before}
-use Rattle.placing.specs.InWords.{widthAt, blocksAt, payloadAt, cgBytes, structureAt, blocksEndAt, sizesIn, signalAt, signalEndAt,
-  structuresIn, dataIn, placedIn, rootsAt, copiesOf, Within, AllWithin, Columns, signalBytesOf, AllBounded}
+use Rattle.placing.specs.InWords.{
+  widthAt,
+  blocksAt,
+  payloadAt,
+  cgBytes,
+  structureAt,
+  blocksEndAt,
+  sizesIn,
+  signalAt,
+  signalEndAt,
+  structuresIn,
+  dataIn,
+  placedIn,
+  rootsAt,
+  copiesOf,
+  Within,
+  AllWithin,
+  Columns,
+  signalBytesOf,
+  AllBounded,
+}
 use Rattle.placing.specs.InWordsLaws.{cg-yes, cg-no}
 
 -- ---- words of fragments
@@ -43,13 +62,13 @@ words-after : (fs gs : List Fragment) (j : ℕ) → getD (fragmentWords (fs ++ g
 words-after fs gs j = rw (words-append fs gs, ← length-fragments fs) (getD-append-add (fragmentWords fs) (fragmentWords gs) j 0)
 
 sizes-stand : (f : List ℕ) (q : ℕ) (fs : List Fragment) → ((j : ℕ) → j < 3 * length fs → getD f (q + j) 0 ≡ getD (fragmentWords fs) j 0)
-  → sizesIn f q (length fs) ≡ sizeOf fs
+    → sizesIn f q (length fs) ≡ sizeOf fs
 unfolding sizesIn sizeOf fragmentWords
 sizes-stand f q [] h = refl
 sizes-stand f q (x ∷ fs) h =
     let first : getD f (q + 1) 0 ≡ x .size = h 1 (omega arith) in
     let rest : sizesIn f (q + 3) (length fs) ≡ sizeOf fs =
-          sizes-stand f (q + 3) fs (λ j l. let e : q + 3 + j ≡ q + suc (suc (suc j)) = omega arith in rw e (h (suc (suc (suc j))) (omega arith))) in
+    sizes-stand f (q + 3) fs (λ j l. let e : q + 3 + j ≡ q + suc (suc (suc j)) = omega arith in rw e (h (suc (suc (suc j))) (omega arith))) in
     rw (first, rest)
 
 in-size : (g : Signal) → length (fragmentsIn g) ≡ sizeOfSignal g
@@ -88,7 +107,8 @@ module _ (w f : List ℕ) (m p : ℕ) (c : Column) (cs : List Column) (h : Colum
         master = h .at 5 (omega arith);
         signal = h .at 6 (omega arith);
         pieces = h .at 7 (omega arith);
-        fragments = reads-pieces }
+        fragments = reads-pieces;
+      }
 
   rest-at : (j : ℕ) → j < 8 * length cs → getD w (p + 8 + j) 0 ≡ getD (columnsWords (m + sizeOfSignal (c .signalOf)) cs) j 0
   unfolding columnsWords columnWords
@@ -97,12 +117,12 @@ module _ (w f : List ℕ) (m p : ℕ) (c : Column) (cs : List Column) (h : Colum
       rw e (h .at (8 + j) (omega arith) ∙ getD-append-add (columnWords m c) (columnsWords (m + sizeOfSignal (c .signalOf)) cs) j 0)
 
   rest-pieces : (j : ℕ) → j < 3 * length (signalFragments cs)
-    → getD f (3 * (m + sizeOfSignal (c .signalOf)) + j) 0 ≡ getD (fragmentWords (signalFragments cs)) j 0
+      → getD f (3 * (m + sizeOfSignal (c .signalOf)) + j) 0 ≡ getD (fragmentWords (signalFragments cs)) j 0
   unfolding signalFragments
   rest-pieces j l =
       let e : 3 * (m + sizeOfSignal (c .signalOf)) + j ≡ 3 * m + (3 * length (fragmentsIn (c .signalOf)) + j) = omega (arith, in-size (c .signalOf)) in
       rw e (h .fragmentsAt (3 * length (fragmentsIn (c .signalOf)) + j) (omega (arith, longer, in-size (c .signalOf)))
-        ∙ words-after (fragmentsIn (c .signalOf)) (signalFragments cs) j)
+      ∙ words-after (fragmentsIn (c .signalOf)) (signalFragments cs) j)
 
   pub stand-rest : Columns w f (m + sizeOfSignal (c .signalOf)) (p + 8) cs
   stand-rest = record { at = rest-at; fragmentsAt = rest-pieces }
@@ -165,7 +185,7 @@ signal-few w f m p (signalData fs) r h = omega (arith, r .signal, r .pieces)
 
 -- past all the data of a column
 column-end : {w f : List ℕ} {m p : ℕ} {c : Column} → Reads w f m p c → (s : List ℕ) (size d : ℕ)
-  → signalEndAt w f p (blocksEndAt s size w p d) ≡ signalEnd (c .signalOf) (blocksEnd s size c d)
+    → signalEndAt w f p (blocksEndAt s size w p d) ≡ signalEnd (c .signalOf) (blocksEnd s size c d)
 column-end {w} {f} {m} {p} {c} r s size d =
     ap (signalEndAt w f p) (blocks-end-of r s size d) ∙ signal-end w f m p (blocksEnd s size c d) (c .signalOf) (sized r)
 
@@ -191,19 +211,19 @@ module _ (s : List ℕ) (size : ℕ) (w f : List ℕ) where
       ∙ data-of (m + sizeOfSignal (c .signalOf)) (p + 8) (signalEnd (c .signalOf) (blocksEnd s size c d)) cs (stand-rest w f m p c cs h)
 
   pub placed-of : (m p a d : ℕ) (cs : List Column) → Columns w f m p cs
-    → placedIn s size w f p (length cs) a d ≡ placedWords (placedFrom s size a d cs)
+      → placedIn s size w f p (length cs) a d ≡ placedWords (placedFrom s size a d cs)
   unfolding placedIn placedFrom placedWords
   placed-of m p a d [] h = refl
   placed-of m p a d (c ∷ cs) h =
       let r = stand-reads w f m p c cs h in
       ap (λ (x : ℕ). a ∷ d ∷ x ∷ placedIn s size w f (p + 8) (length cs) (a + structureAt s size w p) (signalEndAt w f p (blocksEndAt s size w p d)))
-        (blocks-end-of r s size d)
+      (blocks-end-of r s size d)
       ∙ ap (λ (x : ℕ). a ∷ d ∷ blocksEnd s size c d ∷ placedIn s size w f (p + 8) (length cs) (a + x) (signalEndAt w f p (blocksEndAt s size w p d)))
-        (structure-of r s size)
+      (structure-of r s size)
       ∙ ap (λ (x : ℕ). a ∷ d ∷ blocksEnd s size c d ∷ placedIn s size w f (p + 8) (length cs) (a + structureSize s size c) x) (column-end r s size d)
       ∙ ap (λ (l : List ℕ). a ∷ d ∷ blocksEnd s size c d ∷ l)
-        (placed-of (m + sizeOfSignal (c .signalOf)) (p + 8) (a + structureSize s size c) (signalEnd (c .signalOf) (blocksEnd s size c d)) cs
-        (stand-rest w f m p c cs h))
+      (placed-of (m + sizeOfSignal (c .signalOf)) (p + 8) (a + structureSize s size c) (signalEnd (c .signalOf) (blocksEnd s size c d)) cs
+      (stand-rest w f m p c cs h))
 
   pub copies-of : (m p : ℕ) (cs : List Column) (x : Copies) → Columns w f m p cs → copiesOf s w p (length cs) x ≡ columnCopies s cs x
   unfolding copiesOf columnCopies
@@ -214,11 +234,11 @@ module _ (s : List ℕ) (size : ℕ) (w f : List ℕ) where
 
   -- bounds of columns are bounds of their words
   pub all-within : (m p : ℕ) (cs : List Column) → Columns w f m p cs → m + length (signalFragments cs) ≤ 1024 → AllBounded s size cs
-    → AllWithin s size w f p (length cs)
+      → AllWithin s size w f p (length cs)
   all-within m p cs h l b = record { each = λ k i. at m p cs k h l b i }
     where
       at : (m p : ℕ) (cs : List Column) (k : ℕ) → Columns w f m p cs → m + length (signalFragments cs) ≤ 1024 → AllBounded s size cs → k < length cs
-        → Within s size w f (p + 8 * k)
+          → Within s size w f (p + 8 * k)
       at m p [] k h l b i = absurd (omega arith)
       at m p (c ∷ cs) zero h l b i =
           let r = stand-reads w f m p c cs h in
@@ -228,11 +248,12 @@ module _ (s : List ℕ) (size : ℕ) (w f : List ℕ) where
             blocks = omega (arith, blocks-of r s size, g .blocks);
             payload = omega (arith, payload-of r s, g .payload);
             fragments = signal-few w f m p (c .signalOf) (sized r) (omega (arith, l, longer w f m p c cs h));
-            signal = omega (arith, signal-bytes w f m p (c .signalOf) (sized r), g .signal) })
+            signal = omega (arith, signal-bytes w f m p (c .signalOf) (sized r), g .signal);
+          })
       at m p (c ∷ cs) (suc k) h l b i =
           let e : p + 8 * suc k ≡ p + 8 + 8 * k = omega arith in
           rw e (at (m + sizeOfSignal (c .signalOf)) (p + 8) cs k (stand-rest w f m p c cs h) (omega (arith, l, longer w f m p c cs h))
-            (record { each = λ x j. b .each x (there j) }) (omega arith))
+          (record { each = λ x j. b .each x (there j) }) (omega arith))
 
 -- ---- the words that planning leaves
 blit-among : (bs : List ℕ) (j k : ℕ) (l : List ℕ) → k < length bs → j + k < length l → getD (blit j bs l) (j + k) 0 ≡ getD bs k 0
@@ -250,7 +271,7 @@ length-columns n [] = refl
 length-columns n (c ∷ cs) = let h = length-columns (n + sizeOfSignal (c .signalOf)) cs in omega arith
 
 module _ (p : Plan) (fs : List Fragment) (w f : List ℕ) (few : length (p .columns) ≤ 512) (long : 4096 ≤ length w)
-  (fewFragments : length fs + length (signalFragments (p .columns)) ≤ 1024) (longFragments : 3072 ≤ length f) where
+    (fewFragments : length fs + length (signalFragments (p .columns)) ≤ 1024) (longFragments : 3072 ≤ length f) where
   pub columns-stand : Columns (laidPlan (length fs) p w) (blit 0 (fragmentWords (fs ++ signalFragments (p .columns))) f) (length fs) 0 (p .columns)
   unfolding laidPlan
   columns-stand =
@@ -260,9 +281,10 @@ module _ (p : Plan) (fs : List Fragment) (w f : List ℕ) (few : length (p .colu
       let e = length-columns (length fs) (p .columns) in
       record {
         at = λ j r.
-          getD-before (omissionPairs (p .omissions)) 4096 (0 + j) (blit 0 (columnsWords (length fs) (p .columns)) w) (omega arith)
-          ∙ blit-among (columnsWords (length fs) (p .columns)) 0 j w (omega arith) (omega arith);
+            getD-before (omissionPairs (p .omissions)) 4096 (0 + j) (blit 0 (columnsWords (length fs) (p .columns)) w) (omega arith)
+            ∙ blit-among (columnsWords (length fs) (p .columns)) 0 j w (omega arith) (omega arith);
         fragmentsAt = λ j r.
-          let z : 0 + (3 * length fs + j) ≡ 3 * length fs + j = omega arith in
-          (rw z at (blit-among (fragmentWords (fs ++ signalFragments (p .columns))) 0 (3 * length fs + j) f (omega arith) (omega arith)))
-          ∙ words-after fs (signalFragments (p .columns)) j }
+            let z : 0 + (3 * length fs + j) ≡ 3 * length fs + j = omega arith in
+            (rw z at (blit-among (fragmentWords (fs ++ signalFragments (p .columns))) 0 (3 * length fs + j) f (omega arith) (omega arith)))
+            ∙ words-after fs (signalFragments (p .columns)) j;
+      }

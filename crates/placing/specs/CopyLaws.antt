@@ -23,13 +23,13 @@ use Rattle.placing.specs.Begin.{beginAt, onFound, throughLinks, onBegun}
 
 -- ---- copying is how it begins, then the block's links and the block
 pub copy-begun : (left : ℕ) (s way : List ℕ) (a : ℕ) (m : Copies)
-  → copyAt left s way a m ≡ onBegun (beginAt left s way a (m .memo)) m (throughLinks (left - 1) s way a m)
+    → copyAt left s way a m ≡ onBegun (beginAt left s way a (m .memo)) m (throughLinks (left - 1) s way a m)
 unfolding copyAt beginAt throughLinks ifEq ifLt
 copy-begun zero s way a m =
     go (eqb a 0) (copyOf a (m .memo))
   where
     go : (e : Bool) (o : Option ℕ)
-      → pick e (ok m) (onCopy o m (refused 16 a)) ≡ onBegun (pick e (ok false) (onFound o (refused 16 a))) m (throughLinks (0 - 1) s way a m)
+        → pick e (ok m) (onCopy o m (refused 16 a)) ≡ onBegun (pick e (ok false) (onFound o (refused 16 a))) m (throughLinks (0 - 1) s way a m)
     go true o = refl
     go false none = refl
     go false (some x) = refl
@@ -38,8 +38,8 @@ copy-begun (suc left) s way a m =
     (go (eqb a 0) (copyOf a (m .memo)) (isIn a way) (wholeAt s a) (isCopied (kindAt s a)) (ltb (length (m .memo) + length way) mostCopies))
   where
     go : (e : Bool) (o : Option ℕ) (i : Bool) (v : Verdict) (k l : Bool)
-      → pick e (ok m) (onCopy o m (pick i (refused 16 a) (andThen v (λ _. pick k (pick l (throughLinks left s way a m) (refused 19 a)) (ok m)))))
-      ≡ onBegun
+        → pick e (ok m) (onCopy o m (pick i (refused 16 a) (andThen v (λ _. pick k (pick l (throughLinks left s way a m) (refused 19 a)) (ok m)))))
+        ≡ onBegun
         (pick e (ok false) (onFound o (pick i (refused 16 a) (andThen v (λ _. pick k (pick l (ok true) (refused 19 a)) (ok false))))))
         m (throughLinks left s way a m)
     go true o i v k l = refl
@@ -65,9 +65,9 @@ begun-going left s way a memo e =
     go (eqb a 0) (copyOf a memo) (eqb left 0) (isIn a way) (wholeAt s a) (isCopied (kindAt s a)) (ltb (length memo + length way) mostCopies) refl refl refl e
   where
     go : (b : Bool) (o : Option ℕ) (d i : Bool) (v : Verdict) (k l : Bool) → eqb left 0 ≡ d → wholeAt s a ≡ v → ltb (length memo + length way) mostCopies ≡ l
-      → pick b (ok false)
+        → pick b (ok false)
         (onFound o (pick d (refused 16 a) (pick i (refused 16 a) (andThen v (λ _. pick k (pick l (ok true) (refused 19 a)) (ok false))))))
-      ≡ ok true → Going left s way a memo
+        ≡ ok true → Going left s way a memo
     go true o d i v k l x y z e = absurd (false≢true e)
     go false (some t) d i v k l x y z e = absurd (false≢true e)
     go false none true i v k l x y z e = absurd (refused≢ok e)
@@ -92,13 +92,13 @@ grown-then : {d : ℕ} {m x y : Copies} → Grown d m x → Grown d x y → Grow
 grown-then g h = record { more = omega arith; most = h .most; near = omega arith }
 
 then-grown : (d : ℕ) (m m' : Copies) (v : Checked Copies) (f : Copies → Checked Copies) → ((x : Copies) → v ≡ ok x → Grown d m x)
-  → ((x : Copies) → length (x .memo) + d ≤ 2048 → f x ≡ ok m' → Grown d x m') → andThen v f ≡ ok m' → Grown d m m'
+    → ((x : Copies) → length (x .memo) + d ≤ 2048 → f x ≡ ok m' → Grown d x m') → andThen v f ≡ ok m' → Grown d m m'
 then-grown d m m' (ok x) f g k e = let h = g x refl in grown-then h (k x (h .most) e)
 then-grown d m m' (refused n p) f g k e = absurd (refused≢ok e)
 
 pub links-grow : (step : ℕ → Copies → Checked Copies) (d : ℕ) (s : List ℕ)
-  → ((a : ℕ) (m m' : Copies) → length (m .memo) + d ≤ 2048 → step a m ≡ ok m' → Grown d m m')
-  → (n p : ℕ) (m m' : Copies) → length (m .memo) + d ≤ 2048 → copyLinks step s n p m ≡ ok m' → Grown d m m'
+    → ((a : ℕ) (m m' : Copies) → length (m .memo) + d ≤ 2048 → step a m ≡ ok m' → Grown d m m')
+    → (n p : ℕ) (m m' : Copies) → length (m .memo) + d ≤ 2048 → copyLinks step s n p m ≡ ok m' → Grown d m m'
 unfolding copyLinks
 links-grow step d s g zero p m m' h e = grown-same d (ok-same e) h
 links-grow step d s g (suc n) p m m' h e =
@@ -112,29 +112,32 @@ grown-placed d a size {m} {x} h g e =
     (record {
       more = simp length-append (omega arith);
       most = simp length-append (omega arith);
-      near = simp length-append (omega (arith, align-near (x .next))) })
+      near = simp length-append (omega (arith, align-near (x .next)));
+    })
 
 copy-grown : (left : ℕ) (s way : List ℕ) (a : ℕ) (m m' : Copies) → length (m .memo) + length way ≤ 2048
-  → ((b : ℕ) (n n' : Copies) → length (n .memo) + suc (length way) ≤ 2048 → copyAt left s (a ∷ way) b n ≡ ok n' → Grown (suc (length way)) n n')
-  → copyAt (suc left) s way a m ≡ ok m' → Grown (length way) m m'
+    → ((b : ℕ) (n n' : Copies) → length (n .memo) + suc (length way) ≤ 2048 → copyAt left s (a ∷ way) b n ≡ ok n' → Grown (suc (length way)) n n')
+    → copyAt (suc left) s way a m ≡ ok m' → Grown (length way) m m'
 unfolding throughLinks
 copy-grown left s way a m m' h g e = go (beginAt (suc left) s way a (m .memo)) refl (sym (copy-begun (suc left) s way a m) ∙ e)
   where
     links : Checked Copies
     links = copyLinks (copyAt left s (a ∷ way)) s (linksAt s a - lostLinks s a) (a + 24 + 8 * lostLinks s a) m
+
     done : (v : Checked Copies) → links ≡ v → Going (suc left) s way a (m .memo) → andThen v (λ x. ok (placed a (sizeAt s a) x)) ≡ ok m' → Grown (length way) m m'
     done (ok x) q f e =
         grown-placed (length way) a (sizeAt s a) (f .whole .short)
         (links-grow (copyAt left s (a ∷ way)) (suc (length way)) s g (linksAt s a - lostLinks s a) (a + 24 + 8 * lostLinks s a) m x (omega arith) q)
         (ok-same e)
     done (refused k p) q f e = absurd (refused≢ok e)
+
     go : (b : Checked Bool) → beginAt (suc left) s way a (m .memo) ≡ b → onBegun b m (throughLinks (suc left - 1) s way a m) ≡ ok m' → Grown (length way) m m'
     go (ok false) q e = grown-same (length way) (ok-same e) h
     go (ok true) q e = done links refl (begun-going (suc left) s way a (m .memo) q) (rw sub-one at e)
     go (refused k p) q e = absurd (refused≢ok e)
 
 pub copy-grows : (left : ℕ) (s way : List ℕ) (a : ℕ) (m m' : Copies) → length (m .memo) + length way ≤ 2048 → copyAt left s way a m ≡ ok m'
-  → Grown (length way) m m'
+    → Grown (length way) m m'
 copy-grows zero s way a m m' h e = go (beginAt 0 s way a (m .memo)) refl (sym (copy-begun 0 s way a m) ∙ e)
   where
     go : (b : Checked Bool) → beginAt 0 s way a (m .memo) ≡ b → onBegun b m (throughLinks (0 - 1) s way a m) ≡ ok m' → Grown (length way) m m'

@@ -63,18 +63,18 @@ unfolding decided rest plannedOf
 decided-rest x =
     let s = x .image in
     let k : Arranged → Checked Decided = λ a.
-          andThen (layout s (x .blockSize) (length (x .text)) (a .planned .columns)) (λ l.
-          ok (record { groups = srcGroups (dataGroups (a .source)) (a .numbers); planned = a .planned; laidOut = l })) in
+    andThen (layout s (x .blockSize) (length (x .text)) (a .planned .columns)) (λ l.
+    ok (record { groups = srcGroups (dataGroups (a .source)) (a .numbers); planned = a .planned; laidOut = l })) in
     sym (same-steps (lentIn x) _ _ (λ _.
-      same-steps (ifEq (x .blockSize) 0 (refused 2 0) fine) _ _ (λ _.
-      same-steps (ifLt 4294967296 (length s) (refused 3 0) fine) _ _ (λ _.
-      steps (identified s) _ k ∙ same-steps (identified s) _ _ (λ _.
-      steps (walk s) _ k ∙ same-steps (walk s) _ _ (λ st.
-      steps (counts s (dataGroups st)) _ k ∙ same-steps (counts s (dataGroups st)) _ _ (λ ns.
-      steps (plan s (length (st .fragments)) (srcGroups (dataGroups st) ns)) _ k
-        ∙ same-steps (plan s (length (st .fragments)) (srcGroups (dataGroups st) ns)) _ _ (λ p.
-      steps (allDataIn s (p .columns) (dataGroups st)) _ k ∙ same-steps (allDataIn s (p .columns) (dataGroups st)) _ _ (λ _.
-      steps (blocksIn s (x .blockSize) (p .columns)) _ k)))))))))
+    same-steps (ifEq (x .blockSize) 0 (refused 2 0) fine) _ _ (λ _.
+    same-steps (ifLt 4294967296 (length s) (refused 3 0) fine) _ _ (λ _.
+    steps (identified s) _ k ∙ same-steps (identified s) _ _ (λ _.
+    steps (walk s) _ k ∙ same-steps (walk s) _ _ (λ st.
+    steps (counts s (dataGroups st)) _ k ∙ same-steps (counts s (dataGroups st)) _ _ (λ ns.
+    steps (plan s (length (st .fragments)) (srcGroups (dataGroups st) ns)) _ k
+    ∙ same-steps (plan s (length (st .fragments)) (srcGroups (dataGroups st) ns)) _ _ (λ p.
+    steps (allDataIn s (p .columns) (dataGroups st)) _ k ∙ same-steps (allDataIn s (p .columns) (dataGroups st)) _ _ (λ _.
+    steps (blocksIn s (x .blockSize) (p .columns)) _ k)))))))))
 
 -- ---- the lent slices
 module _ (ident text : List ℕ) where
@@ -106,7 +106,7 @@ module _ (ident text : List ℕ) where
 
 -- ---- planning's answer
 plan-into : (s : List ℕ) (size : ℕ) (w f c : List ℕ) → 8192 ≤ length w → 8192 ≤ length f → 8192 ≤ length c
-  → leftBy (plannedOf s size) w f c ≡ planInto s size w f c
+    → leftBy (plannedOf s size) w f c ≡ planInto s size w f c
 unfolding planInto
 plan-into s size w f c l m n = lt-no _ _ _ _ (omega arith) (lt-no _ _ _ _ (omega arith) (lt-no _ _ _ _ (omega arith) refl))
 
@@ -129,18 +129,18 @@ pub record PlannedIn (s : List ℕ) (size i nf nc no' : ℕ) (w f c w' f' c' : L
   pub inColumns : c' ≡ laidPlan (length (told .source .fragments)) (told .planned) c
 
 planned-by : (s : List ℕ) (size i nf nc no' : ℕ) (w f c w' f' c' : List ℕ) (v : Checked Arranged) → plannedOf s size ≡ v
-  → planLeft (planned.Done i nf nc no') w' f' c' ≡ leftBy v w f c → PlannedIn s size i nf nc no' w f c w' f' c'
+    → planLeft (planned.Done i nf nc no') w' f' c' ≡ leftBy v w f c → PlannedIn s size i nf nc no' w f c w' f' c'
 planned-by s size i nf nc no' w f c w' f' c' (refused x y) p z = absurd (done≢refused z)
 planned-by s size i nf nc no' w f c w' f' c' (ok a) p z =
     record { told = a; is = p; items = cc; fragments = cc; columns = cc; omissions = cc; inSource = cc; inFragments = cc; inColumns = cc }
 
 refused-by : (s : List ℕ) (size x y : ℕ) (w f c w' f' c' : List ℕ) (v : Checked Arranged) → plannedOf s size ≡ v
-  → planLeft (planned.Refused x y) w' f' c' ≡ leftBy v w f c → plannedOf s size ≡ refused x y
+    → planLeft (planned.Refused x y) w' f' c' ≡ leftBy v w f c → plannedOf s size ≡ refused x y
 refused-by s size x y w f c w' f' c' (refused n m) p z = let a : n ≡ x = cc in let b : m ≡ y = cc in p ∙ rw (a, b)
 refused-by s size x y w f c w' f' c' (ok a) p z = absurd (refused≢done z)
 
 module _ (s : List ℕ) (size : ℕ) (w f c w' f' c' : List ℕ) (r : answer.Planned) (e : planLeft r w' f' c' ≡ planInto s size w f c)
-  (l : 8192 ≤ length w) (m : 8192 ≤ length f) (n : 8192 ≤ length c) where
+    (l : 8192 ≤ length w) (m : 8192 ≤ length f) (n : 8192 ≤ length c) where
   pub plans-done : {i nf nc no' : ℕ} → r ≡ planned.Done i nf nc no' → PlannedIn s size i nf nc no' w f c w' f' c'
   plans-done {i} {nf} {nc} {no'} q = planned-by s size i nf nc no' w f c w' f' c' (plannedOf s size) refl (rw q at (e ∙ sym (plan-into s size w f c l m n)))
 
@@ -210,7 +210,8 @@ module _ {s : List ℕ} {size i nf nc no' : ℕ} {w f c w' f' c' : List ℕ} (t 
         ready = ready s (dataGroups (t .told .source)) (t .told .planned .columns) (by .counted) (by .dataFine) c j (source .0) fit (source .1);
         signals = column-signal s (dataGroups (t .told .source)) (t .told .planned .columns) (by .counted) (by .dataFine) c j (source .0);
         few = omega (arith, fragments-few (t .told .source .fragments) (t .told .source .items) (c .group .dataGroup) (m .listed), known .fewFragments);
-        fewSignals = omega (arith, plan-signals s all n (t .told .planned) one (known .nonzero) (known .fewFragments) (by .planned) c j) }
+        fewSignals = omega (arith, plan-signals s all n (t .told .planned) one (known .nonzero) (known .fewFragments) (by .planned) c j);
+      }
 
   module _ (h : length s ≤ 4294967296) (lf : 8192 ≤ length f) (lc : 8192 ≤ length c) where
     -- what lay_out asks
@@ -220,15 +221,15 @@ module _ {s : List ℕ} {size i nf nc no' : ℕ} {w f c w' f' c' : List ℕ} (t 
     pub lays-within : AllWithin s size c' f' 0 nc
     lays-within =
         rw (t .columns, t .inColumns, t .inFragments)
-          (plan-within s size (t .told .planned) (t .told .source .fragments) c f few-columns (omega arith) few-fragments (omega arith)
-            (all-bounded s size (t .told .planned .columns) h (by .blocksFine) column-known))
+        (plan-within s size (t .told .planned) (t .told .source .fragments) c f few-columns (omega arith) few-fragments (omega arith)
+        (all-bounded s size (t .told .planned .columns) h (by .blocksFine) column-known))
 
     -- what it gives
     pub laid-plan : {text : ℕ} {m m' : List ℕ} {r : Laid} → LaysOut s size text c' f' nc m m' r → Lays m m' r (layout s size text (t .told .planned .columns))
     laid-plan {text} {m} {m'} {r} z =
         plan-laid s size text (t .told .planned) (t .told .source .fragments) c f nc few-columns (omega arith) few-fragments (omega arith) (sym (t .columns))
-          (subst (λ (x : List ℕ). LaysOut s size text x (blit 0 (fragmentWords (t .told .source .fragments ++ signalFragments (t .told .planned .columns))) f) nc m m' r) (t .inColumns)
-            (subst (λ (y : List ℕ). LaysOut s size text c' y nc m m' r) (t .inFragments) z))
+        (subst (λ (x : List ℕ). LaysOut s size text x (blit 0 (fragmentWords (t .told .source .fragments ++ signalFragments (t .told .planned .columns))) f) nc m m' r) (t .inColumns)
+        (subst (λ (y : List ℕ). LaysOut s size text c' y nc m m' r) (t .inFragments) z))
 
 -- ---- all but the lent slices
 module _ (s : List ℕ) (size text : ℕ) where
@@ -243,8 +244,8 @@ module _ (s : List ℕ) (size text : ℕ) where
 
     module _ (l : length s ≤ 4294967296) where
       opened : rest s size text ≡ andThen (plannedOf s size) (λ a.
-        andThen (layout s size text (a .planned .columns)) (λ l.
-        ok (record { groups = srcGroups (dataGroups (a .source)) (a .numbers); planned = a .planned; laidOut = l })))
+          andThen (layout s size text (a .planned .columns)) (λ l.
+          ok (record { groups = srcGroups (dataGroups (a .source)) (a .numbers); planned = a .planned; laidOut = l })))
       unfolding rest
       opened = rw (← (eq-no size 0 (refused 2 0) fine h refl), ← (lt-no 4294967296 (length s) (refused 3 0) fine l refl))
 
@@ -255,7 +256,7 @@ module _ (s : List ℕ) (size text : ℕ) where
       rest-unlaid e f = opened ∙ rw (e, f)
 
       pub rest-laid : {a : Arranged} {v : Layout} → plannedOf s size ≡ ok a → layout s size text (a .planned .columns) ≡ ok v
-        → rest s size text ≡ ok (record { groups = srcGroups (dataGroups (a .source)) (a .numbers); planned = a .planned; laidOut = v })
+          → rest s size text ≡ ok (record { groups = srcGroups (dataGroups (a .source)) (a .numbers); planned = a .planned; laidOut = v })
       rest-laid e f = opened ∙ rw (e, f)
 
 -- ---- what the layout gives
@@ -263,8 +264,8 @@ pub unlaid : (m m' : List ℕ) (r : Laid) (v : Checked Layout) {n p : ℕ} → L
 unlaid m m' r v z e = subst (λ (r : Laid). Lays m m' r v) e z
 
 pub rest-in : (s : List ℕ) (size text : ℕ) → (size ≡ 0 → ⊥) → length s ≤ 4294967296 → {i nf nc no' : ℕ} {w f c w' f' c' : List ℕ} (t : PlannedIn s size i nf nc no' w f c w' f' c')
-  → {m m' : List ℕ} {r : Laid} {n : Numbers} → Lays m m' r (layout s size text (t .told .planned .columns)) → r ≡ laid.Done n
-  → RestIn s size text i nf nc no' n w f c m w' f' c' m'
+    → {m m' : List ℕ} {r : Laid} {n : Numbers} → Lays m m' r (layout s size text (t .told .planned .columns)) → r ≡ laid.Done n
+    → RestIn s size text i nf nc no' n w f c m w' f' c' m'
 rest-in s size text h l t {m} {m'} {r} {n} z e =
     let y : LaidOut m m' n (layout s size text (t .told .planned .columns)) = subst (λ (q : Laid). Lays m m' q (layout s size text (t .told .planned .columns))) e z in
     let b = arranged-by s size (t .told) (t .is) in
@@ -282,7 +283,8 @@ rest-in s size text h l t {m} {m'} {r} {n} z e =
       numbered = y .numbered;
       inSource = t .inSource;
       inFragments = t .inFragments;
-      inColumns = t .inColumns }
+      inColumns = t .inColumns;
+    }
 
 -- ---- the whole
 module _ (a b c d : List ℕ) where
@@ -314,7 +316,7 @@ unfolding lentIn
 lent-same image size ident text = refl
 
 module _ (image : List ℕ) (size : ℕ) (ident text : List ℕ) (ws : List (List ℕ)) (fits : workIn ws ≡ fine) (r : Check)
-  (e : verdictOf r ≡ lentIn (untimed [] 0 ident text)) where
+    (e : verdictOf r ≡ lentIn (untimed [] 0 ident text)) where
   abbrev x : Args
   x = untimed image size ident text
 
@@ -346,7 +348,7 @@ module _ (image : List ℕ) (size : ℕ) (ident text : List ℕ) (ws : List (Lis
     rest-refused k z = record { is = rw (fits, decided-is, k); words = z ∙ rw (fits, lent-passes) }
 
     pub rest-decided : {i f k o : ℕ} {n : Numbers} {a b c d a' b' c' d' : List ℕ} → 8192 ≤ length a → 8192 ≤ length b → 8192 ≤ length c → 8192 ≤ length d
-      → RestIn image size (length text) i f k o n a b c d a' b' c' d' → DecidedIn x i f k o n a b c d a' b' c' d'
+        → RestIn image size (length text) i f k o n a b c d a' b' c' d' → DecidedIn x i f k o n a b c d a' b' c' d'
     rest-decided la lb lc ld t =
         record {
           told = t .told;
@@ -366,21 +368,22 @@ module _ (image : List ℕ) (size : ℕ) (ident text : List ℕ) (ws : List (Lis
           longD = ld;
           inSource = t .inSource;
           inFragments = t .inFragments;
-          inColumns = t .inColumns }
+          inColumns = t .inColumns;
+        }
 
 -- answers taken apart
 pub rests-refused : (s : List ℕ) (size text : ℕ) (a b c d : List ℕ) (r : Decision) (a' b' c' d' : List ℕ) {n p : ℕ}
-  → DecidesRest s size text a b c d r a' b' c' d' → r ≡ Refused n p → rest s size text ≡ refused n p
+    → DecidesRest s size text a b c d r a' b' c' d' → r ≡ Refused n p → rest s size text ≡ refused n p
 rests-refused s size text a b c d r a' b' c' d' h e = subst (λ (r : Decision). DecidesRest s size text a b c d r a' b' c' d') e h
 
 pub cleared : (a b c d a' b' c' d' a'' b'' c'' d'' : List ℕ) → length a' ≡ length a → length b' ≡ length b → length c' ≡ length c → length d' ≡ length d
-  → a'' ≡ replicate (length a') 0 → b'' ≡ replicate (length b') 0 → c'' ≡ replicate (length c') 0 → d'' ≡ replicate (length d') 0
-  → four a'' b'' c'' d'' ≡ zeros (four a b c d)
+    → a'' ≡ replicate (length a') 0 → b'' ≡ replicate (length b') 0 → c'' ≡ replicate (length c') 0 → d'' ≡ replicate (length d') 0
+    → four a'' b'' c'' d'' ≡ zeros (four a b c d)
 unfolding zeros
 cleared a b c d a' b' c' d' a'' b'' c'' d'' la lb lc ld e f g h = rw (e, f, g, h, la, lb, lc, ld)
 
 pub decides-some : (x : Args) (s : List ℕ) (size text : ℕ) (a b c d a' b' c' d' : List ℕ) (r : Decision) {i g k o : ℕ} {n : Numbers}
-  → DecidesRest s size text a b c d r a' b' c' d' → r ≡ Done i g k o n
-  → (RestIn s size text i g k o n a b c d a' b' c' d' → DecidedIn x i g k o n a b c d a' b' c' d') → Decides x a b c d r a' b' c' d'
+    → DecidesRest s size text a b c d r a' b' c' d' → r ≡ Done i g k o n
+    → (RestIn s size text i g k o n a b c d a' b' c' d' → DecidedIn x i g k o n a b c d a' b' c' d') → Decides x a b c d r a' b' c' d'
 decides-some x s size text a b c d a' b' c' d' r h e f =
     subst (λ (q : Decision). Decides x a b c d q a' b' c' d') (sym e) (f (subst (λ (q : Decision). DecidesRest s size text a b c d q a' b' c' d') e h))

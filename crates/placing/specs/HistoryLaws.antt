@@ -68,15 +68,15 @@ historyMore turns s a h =
     andThen (copyRoot s a (h .made)) (λ m. historyFrom turns s (firstLink s a) (history (h .chain ++ (a ∷ [])) m))
 
 history-open : (turns : ℕ) (s : List ℕ) (a : ℕ) (h : History) → 0 < turns
-  → historyFrom turns s a h ≡ onGoes (goesOn s a (h .chain)) h (historyMore (turns - 1) s a h)
+    → historyFrom turns s a h ≡ onGoes (goesOn s a (h .chain)) h (historyMore (turns - 1) s a h)
 unfolding historyFrom goesOn ifEq historyMore
 history-open zero s a h p = absurd (omega arith)
 history-open (suc turns) s a h p =
     rw sub-one (go (eqb a 0) (isIn a (h .chain)) (wholeAt s a) (isCopied (kindAt s a)) (eqb (linksAt s a) 0))
   where
     go : (e i : Bool) (v : Verdict) (k l : Bool)
-      → pick e (ok h) (pick i (ok h) (andThen v (λ _. pick k (pick l (refused 17 a) (historyMore turns s a h)) (ok h))))
-      ≡ onGoes (pick e (ok false) (pick i (ok false) (andThen v (λ _. pick k (pick l (refused 17 a) (ok true)) (ok false))))) h (historyMore turns s a h)
+        → pick e (ok h) (pick i (ok h) (andThen v (λ _. pick k (pick l (refused 17 a) (historyMore turns s a h)) (ok h))))
+        ≡ onGoes (pick e (ok false) (pick i (ok false) (andThen v (λ _. pick k (pick l (refused 17 a) (ok true)) (ok false))))) h (historyMore turns s a h)
     go true i v k l = refl
     go false true v k l = refl
     go false false (refused n p) k l = refl
@@ -105,7 +105,7 @@ past-both {n} {x} {y} j b h p =
     record { kept = rw (e, drop-set-add n y (j - n) b, drop-set-add n x (j - n) b, p .kept) }
 
 pub past-snoc : {n : ℕ} {y : List ℕ} (i : ℕ) (bs x : List ℕ) (k b : ℕ) → length bs ≡ k → n ≤ i → Past n (blit i bs x) y
-  → Past n (blit i (bs ++ (b ∷ [])) x) (set y (i + k) b)
+    → Past n (blit i (bs ++ (b ∷ [])) x) (set y (i + k) b)
 past-snoc i bs x k b l h p =
     rw (blit-append bs i (b ∷ []) x, l, blit-one (i + k) b (blit i bs x)) (past-both (i + k) b (omega arith) p)
 
@@ -124,7 +124,7 @@ walk-begin s w a st h r =
     record { same = refl; words = h; sum = refl; after = after-same st r; past = past-same _ w; rest = refl }
 
 module _ {s w₀ : List ℕ} {a : ℕ} {st₀ : Copying} {w : List ℕ} {at count turns : ℕ} {st : Copying}
-  (u : Walked s w₀ a st₀ w at count turns st) where
+    (u : Walked s w₀ a st₀ w at count turns st) where
   laid-here : ChainLaid count w₀ w st₀ st
   laid-here = record { few = omega arith; after = u .after; past = u .past }
 
@@ -134,8 +134,8 @@ module _ {s w₀ : List ℕ} {a : ℕ} {st₀ : Copying} {w : List ℕ} {at coun
 
   module _ (h : 0 < turns) where
     opened : {v : Checked Bool} → goesOn s at (chainIn w count) ≡ v
-      → onGoes v (history (chainIn w count) (standing w st)) (historyMore (turns - 1) s at (history (chainIn w count) (standing w st)))
-      ≡ historyOf s a (standing w₀ st₀)
+        → onGoes v (history (chainIn w count) (standing w st)) (historyMore (turns - 1) s at (history (chainIn w count) (standing w st)))
+        ≡ historyOf s a (standing w₀ st₀)
     opened e =
         ap (λ (v : Checked Bool). onGoes v (history (chainIn w count) (standing w st)) (historyMore (turns - 1) s at (history (chainIn w count) (standing w st)))) (sym e)
         ∙ sym (history-open turns s at (history (chainIn w count) (standing w st)) h) ∙ u .rest
@@ -152,7 +152,7 @@ module _ {s w₀ : List ℕ} {a : ℕ} {st₀ : Copying} {w : List ℕ} {at coun
       walk-stopped q = record { is = rw (sym (copied-refused c q)) at (opened e); laid = tt }
 
       pub walk-next : {t : Copying} {b : ℕ} → AfterGot g st → g ≡ got.At t → length w' ≡ length w → b ≡ firstLink s at
-        → Walked s w₀ a st₀ (set w' (4352 + count) at) b (count + 1) (turns - 1) t
+          → Walked s w₀ a st₀ (set w' (4352 + count) at) b (count + 1) (turns - 1) t
       unfolding historyMore
       walk-next {t} {b} f q l z =
           let k = after-at f q in
@@ -167,5 +167,6 @@ module _ {s w₀ : List ℕ} {a : ℕ} {st₀ : Copying} {w : List ℕ} {at coun
             sum = omega arith;
             after = after-then (u .after) k;
             past = rw more (past-snoc historyAt (chainIn w count) w₀ count at (length-part 4352 count w (omega arith)) (omega arith)
-              (past-then (past-more _ (omega arith) (u .past)) (d .1)));
-            rest = rw (more, kept, z) (rw (sym (d .0)) at (opened e)) }
+                (past-then (past-more _ (omega arith) (u .past)) (d .1)));
+            rest = rw (more, kept, z) (rw (sym (d .0)) at (opened e));
+          }

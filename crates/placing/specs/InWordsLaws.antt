@@ -26,8 +26,25 @@ use Rattle.placing.specs.StandingLaws.{align-near}
 use Rattle.placing.specs.Roots.{roots}
 use Rattle.placing.specs.Got.{Copied, AfterGot}
 use Rattle.placing.specs.TurnLaws.{Held, held-begin, held-next, copied-at, copied-refused}
-use Rattle.placing.specs.InWords.{widthAt, blocksAt, payloadAt, cgBytes, structureAt, blocksEndAt, sizesIn, signalAt, signalEndAt,
-  structuresIn, dataIn, placedIn, rootsAt, copiesOf, Within, AllWithin, AllFew}
+use Rattle.placing.specs.InWords.{
+  widthAt,
+  blocksAt,
+  payloadAt,
+  cgBytes,
+  structureAt,
+  blocksEndAt,
+  sizesIn,
+  signalAt,
+  signalEndAt,
+  structuresIn,
+  dataIn,
+  placedIn,
+  rootsAt,
+  copiesOf,
+  Within,
+  AllWithin,
+  AllFew,
+}
 
 -- ---- a word
 pub past-end : (w : List ℕ) (i : ℕ) → length w ≤ i → 0 ≡ getD w i 0
@@ -51,18 +68,18 @@ unfolding dlSize
 dl-some n e = eq-no _ _ _ _ e refl
 
 pub payload-by : (s w : List ℕ) (p : ℕ) {c g n x : ℕ} → g ≡ getD w (p + 1) 0 → c ≡ getD w p 0 → x ≡ width s g c → n ≡ getD w (p + 3) 0
-  → x * n ≡ payloadAt s w p
+    → x * n ≡ payloadAt s w p
 unfolding payloadAt widthAt
 payload-by s w p g c x n = rw (x, g, c, n)
 
 module _ (s : List ℕ) (size : ℕ) (w : List ℕ) (p : ℕ) where
   pub blocks-by : {c g n x r : ℕ} → g ≡ getD w (p + 1) 0 → c ≡ getD w p 0 → x ≡ width s g c → n ≡ getD w (p + 3) 0
-    → r ≡ blockCount size x n → r ≡ blocksAt s size w p
+      → r ≡ blockCount size x n → r ≡ blocksAt s size w p
   unfolding blocksAt widthAt
   blocks-by g c x n r = r ∙ rw (x, g, c, n)
 
   pub structure-by : {m cg n dl : ℕ} → m ≡ getD w (p + 5) 0 → cg ≡ cgBytes m → n ≡ blocksAt s size w p → dl ≡ dlSize n
-    → 64 + cg + 160 + dl ≡ structureAt s size w p
+      → 64 + cg + 160 + dl ≡ structureAt s size w p
   unfolding structureAt
   structure-by m cg n dl = rw (cg, m, dl, n)
 
@@ -152,7 +169,7 @@ signal-near w f p d h = go (eqb (getD w (p + 6) 0) 0)
     go false = omega (arith, align-near (d + (24 + signalAt w f p)))
 
 ends-near : (s : List ℕ) (size : ℕ) (w : List ℕ) (p d : ℕ) → blocksAt s size w p ≤ 4294967295 → payloadAt s w p ≤ 4398046511104
-  → blocksEndAt s size w p d ≤ d + 4501125726192
+    → blocksEndAt s size w p d ≤ d + 4501125726192
 unfolding blocksEndAt
 ends-near s size w p d h k = omega (arith, align-near (d + (24 * blocksAt s size w p + payloadAt s w p)))
 
@@ -163,10 +180,10 @@ module _ {s : List ℕ} {size : ℕ} {w f : List ℕ} {p n : ℕ} (b : AllWithin
 
   pub within-rest : AllWithin s size w f (p + 8) (n - 1)
   within-rest = record {
-      each = λ k l.
+    each = λ k l.
         let e : p + 8 + 8 * k ≡ p + 8 * suc k = omega arith in
-        rw e (b .each (suc k) (omega arith))
-    }
+        rw e (b .each (suc k) (omega arith));
+  }
 
 pub all-few : {s : List ℕ} {size : ℕ} {w f : List ℕ} {p n : ℕ} → AllWithin s size w f p n → AllFew s size w p n
 all-few b = record { each = λ k l. b .each k l .blocks }
@@ -177,10 +194,10 @@ module _ {s : List ℕ} {size : ℕ} {w : List ℕ} {p n : ℕ} (b : AllFew s si
 
   few-rest : AllFew s size w (p + 8) (n - 1)
   few-rest = record {
-      each = λ k l.
+    each = λ k l.
         let e : p + 8 + 8 * k ≡ p + 8 * suc k = omega arith in
-        rw e (b .each (suc k) (omega arith))
-    }
+        rw e (b .each (suc k) (omega arith));
+  }
 
 -- ---- past the blocks that make up columns: what is left of them
 structures-none : (s : List ℕ) (size : ℕ) (w : List ℕ) (p n a : ℕ) → n ≡ 0 → structuresIn s size w p n a ≡ a
@@ -188,7 +205,7 @@ unfolding structuresIn
 structures-none s size w p n a e = rw e
 
 structures-cons : (s : List ℕ) (size : ℕ) (w : List ℕ) (p n a : ℕ) → 0 < n
-  → structuresIn s size w p n a ≡ structuresIn s size w (p + 8) (n - 1) (a + structureAt s size w p)
+    → structuresIn s size w p n a ≡ structuresIn s size w (p + 8) (n - 1) (a + structureAt s size w p)
 unfolding structuresIn
 structures-cons s size w p zero a h = absurd (omega arith)
 structures-cons s size w p (suc n) a h = rw sub-one
@@ -200,7 +217,7 @@ pub record Structuring (s : List ℕ) (size : ℕ) (w : List ℕ) (n₀ a₀ p n
   pub rest : structuresIn s size w p n a ≡ structuresIn s size w 0 n₀ a₀
 
 pub structures-begin : (s : List ℕ) (size : ℕ) (w : List ℕ) (n a : ℕ) → n ≤ 512 → a ≤ 1125899906842624 → AllFew s size w 0 n
-  → Structuring s size w n a 0 n a
+    → Structuring s size w n a 0 n a
 structures-begin s size w n a h k b = record { at = omega arith; near = omega arith; few = b; rest = refl }
 
 module _ {s : List ℕ} {size : ℕ} {w : List ℕ} {n₀ a₀ p n a : ℕ} (u : Structuring s size w n₀ a₀ p n a) where
@@ -221,7 +238,8 @@ module _ {s : List ℕ} {size : ℕ} {w : List ℕ} {n₀ a₀ p n a : ℕ} (u :
             at = omega (arith, u .at);
             near = structures-room;
             few = few-rest (u .few) h;
-            rest = rw e (sym (structures-cons s size w p n a h) ∙ u .rest) }
+            rest = rw e (sym (structures-cons s size w p n a h) ∙ u .rest);
+          }
 
 pub structures-near : (s : List ℕ) (size : ℕ) (w : List ℕ) (p n a : ℕ) → AllFew s size w p n → structuresIn s size w p n a ≤ a + n * 34359738744
 unfolding structuresIn
@@ -236,7 +254,7 @@ unfolding dataIn
 data-none s size w f p n d e = rw e
 
 data-cons : (s : List ℕ) (size : ℕ) (w f : List ℕ) (p n d : ℕ) → 0 < n
-  → dataIn s size w f p n d ≡ dataIn s size w f (p + 8) (n - 1) (signalEndAt w f p (blocksEndAt s size w p d))
+    → dataIn s size w f p n d ≡ dataIn s size w f (p + 8) (n - 1) (signalEndAt w f p (blocksEndAt s size w p d))
 unfolding dataIn
 data-cons s size w f p zero d h = absurd (omega arith)
 data-cons s size w f p (suc n) d h = rw sub-one
@@ -246,8 +264,8 @@ unfolding placedIn
 placed-none s size w f p n a d e = rw e
 
 placed-cons : (s : List ℕ) (size : ℕ) (w f : List ℕ) (p n a d : ℕ) → 0 < n
-  → placedIn s size w f p n a d
-  ≡ (a ∷ d ∷ blocksEndAt s size w p d ∷ [])
+    → placedIn s size w f p n a d
+    ≡ (a ∷ d ∷ blocksEndAt s size w p d ∷ [])
     ++ placedIn s size w f (p + 8) (n - 1) (a + structureAt s size w p) (signalEndAt w f p (blocksEndAt s size w p d))
 unfolding placedIn
 placed-cons s size w f p zero a d h = absurd (omega arith)
@@ -265,7 +283,7 @@ pub record Placing (s : List ℕ) (size : ℕ) (w f : List ℕ) (n₀ a₀ d₀ 
   pub words : blit q (placedIn s size w f p n a d) m ≡ blit 6656 (placedIn s size w f 0 n₀ a₀ d₀) m₀
 
 pub place-begin : (s : List ℕ) (size : ℕ) (w f : List ℕ) (n a d : ℕ) (m : List ℕ) → n ≤ 512 → a ≤ 1125899906842624 → d ≤ 1125899906842624
-  → 8192 ≤ length m → AllWithin s size w f 0 n → Placing s size w f n a d m m 0 6656 n a d
+    → 8192 ≤ length m → AllWithin s size w f 0 n → Placing s size w f n a d m m 0 6656 n a d
 place-begin s size w f n a d m h i j l b =
     record { at = omega arith; to = omega arith; same = refl; long = l; near = omega arith; nearData = omega arith; within = b; ends = refl; words = refl }
 
@@ -290,14 +308,14 @@ module _ {s : List ℕ} {size : ℕ} {w f : List ℕ} {n₀ a₀ d₀ : ℕ} {m�
         place-room = omega (arith, u .near, structure-near s size w p (place-within .blocks))
 
         pub place-next : {y : ℕ} {m' : List ℕ} → m' ≡ blit q (a ∷ d ∷ z ∷ []) m → y ≡ signalEndAt w f p z
-          → Placing s size w f n₀ a₀ d₀ m₀ m' (p + 8) (q + 3) (n - 1) (a + x) y
+            → Placing s size w f n₀ a₀ d₀ m₀ m' (p + 8) (q + 3) (n - 1) (a + x) y
         place-next {y} {m'} k j =
             let l : length m' ≡ length m = ap length k ∙ length-blit q (a ∷ d ∷ z ∷ []) m in
             let g : y ≡ signalEndAt w f p (blocksEndAt s size w p d) = rw e at j in
             let t : blit q (placedIn s size w f p n a d) m
-                  ≡ blit (q + 3) (placedIn s size w f (p + 8) (n - 1) (a + structureAt s size w p) (signalEndAt w f p (blocksEndAt s size w p d)))
-                    (blit q (a ∷ d ∷ blocksEndAt s size w p d ∷ []) m) =
-                  ap (λ (v : List ℕ). blit q v m) (placed-cons s size w f p n a d h) ∙ blit-append (a ∷ d ∷ blocksEndAt s size w p d ∷ []) q _ m in
+            ≡ blit (q + 3) (placedIn s size w f (p + 8) (n - 1) (a + structureAt s size w p) (signalEndAt w f p (blocksEndAt s size w p d)))
+            (blit q (a ∷ d ∷ blocksEndAt s size w p d ∷ []) m) =
+            ap (λ (v : List ℕ). blit q v m) (placed-cons s size w f p n a d h) ∙ blit-append (a ∷ d ∷ blocksEndAt s size w p d ∷ []) q _ m in
             record {
               at = omega (arith, u .at);
               to = omega (arith, u .to);
@@ -307,7 +325,8 @@ module _ {s : List ℕ} {size : ℕ} {w f : List ℕ} {n₀ a₀ d₀ : ℕ} {m�
               nearData = omega (arith, u .nearData, place-data, j, signal-near w f p z (place-within .signal));
               within = within-rest (u .within) h;
               ends = rw g (sym (data-cons s size w f p n d h) ∙ u .ends);
-              words = rw (g, i, k, e) (sym t ∙ u .words) }
+              words = rw (g, i, k, e) (sym t ∙ u .words);
+            }
 
 pub data-near : (s : List ℕ) (size : ℕ) (w f : List ℕ) (p n d : ℕ) → AllWithin s size w f p n → dataIn s size w f p n d ≤ d + n * 10000000000000
 unfolding dataIn
@@ -316,8 +335,12 @@ data-near s size w f p (suc n) d b =
     let c = within-first b (omega arith) in
     let r : AllWithin s size w f (p + 8) n = rw (sub-one) at (within-rest b (omega arith)) in
     let e : ℕ = blocksEndAt s size w p d in
-    omega (arith, ends-near s size w p d (c .blocks) (c .payload), signal-near w f p (blocksEndAt s size w p d) (c .signal),
-      data-near s size w f (p + 8) n (signalEndAt w f p (blocksEndAt s size w p d)) r)
+    omega (
+      arith,
+      ends-near s size w p d (c .blocks) (c .payload),
+      signal-near w f p (blocksEndAt s size w p d) (c .signal),
+      data-near s size w f (p + 8) n (signalEndAt w f p (blocksEndAt s size w p d)) r,
+    )
 
 -- ---- copies for columns: what is left of them
 copying-none : (s w : List ℕ) (p n : ℕ) (m : Copies) → n ≡ 0 → copiesOf s w p n m ≡ ok m
@@ -325,7 +348,7 @@ unfolding copiesOf
 copying-none s w p n m e = rw e
 
 copying-cons : (s w : List ℕ) (p n : ℕ) (m : Copies) → 0 < n
-  → copiesOf s w p n m ≡ andThen (copyRoots s (rootsAt s w p) m) (λ m'. copiesOf s w (p + 8) (n - 1) m')
+    → copiesOf s w p n m ≡ andThen (copyRoots s (rootsAt s w p) m) (λ m'. copiesOf s w (p + 8) (n - 1) m')
 unfolding copiesOf
 copying-cons s w p zero m h = absurd (omega arith)
 copying-cons s w p (suc n) m h = rw sub-one
@@ -348,7 +371,7 @@ module _ {s w : List ℕ} {n₀ : ℕ} {m₀ : List ℕ} {st₀ : Copying} {m : 
   copying-end e = record { is = sym (copying-none s w p n (standing m st) e) ∙ u .rest; past = u .held .past }
 
   module _ (h : 0 < n) {d g c : ℕ} (i : d ≡ getD w (p + 2) 0) (j : g ≡ getD w (p + 1) 0) (k : c ≡ getD w p 0)
-    {m' : List ℕ} {r : Got} (x : Copied m m' r (copyRoots s (roots s d g c) (standing m st))) where
+      {m' : List ℕ} {r : Got} (x : Copied m m' r (copyRoots s (roots s d g c) (standing m st))) where
     pub copying-refused : {a b : ℕ} → r ≡ got.Refused a b → Copied m₀ m' (got.Refused a b) (copiesOf s w 0 n₀ (standing m₀ st₀))
     copying-refused {a} {b} e =
         let v : copyRoots s (rootsAt s w p) (standing m st) ≡ refused a b = rw (roots-by s w p i j k) at (sym (copied-refused x e)) in
@@ -361,4 +384,5 @@ module _ {s w : List ℕ} {n₀ : ℕ} {m₀ : List ℕ} {st₀ : Copying} {m : 
           at = omega (arith, u .at);
           long = omega (arith, l, u .long);
           held = held-next (u .held) x f e l;
-          rest = rw (copying-cons s w p n (standing m st) h, v) at (u .rest) }
+          rest = rw (copying-cons s w p n (standing m st) h, v) at (u .rest);
+        }

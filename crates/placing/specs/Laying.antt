@@ -63,7 +63,7 @@ pub record Rested (s : List ℕ) (size : ℕ) (w f : List ℕ) (n : ℕ) (m m' :
   pub more : st .used ≤ t .used
   pub most : t .used ≤ 2048
   pub past : Past (2 * t .used) (blit attachmentsAt (attachmentWords (told .attachments))
-    (blit placedAt (placedIn s size w f 0 n (align8 (st .next)) (metadataEndIn s size w n st)) m)) m'
+      (blit placedAt (placedIn s size w f 0 n (align8 (st .next)) (metadataEndIn s size w n st)) m)) m'
 
 abbrev pub Rests : List ℕ → ℕ → List ℕ → List ℕ → ℕ → List ℕ → List ℕ → Copying → Rest → Type 0
 Rests s size w f n m m' st (rest.At count end t) = Rested s size w f n m m' st count end t

@@ -54,7 +54,7 @@ module _ (s m : List ℕ) {a : ℕ} (i : a ≡ linkAt s 64 5) {m₁ : List ℕ} 
   comment-is = rw (i, start-standing m)
 
   pub first-refused : {n p : ℕ} → g ≡ got.Refused n p
-    → andThen (copyRoot s (linkAt s 64 5) (copies [] 168)) (λ x. historyOf s (linkAt s 64 1) x) ≡ refused n p
+      → andThen (copyRoot s (linkAt s 64 5) (copies [] 168)) (λ x. historyOf s (linkAt s 64 1) x) ≡ refused n p
   first-refused e = rw (← comment-is, ← copied-refused c e)
 
   module _ {t : Copying} (e : g ≡ got.At t) (f : AfterGot g start) {b : ℕ} (j : b ≡ linkAt s 64 1) where
@@ -69,7 +69,8 @@ module _ (s m : List ℕ) {a : ℕ} (i : a ≡ linkAt s 64 5) {m₁ : List ℕ} 
           isPast = rw (← j) (sym (h .is));
           few = l .few;
           after = after-then k (l .after);
-          past = past-then (past-more _ (omega (arith, l .after .more)) (past-blit (chainIn m' count) 4352 (omega (arith, k .most)) (d .1))) (l .past) }
+          past = past-then (past-more _ (omega (arith, l .after .more)) (past-blit (chainIn m' count) 4352 (omega (arith, k .most)) (d .1))) (l .past);
+        }
     first-chain {m'} (chain.Refused n p) h = rw (← comment-is, ← d .0, ← j) (sym (h .is))
       where
         d : (ok (standing m₁ t) ≡ copyRoot s a (standing m start)) × Past (2 * t .used) m m₁
@@ -84,7 +85,7 @@ pub record FirstNear (used md x : ℕ) : Type 0 where
   pub room : Room used (md + x + 56)
 
 pub first-near : {count : ℕ} {s m m' : List ℕ} {st : Copying} → FirstCopies count s m m' st → {md : ℕ} → md ≡ align8 (st .next) → (text : ℕ)
-  → {x : ℕ} → x ≡ mdSize text → text ≤ 4096 → FirstNear (st .used) md x
+    → {x : ℕ} → x ≡ mdSize text → text ≤ 4096 → FirstNear (st .used) md x
 first-near {count} {s} {m} {m'} {st} o i text j h =
     let a = align-near (st .next) in
     let b = md-near text in
@@ -93,17 +94,17 @@ first-near {count} {s} {m} {m'} {st} o i text j h =
 
 -- ---- places of columns, then attachments
 module _ (s : List ℕ) (size : ℕ) (w f : List ℕ) (n : ℕ) (m : List ℕ) (st : Copying) {a e d l : ℕ} {m₁ : List ℕ}
-  (i : a ≡ align8 (st .next)) (j : e ≡ structuresIn s size w 0 n a) (k : d ≡ dataIn s size w f 0 n e)
-  (x : m₁ ≡ blit 6656 (placedIn s size w f 0 n a e) m) (y : l ≡ linkAt s 64 3) (few : st .used ≤ 2048) where
+    (i : a ≡ align8 (st .next)) (j : e ≡ structuresIn s size w 0 n a) (k : d ≡ dataIn s size w f 0 n e)
+    (x : m₁ ≡ blit 6656 (placedIn s size w f 0 n a e) m) (y : l ≡ linkAt s 64 3) (few : st .used ≤ 2048) where
   rest-is : attachmentsOf s l (standing m₁ (record { used = st .used; next = d })) ≡ attachedIn s size w f n m st
   rest-is =
       let z : copiesIn m₁ (st .used) ≡ copiesIn m (st .used) =
-            ap (λ (v : List ℕ). copiesIn v (st .used)) x ∙ copies-blit (placedIn s size w f 0 n a e) m (st .used) 6656 (omega arith) in
+      ap (λ (v : List ℕ). copiesIn v (st .used)) x ∙ copies-blit (placedIn s size w f 0 n a e) m (st .used) 6656 (omega arith) in
       rw (z, y, k, j, i)
 
   pub rest-moved : {m' : List ℕ} (r : Moved)
-    → Moves m₁ m' (record { used = st .used; next = d }) r (attachmentsOf s l (standing m₁ (record { used = st .used; next = d })))
-    → {count : ℕ} {t : Copying} → r ≡ moved.At count t → Rests s size w f n m m' st (rest.At count e t)
+      → Moves m₁ m' (record { used = st .used; next = d }) r (attachmentsOf s l (standing m₁ (record { used = st .used; next = d })))
+      → {count : ℕ} {t : Copying} → r ≡ moved.At count t → Rests s size w f n m m' st (rest.At count e t)
   rest-moved {m'} r h {count} {t} q =
       let g = subst (λ (v : Moved). Moves m₁ m' (record { used = st .used; next = d }) v (attachmentsOf s l (standing m₁ (record { used = st .used; next = d })))) q h in
       let o = g .moving in
@@ -116,21 +117,22 @@ module _ (s : List ℕ) (size : ℕ) (w f : List ℕ) (n : ℕ) (m : List ℕ) (
         few = o .few;
         more = o .more;
         most = o .most;
-        past = rw (← i, ← j, ← x) (o .past) }
+        past = rw (← i, ← j, ← x) (o .past);
+      }
 
   pub rest-refused : (m' : List ℕ) (r : Moved)
-    → Moves m₁ m' (record { used = st .used; next = d }) r (attachmentsOf s l (standing m₁ (record { used = st .used; next = d })))
-    → {b p : ℕ} → r ≡ moved.Refused b p → Rests s size w f n m m' st (rest.Refused b p)
+      → Moves m₁ m' (record { used = st .used; next = d }) r (attachmentsOf s l (standing m₁ (record { used = st .used; next = d })))
+      → {b p : ℕ} → r ≡ moved.Refused b p → Rests s size w f n m m' st (rest.Refused b p)
   rest-refused m' r h q =
       sym rest-is ∙ subst (λ (v : Moved). Moves m₁ m' (record { used = st .used; next = d }) v (attachmentsOf s l (standing m₁ (record { used = st .used; next = d })))) q h
 
 pub rests-at : (s : List ℕ) (size : ℕ) (w f : List ℕ) (n : ℕ) (m m' : List ℕ) (st : Copying) (r : Rest) {count end : ℕ} {t : Copying}
-  → Rests s size w f n m m' st r → r ≡ rest.At count end t → Rested s size w f n m m' st count end t
+    → Rests s size w f n m m' st r → r ≡ rest.At count end t → Rested s size w f n m m' st count end t
 rests-at s size w f n m m' st r h e = subst (Rests s size w f n m m' st) e h
 
 pub rest-near : (s : List ℕ) (size : ℕ) (w f : List ℕ) (n : ℕ) (st : Copying) {a e d : ℕ} → a ≡ align8 (st .next) → e ≡ structuresIn s size w 0 n a
-  → d ≡ dataIn s size w f 0 n e → n ≤ 512 → st .next ≤ 562949953421312 → AllWithin s size w f 0 n
-  → (a ≤ 562949953421319) × (e ≤ 1125899906842624) × (d ≤ 576460752303423488)
+    → d ≡ dataIn s size w f 0 n e → n ≤ 512 → st .next ≤ 562949953421312 → AllWithin s size w f 0 n
+    → (a ≤ 562949953421319) × (e ≤ 1125899906842624) × (d ≤ 576460752303423488)
 rest-near s size w f n st {a} {e} {d} i j k h l b =
     let x = align-near (st .next) in
     let y = structures-near s size w 0 n a (all-few b) in
@@ -139,12 +141,12 @@ rest-near s size w f n st {a} {e} {d} i j k h l b =
 
 -- ---- the whole, from its stages
 then-through : {A B C : Type 0} (x : Checked A) (f : A → Checked B) (g : A → B → Checked C) {a b : ℕ} → andThen x f ≡ refused a b
-  → andThen x (λ v. andThen (f v) (g v)) ≡ refused a b
+    → andThen x (λ v. andThen (f v) (g v)) ≡ refused a b
 then-through (ok v) f g e = rw e
 then-through {A} {B} {C} (refused n p) f g e = ap (λ (v : Checked B). andThen {B = C} v (λ _. refused 0 0)) e
 
 layout-first : (s : List ℕ) (size text : ℕ) (cs : List Column) {a b : ℕ}
-  → andThen (copyRoot s (linkAt s 64 5) (copies [] 168)) (λ x. historyOf s (linkAt s 64 1) x) ≡ refused a b → layout s size text cs ≡ refused a b
+    → andThen (copyRoot s (linkAt s 64 5) (copies [] 168)) (λ x. historyOf s (linkAt s 64 1) x) ≡ refused a b → layout s size text cs ≡ refused a b
 unfolding layout
 layout-first s size text cs e = then-through (copyRoot s (linkAt s 64 5) (copies [] 168)) (λ x. historyOf s (linkAt s 64 1) x) _ e
 
@@ -159,7 +161,8 @@ layoutOf s size text cs m0 h m2 t =
       placed = placedFrom s size (structurePlace m2) (structureEnd s size (structurePlace m2) cs) cs;
       metadataEnd = structureEnd s size (structurePlace m2) cs;
       attached = t;
-      fileSize = t .made .next }
+      fileSize = t .made .next;
+    }
 
 layoutRest : List ℕ → ℕ → ℕ → List Column → Copies → History → Copies → Checked Layout
 layoutRest s size text cs m0 h m2 =
@@ -167,8 +170,8 @@ layoutRest s size text cs m0 h m2 =
     (λ t. ok (layoutOf s size text cs m0 h m2 t))
 
 layout-next : (s : List ℕ) (size text : ℕ) (cs : List Column) {m0 : Copies} {h : History} → copyRoot s (linkAt s 64 5) (copies [] 168) ≡ ok m0
-  → historyOf s (linkAt s 64 1) m0 ≡ ok h
-  → layout s size text cs ≡ andThen (columnCopies s cs (copies (h .made .memo) (fhPlace (h .made) text + 56))) (λ m2. layoutRest s size text cs m0 h m2)
+    → historyOf s (linkAt s 64 1) m0 ≡ ok h
+    → layout s size text cs ≡ andThen (columnCopies s cs (copies (h .made .memo) (fhPlace (h .made) text + 56))) (λ m2. layoutRest s size text cs m0 h m2)
 unfolding layout layoutRest layoutOf
 layout-next s size text cs a b = rw (a, b)
 
@@ -177,15 +180,15 @@ module _ (s : List ℕ) (size text : ℕ) (w f : List ℕ) (n : ℕ) (m : List �
   whole-first m' g h e = record { is = λ k cs x l. layout-first s size text cs (subst (Begins s m m') e h) }
 
   module _ {count : ℕ} {m₁ : List ℕ} {st : Copying} (o : FirstCopies count s m m₁ st) {md x : ℕ} (i : md ≡ align8 (st .next)) (j : x ≡ mdSize text)
-    {m₂ : List ℕ} {g : Got} (c : Copied m₁ m₂ g (copiesOf s w 0 n (standing m₁ (record { used = st .used; next = md + x + 56 })))) where
+      {m₂ : List ℕ} {g : Got} (c : Copied m₁ m₂ g (copiesOf s w 0 n (standing m₁ (record { used = st .used; next = md + x + 56 })))) where
     module _ (k : ℕ) (cs : List Column) (z : Columns w f k 0 cs) (l : length cs ≡ n) where
       columns-is : copiesOf s w 0 n (standing m₁ (record { used = st .used; next = md + x + 56 }))
-        ≡ columnCopies s cs (copies (copiesIn m₁ (st .used)) (fhPlace (standing m₁ st) text + 56))
+          ≡ columnCopies s cs (copies (copiesIn m₁ (st .used)) (fhPlace (standing m₁ st) text + 56))
       unfolding fhPlace mdPlace
       columns-is = rw (← l, i, j) (copies-of s size w f k 0 cs (copies (copiesIn m₁ (st .used)) (align8 (st .next) + mdSize text + 56)) z)
 
       columns-next : {v : Checked Copies} → v ≡ copiesOf s w 0 n (standing m₁ (record { used = st .used; next = md + x + 56 }))
-        → layout s size text cs ≡ andThen v (λ m2. layoutRest s size text cs (o .comment) (history (chainIn m₁ count) (standing m₁ st)) m2)
+          → layout s size text cs ≡ andThen v (λ m2. layoutRest s size text cs (o .comment) (history (chainIn m₁ count) (standing m₁ st)) m2)
       columns-next e =
           layout-next s size text cs (o .isComment) (o .isPast)
           ∙ ap (λ (v : Checked Copies). andThen v (λ m2. layoutRest s size text cs (o .comment) (history (chainIn m₁ count) (standing m₁ st)) m2)) (sym (e ∙ columns-is))
@@ -199,30 +202,30 @@ module _ (s : List ℕ) (size text : ℕ) (w f : List ℕ) (n : ℕ) (m : List �
       ends-is k cs z l = rw (← l) (structures-of s size w f k 0 (align8 (t .next)) cs z)
 
       rest-of : (k : ℕ) (cs : List Column) → Columns w f k 0 cs → length cs ≡ n
-        → attachedIn s size w f n m₂ t
-        ≡ attachmentsOf s (linkAt s 64 3) (copies (copiesIn m₂ (t .used)) (dataEnd s size (structureEnd s size (structurePlace (standing m₂ t)) cs) cs))
+          → attachedIn s size w f n m₂ t
+          ≡ attachmentsOf s (linkAt s 64 3) (copies (copiesIn m₂ (t .used)) (dataEnd s size (structureEnd s size (structurePlace (standing m₂ t)) cs) cs))
       rest-of k cs z l =
           let d : dataIn s size w f 0 n (metadataEndIn s size w n t) ≡ dataEnd s size (structureEnd s size (structurePlace (standing m₂ t)) cs) cs =
-                ap (dataIn s size w f 0 n) (ends-is k cs z l) ∙ rw (← l) (data-of s size w f k 0 (structureEnd s size (structurePlace (standing m₂ t)) cs) cs z) in
+          ap (dataIn s size w f 0 n) (ends-is k cs z l) ∙ rw (← l) (data-of s size w f k 0 (structureEnd s size (structurePlace (standing m₂ t)) cs) cs z) in
           rw d
 
       pub whole-rest : {m' : List ℕ} (r : Rest) {a b : ℕ} → Rests s size w f n m₂ m' t r → r ≡ rest.Refused a b → LaysOut s size text w f n m m' (laid.Refused a b)
       unfolding layoutRest
       whole-rest {m'} r h q = record {
-          is = λ k cs z l.
+        is = λ k cs z l.
             let v = subst (Rests s size w f n m₂ m' t) q h in
-            columns-next k cs z l (copied-at c e .0) ∙ rw (← rest-of k cs z l, v)
-        }
+            columns-next k cs z l (copied-at c e .0) ∙ rw (← rest-of k cs z l, v);
+      }
 
       module _ {m₃ : List ℕ} {ats end : ℕ} {u : Copying} (q : Rested s size w f n m₂ m₃ t ats end u)
-        (same₁ : length m₁ ≡ length m) (same₂ : length m₂ ≡ length m₁) (same₃ : length m₃ ≡ length m₂) (long : 8192 ≤ length m)
-        (after : AfterGot g (record { used = st .used; next = md + x + 56 })) where
+          (same₁ : length m₁ ≡ length m) (same₂ : length m₂ ≡ length m₁) (same₃ : length m₃ ≡ length m₂) (long : 8192 ≤ length m)
+          (after : AfterGot g (record { used = st .used; next = md + x + 56 })) where
         past-all : Past (2 * u .used) (blit attachmentsAt (attachmentWords (q .told .attachments))
-          (blit placedAt (placedIn s size w f 0 n (align8 (t .next)) (metadataEndIn s size w n t)) (blit historyAt (chainIn m₁ count) m))) m₃
+            (blit placedAt (placedIn s size w f 0 n (align8 (t .next)) (metadataEndIn s size w n t)) (blit historyAt (chainIn m₁ count) m))) m₃
         past-all =
             let y = after-at after e in
             let p : Past (2 * t .used) (blit historyAt (chainIn m₁ count) m) m₂ =
-                  past-then (past-more _ (omega (arith, y .more)) (o .past)) (copied-at c e .1) in
+            past-then (past-more _ (omega (arith, y .more)) (o .past)) (copied-at c e .1) in
             past-then
             (past-blit (attachmentWords (q .told .attachments)) 4096 (omega (arith, q .most))
             (past-blit (placedIn s size w f 0 n (align8 (t .next)) (metadataEndIn s size w n t)) 6656 (omega (arith, q .most))
@@ -233,25 +236,33 @@ module _ (s : List ℕ) (size text : ℕ) (w f : List ℕ) (n : ℕ) (m : List �
         chain-long = length-part 4352 count m₁ (omega (arith, o .few))
 
         words-all : m₃ ≡ blit placedAt (placedIn s size w f 0 n (align8 (t .next)) (metadataEndIn s size w n t))
-          (blit historyAt (chainIn m₁ count) (blit attachmentsAt (attachmentWords (q .told .attachments)) (blit 0 (copyWords (q .told .made .memo)) m)))
+            (blit historyAt (chainIn m₁ count) (blit attachmentsAt (attachmentWords (q .told .attachments)) (blit 0 (copyWords (q .told .made .memo)) m)))
         words-all =
             rw (q .made) (all-placed m m₃ (u .used) (chainIn m₁ count) (q .told .attachments)
-              (placedIn s size w f 0 n (align8 (t .next)) (metadataEndIn s size w n t)) (omega arith) (omega arith) (q .most)
-              (omega (arith, q .counted, q .few)) (omega (arith, chain-long, o .few)) past-all)
+            (placedIn s size w f 0 n (align8 (t .next)) (metadataEndIn s size w n t)) (omega arith) (omega arith) (q .most)
+            (omega (arith, q .counted, q .few)) (omega (arith, chain-long, o .few)) past-all)
 
         placed-is : (k : ℕ) (cs : List Column) → Columns w f k 0 cs → length cs ≡ n
-          → placedIn s size w f 0 n (align8 (t .next)) (metadataEndIn s size w n t)
-          ≡ placedWords (placedFrom s size (structurePlace (standing m₂ t)) (structureEnd s size (structurePlace (standing m₂ t)) cs) cs)
+            → placedIn s size w f 0 n (align8 (t .next)) (metadataEndIn s size w n t)
+            ≡ placedWords (placedFrom s size (structurePlace (standing m₂ t)) (structureEnd s size (structurePlace (standing m₂ t)) cs) cs)
         unfolding structurePlace
         placed-is k cs z l =
             ap (placedIn s size w f 0 n (align8 (t .next))) (ends-is k cs z l)
             ∙ rw (← l) (placed-of s size w f k 0 (align8 (t .next)) (structureEnd s size (align8 (t .next)) cs) cs z)
 
         numbers-all : (k : ℕ) (cs : List Column) → Columns w f k 0 cs → length cs ≡ n
-          → Numbered (layoutOf s size text cs (o .comment) (history (chainIn m₁ count) (standing m₁ st)) (standing m₂ t) (q .told)) m m₃
+            → Numbered (layoutOf s size text cs (o .comment) (history (chainIn m₁ count) (standing m₁ st)) (standing m₂ t) (q .told)) m m₃
             (record {
-              history = st .used; chain = count; md = md; fh = md + x; metadata = t .used; copies = u .used; attachments = ats;
-              «metadata_end» = end; «file_size» = u .next })
+              history = st .used;
+              chain = count;
+              md = md;
+              fh = md + x;
+              metadata = t .used;
+              copies = u .used;
+              attachments = ats;
+              «metadata_end» = end;
+              «file_size» = u .next;
+            })
         unfolding layoutOf laidCopies mdPlace fhPlace
         numbers-all k cs z l =
             record {
@@ -265,15 +276,25 @@ module _ (s : List ℕ) (size text : ℕ) (w f : List ℕ) (n : ℕ) (m : List �
               metadataEnd = q .ends ∙ ends-is k cs z l;
               fileSize = sym (ap (λ (y : Copies). y .next) (q .made));
               words = words-all ∙ ap (λ (y : List ℕ). blit placedAt y (blit historyAt (chainIn m₁ count)
-                (blit attachmentsAt (attachmentWords (q .told .attachments)) (blit 0 (copyWords (q .told .made .memo)) m)))) (placed-is k cs z l) }
+                  (blit attachmentsAt (attachmentWords (q .told .attachments)) (blit 0 (copyWords (q .told .made .memo)) m)))) (placed-is k cs z l);
+            }
 
         pub whole-done : LaysOut s size text w f n m m₃ (laid.Done (record {
-            history = st .used; chain = count; md = md; fh = md + x; metadata = t .used; copies = u .used; attachments = ats;
-            «metadata_end» = end; «file_size» = u .next }))
+          history = st .used;
+          chain = count;
+          md = md;
+          fh = md + x;
+          metadata = t .used;
+          copies = u .used;
+          attachments = ats;
+          «metadata_end» = end;
+          «file_size» = u .next;
+        }))
         unfolding layoutRest
         whole-done = record {
-            is = λ k cs z l. record {
-              told = layoutOf s size text cs (o .comment) (history (chainIn m₁ count) (standing m₁ st)) (standing m₂ t) (q .told);
-              is = columns-next k cs z l (copied-at c e .0) ∙ rw (← rest-of k cs z l, q .is);
-              numbered = numbers-all k cs z l }
-          }
+          is = λ k cs z l. record {
+            told = layoutOf s size text cs (o .comment) (history (chainIn m₁ count) (standing m₁ st)) (standing m₂ t) (q .told);
+            is = columns-next k cs z l (copied-at c e .0) ∙ rw (← rest-of k cs z l, q .is);
+            numbered = numbers-all k cs z l;
+          };
+        }

@@ -19,5 +19,4 @@ pub mod Laying
 pub mod LayingLaws
 pub mod BoundedLaws
 pub mod Decision
-pub mod ClearLaws
 pub mod DecisionLaws

@@ -75,7 +75,7 @@ link-past w p (suc k) a h =
     go false e = e
 
 link-whole : (w : List ℕ) (p j k a : ℕ) → j ≤ k → length w ≤ p + 2 * j + 1
-  → linkOf (copyOf a (copiesFrom w p j)) ≡ linkOf (copyOf a (copiesFrom w p k))
+    → linkOf (copyOf a (copiesFrom w p j)) ≡ linkOf (copyOf a (copiesFrom w p k))
 unfolding copiesFrom copyOf ifEq
 link-whole w p zero k a h l = sym (link-past w p k a (omega arith))
 link-whole w p (suc j) zero a h l = absurd (omega arith)
@@ -83,8 +83,8 @@ link-whole w p (suc j) (suc k) a h l =
     go (eqb (getD w p 0) a) (link-whole w (p + 2) j k a (omega arith) (omega arith))
   where
     go : (b : Bool) → linkOf (copyOf a (copiesFrom w (p + 2) j)) ≡ linkOf (copyOf a (copiesFrom w (p + 2) k))
-      → linkOf (pick b (some (getD w (p + 1) 0)) (copyOf a (copiesFrom w (p + 2) j)))
-      ≡ linkOf (pick b (some (getD w (p + 1) 0)) (copyOf a (copiesFrom w (p + 2) k)))
+        → linkOf (pick b (some (getD w (p + 1) 0)) (copyOf a (copiesFrom w (p + 2) j)))
+        ≡ linkOf (pick b (some (getD w (p + 1) 0)) (copyOf a (copiesFrom w (p + 2) k)))
     go true e = refl
     go false e = e
 
@@ -131,14 +131,20 @@ copies-snoc w p (suc k) =
     rw (e, q) (ap (λ (l : List Copy). copy (getD w p 0) (getD w (p + 1) 0) ∷ l) (copies-snoc w (p + 2) k))
 
 place-copies : (w : List ℕ) (k i a t : ℕ) → i ≡ k * 2 → i + 1 < length w
-  → copiesIn (set (set w i a) (i + 1) t) (k + 1) ≡ copiesIn w k ++ (copy a t ∷ [])
+    → copiesIn (set (set w i a) (i + 1) t) (k + 1) ≡ copiesIn w k ++ (copy a t ∷ [])
 place-copies w k i a t e h =
     let q : 0 + 2 * k ≡ i = omega arith in
     let u : i < length (set w i a) = simp length-set (omega arith) in
     let v : i + 1 < length (set w i a) = simp length-set (omega arith) in
     copies-snoc (set (set w i a) (i + 1) t) 0 k
-    ∙ rw (q, getD-set-same (set w i a) (i + 1) t 0 v, getD-set-other (set w i a) (i + 1) i t 0 (λ z. omega arith), getD-set-same w i a 0 (omega arith),
-      copies-set (set w i a) 0 k (i + 1) t (omega arith), copies-set w 0 k i a (omega arith))
+    ∙ rw (
+      q,
+      getD-set-same (set w i a) (i + 1) t 0 v,
+      getD-set-other (set w i a) (i + 1) i t 0 (λ z. omega arith),
+      getD-set-same w i a 0 (omega arith),
+      copies-set (set w i a) 0 k (i + 1) t (omega arith),
+      copies-set w 0 k i a (omega arith),
+    )
 
 pub align-near : (x : ℕ) → align8 x ≤ x + 7
 unfolding align8
@@ -162,7 +168,7 @@ past-set n w i x h = record { kept = drop-set-lt n w i x h }
 -- a placed block: two stores past the copies
 module _ (w : List ℕ) (a size t : ℕ) (s : Copying) (h : s .used * 2 + 1 < length w) where
   pub place-is : t ≡ align8 (s .next)
-    → standing (set (set w (s .used * 2) a) (s .used * 2 + 1) t) (record { used = s .used + 1; next = t + size }) ≡ placed a size (standing w s)
+      → standing (set (set w (s .used * 2) a) (s .used * 2 + 1) t) (record { used = s .used + 1; next = t + size }) ≡ placed a size (standing w s)
   unfolding placed
   place-is e = rw (place-copies w (s .used) (s .used * 2) a t refl h, e)
 

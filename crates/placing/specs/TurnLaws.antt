@@ -31,7 +31,7 @@ unfolding copyLinks
 links-none step s n p m e = rw e
 
 links-cons : (step : ℕ → Copies → Checked Copies) (s : List ℕ) (n p : ℕ) (m : Copies) → 0 < n
-  → copyLinks step s n p m ≡ andThen (step (leAt 8 s p) m) (λ m'. copyLinks step s (n - 1) (p + 8) m')
+    → copyLinks step s n p m ≡ andThen (step (leAt 8 s p) m) (λ m'. copyLinks step s (n - 1) (p + 8) m')
 unfolding copyLinks
 links-cons step s zero p m h = absurd (omega arith)
 links-cons step s (suc n) p m h = simp sub-one
@@ -61,7 +61,7 @@ after-grown d w w' s t h g =
     record { more = omega arith; most = omega arith; near = omega arith; room = record { few = omega arith; near = omega arith } }
 
 pub copy-after : (left : ℕ) (i way : List ℕ) (a : ℕ) (w w' : List ℕ) (s t : Copying) → ok (standing w' t) ≡ copyAt left i way a (standing w s)
-  → s .used + length way ≤ 2048 → Room (s .used) (s .next) → After (length way) s t
+    → s .used + length way ≤ 2048 → Room (s .used) (s .next) → After (length way) s t
 copy-after left i way a w w' s t e h r =
     let k = length-copies w 0 (s .used) in
     after-grown (length way) w w' s t r (copy-grows left i way a (standing w s) (standing w' t) (omega arith) (sym e))
@@ -76,17 +76,17 @@ pub record Turn (left : ℕ) (s down w₀ : List ℕ) (links₀ p₀ : ℕ) (st�
   pub grown : st₀ .used ≤ st .used
   pub past : Past (2 * st .used) w₀ w
   pub rest : copyLinks (copyAt (left - 1) s (drop (left - 1) down)) s links p (standing w st)
-    ≡ copyLinks (copyAt (left - 1) s (drop (left - 1) down)) s links₀ p₀ (standing w₀ st₀)
+      ≡ copyLinks (copyAt (left - 1) s (drop (left - 1) down)) s links₀ p₀ (standing w₀ st₀)
 
 pub turn-begin : (left : ℕ) (s down w : List ℕ) (links p : ℕ) (st : Copying) → p + 8 * links ≤ length s + 8 → length (drop (left - 1) down) + left ≡ 66
-  → st .used + 66 ≤ 2048 + left → Room (st .used) (st .next) → Turn left s down w links p st w links p st
+    → st .used + 66 ≤ 2048 + left → Room (st .used) (st .next) → Turn left s down w links p st w links p st
 turn-begin left s down w links p st h d f r =
     record { same = refl; lies = h; deep = d; few = f; room = r; grown = omega arith; past = past-same _ w; rest = refl }
 
 module _ {left : ℕ} {s down w₀ : List ℕ} {links₀ p₀ : ℕ} {st₀ : Copying} {w : List ℕ} {links p : ℕ} {st : Copying}
-  (u : Turn left s down w₀ links₀ p₀ st₀ w links p st) (h : 0 < links) where
+    (u : Turn left s down w₀ links₀ p₀ st₀ w links p st) (h : 0 < links) where
   pub turn-next : {w' : List ℕ} {r : Got} {t : Copying} {b : ℕ} → Copied w w' r (copyAt (left - 1) s (drop (left - 1) down) b (standing w st))
-    → r ≡ got.At t → b ≡ leAt 8 s p → length w' ≡ length w → Turn left s down w₀ links₀ p₀ st₀ w' (links - 1) (p + 8) t
+      → r ≡ got.At t → b ≡ leAt 8 s p → length w' ≡ length w → Turn left s down w₀ links₀ p₀ st₀ w' (links - 1) (p + 8) t
   turn-next {w'} {r} {t} {b} c e q l =
       let d = copied-at c e in
       let z : st .used + length (drop (left - 1) down) ≤ 2048 = omega arith in
@@ -99,15 +99,16 @@ module _ {left : ℕ} {s down w₀ : List ℕ} {links₀ p₀ : ℕ} {st₀ : Co
         room = f .room;
         grown = omega arith;
         past = past-then (past-more _ (omega arith) (u .past)) (d .1);
-        rest = links-ok (copyAt (left - 1) s (drop (left - 1) down)) s links p b (standing w st) (u .rest) h q (d .0) }
+        rest = links-ok (copyAt (left - 1) s (drop (left - 1) down)) s links p b (standing w st) (u .rest) h q (d .0);
+      }
 
   turn-refused : {w' : List ℕ} {r : Got} {b n k : ℕ} → Copied w w' r (copyAt (left - 1) s (drop (left - 1) down) b (standing w st))
-    → r ≡ got.Refused n k → b ≡ leAt 8 s p → refused n k ≡ copyLinks (copyAt (left - 1) s (drop (left - 1) down)) s links₀ p₀ (standing w₀ st₀)
+      → r ≡ got.Refused n k → b ≡ leAt 8 s p → refused n k ≡ copyLinks (copyAt (left - 1) s (drop (left - 1) down)) s links₀ p₀ (standing w₀ st₀)
   turn-refused c e q = links-refused (copyAt (left - 1) s (drop (left - 1) down)) s links p _ (standing w st) (u .rest) h q (copied-refused c e)
 
 turn-end : {left : ℕ} {s down w₀ : List ℕ} {links₀ p₀ : ℕ} {st₀ : Copying} {w : List ℕ} {links p : ℕ} {st : Copying}
-  → Turn left s down w₀ links₀ p₀ st₀ w links p st → links ≡ 0
-  → ok (standing w st) ≡ copyLinks (copyAt (left - 1) s (drop (left - 1) down)) s links₀ p₀ (standing w₀ st₀)
+    → Turn left s down w₀ links₀ p₀ st₀ w links p st → links ≡ 0
+    → ok (standing w st) ≡ copyLinks (copyAt (left - 1) s (drop (left - 1) down)) s links₀ p₀ (standing w₀ st₀)
 turn-end u e = sym (links-none _ _ _ _ _ e) ∙ u .rest
 
 -- ---- the ways of the copier
@@ -122,21 +123,23 @@ pub so-begun : {o : Begun} {v : Checked Bool} → begunOf o ≡ v → {x : Begun
 so-begun e q = sym e ∙ ap begunOf q
 
 pub copy-nothing : (left : ℕ) (s way : List ℕ) (a : ℕ) (w : List ℕ) (st : Copying) → beginAt left s way a (copiesIn w (st .used)) ≡ ok false
-  → Copied w w (got.At st) (copyAt left s way a (standing w st))
+    → Copied w w (got.At st) (copyAt left s way a (standing w st))
 copy-nothing left s way a w st e =
     record {
       is = sym (copy-begun left s way a (standing w st) ∙ ap (λ (v : Checked Bool). onBegun v (standing w st) (throughLinks (left - 1) s way a (standing w st))) e);
-      past = past-same _ w }
+      past = past-same _ w;
+    }
 
 pub copy-refused : (left : ℕ) (s way : List ℕ) (a : ℕ) (w : List ℕ) (st : Copying) {n p : ℕ} → beginAt left s way a (copiesIn w (st .used)) ≡ refused n p
-  → Copied w w (got.Refused n p) (copyAt left s way a (standing w st))
+    → Copied w w (got.Refused n p) (copyAt left s way a (standing w st))
 copy-refused left s way a w st e =
     record {
       is = sym (copy-begun left s way a (standing w st) ∙ ap (λ (v : Checked Bool). onBegun v (standing w st) (throughLinks (left - 1) s way a (standing w st))) e);
-      past = tt }
+      past = tt;
+    }
 
 copy-through : (left : ℕ) (s way : List ℕ) (a : ℕ) (w : List ℕ) (st : Copying) → beginAt left s way a (copiesIn w (st .used)) ≡ ok true
-  → copyAt left s way a (standing w st) ≡ throughLinks (left - 1) s way a (standing w st)
+    → copyAt left s way a (standing w st) ≡ throughLinks (left - 1) s way a (standing w st)
 copy-through left s way a w st e =
     copy-begun left s way a (standing w st) ∙ ap (λ (v : Checked Bool). onBegun v (standing w st) (throughLinks (left - 1) s way a (standing w st))) e
 
@@ -149,17 +152,17 @@ down-way way left a l h k =
     ∙ rw (getD-set-same way (left - 1) a 0 (omega arith), drop-set-lt (suc (left - 1)) way (left - 1) a (omega arith), n)
 
 module _ {left : ℕ} {s down w₀ : List ℕ} {links₀ p₀ : ℕ} {st₀ : Copying} {w : List ℕ} {links p : ℕ} {st : Copying} (a : ℕ) (way : List ℕ)
-  (u : Turn left s down w₀ links₀ p₀ st₀ w links p st) (b : beginAt left s way a (copiesIn w₀ (st₀ .used)) ≡ ok true) (d : drop (left - 1) down ≡ a ∷ way)
-  (n : links₀ ≡ linksAt s a - lostLinks s a) (o : p₀ ≡ a + 24 + 8 * lostLinks s a) where
+    (u : Turn left s down w₀ links₀ p₀ st₀ w links p st) (b : beginAt left s way a (copiesIn w₀ (st₀ .used)) ≡ ok true) (d : drop (left - 1) down ≡ a ∷ way)
+    (n : links₀ ≡ linksAt s a - lostLinks s a) (o : p₀ ≡ a + 24 + 8 * lostLinks s a) where
   pub copy-stopped : {w' : List ℕ} {r : Got} {c k q : ℕ} → 0 < links → Copied w w' r (copyAt (left - 1) s (drop (left - 1) down) c (standing w st))
-    → r ≡ got.Refused k q → c ≡ leAt 8 s p → Copied w₀ w' (got.Refused k q) (copyAt left s way a (standing w₀ st₀))
+      → r ≡ got.Refused k q → c ≡ leAt 8 s p → Copied w₀ w' (got.Refused k q) (copyAt left s way a (standing w₀ st₀))
   unfolding throughLinks
   copy-stopped h c e q =
       let f = turn-refused u h c e q in
       record { is = rw (copy-through left s way a w₀ st₀ b, ← n, ← o, ← d, ← f); past = tt }
 
   pub copy-done : {w' : List ℕ} {t : Copying} {size : ℕ} → links ≡ 0 → size ≡ sizeAt s a → standing w' t ≡ placed a size (standing w st)
-    → Past (2 * t .used) w w' → Copied w₀ w' (got.At t) (copyAt left s way a (standing w₀ st₀))
+      → Past (2 * t .used) w w' → Copied w₀ w' (got.At t) (copyAt left s way a (standing w₀ st₀))
   unfolding throughLinks
   copy-done {w'} {t} {size} z e q k =
       let f = turn-end u z in
@@ -188,8 +191,8 @@ pub record Started (left : ℕ) (s way : List ℕ) (a : ℕ) (w : List ℕ) (st 
   pub short : sizeAt s a ≤ 268435456
 
 pub started : (left : ℕ) (s way : List ℕ) (a : ℕ) (w : List ℕ) (st : Copying) {o : Begun}
-  → begunOf o ≡ beginAt left s (drop left way) a (copiesIn w (st .used)) → o ≡ begun.Links → length way ≡ 65 → left ≤ 65 → 8192 ≤ length w
-  → Room (st .used) (st .next) → Started left s way a w st
+    → begunOf o ≡ beginAt left s (drop left way) a (copiesIn w (st .used)) → o ≡ begun.Links → length way ≡ 65 → left ≤ 65 → 8192 ≤ length w
+    → Room (st .used) (st .next) → Started left s way a w st
 started left s way a w st e q l k n r =
     let b = so-begun e q in
     let g = begun-going left s (drop left way) a (copiesIn w (st .used)) b in
@@ -208,7 +211,8 @@ started left s way a w st e q l k n r =
       room = r;
       range = omega arith;
       lost = lost-few s a;
-      short = f .short }
+      short = f .short;
+    }
 
 -- ---- from outside of any copied block
 pub root-copied : (s : List ℕ) (a : ℕ) (m : Copies) {w w' : List ℕ} {r : Got} → Copied w w' r (copyAt 65 s [] a m) → Copied w w' r (copyRoot s a m)
@@ -216,7 +220,7 @@ unfolding copyRoot
 root-copied s a m c = c
 
 pub root-after : (s : List ℕ) (a : ℕ) (w w' : List ℕ) (st : Copying) (r : Got) → Copied w w' r (copyAt 65 s [] a (standing w st))
-  → Room (st .used) (st .next) → AfterGot r st
+    → Room (st .used) (st .next) → AfterGot r st
 root-after s a w w' st (got.At t) c h = copy-after 65 s [] a w w' st t (c .is) (omega arith) h
 root-after s a w w' st (got.Refused n p) c h = tt
 
@@ -239,22 +243,23 @@ pub held-begin : (w : List ℕ) (st : Copying) → Room (st .used) (st .next) �
 held-begin w st h = record { same = refl; after = after-same st h; past = past-same _ w }
 
 pub held-next : {w₀ : List ℕ} {st₀ : Copying} {w : List ℕ} {st : Copying} {w' : List ℕ} {r : Got} {v : Checked Copies} {t : Copying}
-  → Held w₀ st₀ w st → Copied w w' r v → AfterGot r st → r ≡ got.At t → length w' ≡ length w → Held w₀ st₀ w' t
+    → Held w₀ st₀ w st → Copied w w' r v → AfterGot r st → r ≡ got.At t → length w' ≡ length w → Held w₀ st₀ w' t
 held-next u c h e l =
     let f = after-at h e in
     record {
       same = l ∙ u .same;
       after = after-then (u .after) f;
-      past = past-then (past-more _ (omega arith) (u .past)) (copied-at c e .1) }
+      past = past-then (past-more _ (omega arith) (u .past)) (copied-at c e .1);
+    }
 
 -- ---- links from outside of any copied block: a turn, a refusal, the end
 module _ (s : List ℕ) (links p : ℕ) (w : List ℕ) (st : Copying) {r : Checked Copies} where
   pub follow-next : {w' : List ℕ} {g : Got} {t : Copying} {b : ℕ} → copyLinks (copyRoot s) s links p (standing w st) ≡ r → 0 < links
-    → Copied w w' g (copyRoot s b (standing w st)) → g ≡ got.At t → b ≡ leAt 8 s p → copyLinks (copyRoot s) s (links - 1) (p + 8) (standing w' t) ≡ r
+      → Copied w w' g (copyRoot s b (standing w st)) → g ≡ got.At t → b ≡ leAt 8 s p → copyLinks (copyRoot s) s (links - 1) (p + 8) (standing w' t) ≡ r
   follow-next i h c e q = links-ok (copyRoot s) s links p _ (standing w st) i h q (copied-at c e .0)
 
   pub follow-refused : {w₀ w' : List ℕ} {g : Got} {b n k : ℕ} → copyLinks (copyRoot s) s links p (standing w st) ≡ r → 0 < links
-    → Copied w w' g (copyRoot s b (standing w st)) → g ≡ got.Refused n k → b ≡ leAt 8 s p → Copied w₀ w' (got.Refused n k) r
+      → Copied w w' g (copyRoot s b (standing w st)) → g ≡ got.Refused n k → b ≡ leAt 8 s p → Copied w₀ w' (got.Refused n k) r
   follow-refused i h c e q = record { is = links-refused (copyRoot s) s links p _ (standing w st) i h q (copied-refused c e); past = tt }
 
   pub follow-end : {w₀ : List ℕ} {st₀ : Copying} → copyLinks (copyRoot s) s links p (standing w st) ≡ r → links ≡ 0 → Held w₀ st₀ w st → Copied w₀ w (got.At st) r
@@ -262,24 +267,24 @@ module _ (s : List ℕ) (links p : ℕ) (w : List ℕ) (st : Copying) {r : Check
 
 -- ---- roots, from number i on
 roots-cons : (s l : List ℕ) (i : ℕ) (m : Copies) → i < length l
-  → copyRoots s (drop i l) m ≡ andThen (copyRoot s (getD l i 0) m) (λ m'. copyRoots s (drop (i + 1) l) m')
+    → copyRoots s (drop i l) m ≡ andThen (copyRoot s (getD l i 0) m) (λ m'. copyRoots s (drop (i + 1) l) m')
 unfolding copyRoots
 roots-cons s l i m h = rw (drop-cons l i 0 h, add-one)
 
 module _ (s l : List ℕ) (i b : ℕ) (w : List ℕ) (st : Copying) {r : Checked Copies} where
   pub roots-next : {w' : List ℕ} {g : Got} {t : Copying} → copyRoots s (drop i l) (standing w st) ≡ r → i < length l
-    → Copied w w' g (copyRoot s b (standing w st)) → g ≡ got.At t → b ≡ getD l i 0 → copyRoots s (drop (i + 1) l) (standing w' t) ≡ r
+      → Copied w w' g (copyRoot s b (standing w st)) → g ≡ got.At t → b ≡ getD l i 0 → copyRoots s (drop (i + 1) l) (standing w' t) ≡ r
   roots-next {w'} {g} {t} k h c e q =
       let v : copyRoot s (getD l i 0) (standing w st) ≡ ok (standing w' t) = rw q at (sym (copied-at c e .0)) in
       rw (roots-cons s l i (standing w st) h, v) at k
 
   pub roots-refused : {w₀ w' : List ℕ} {g : Got} {n p : ℕ} → copyRoots s (drop i l) (standing w st) ≡ r → i < length l
-    → Copied w w' g (copyRoot s b (standing w st)) → g ≡ got.Refused n p → b ≡ getD l i 0 → Copied w₀ w' (got.Refused n p) r
+      → Copied w w' g (copyRoot s b (standing w st)) → g ≡ got.Refused n p → b ≡ getD l i 0 → Copied w₀ w' (got.Refused n p) r
   roots-refused {w₀} {w'} {g} {n} {p} k h c e q =
       let v : copyRoot s (getD l i 0) (standing w st) ≡ refused n p = rw q at (sym (copied-refused c e)) in
       record { is = rw (roots-cons s l i (standing w st) h, v) at k; past = tt }
 
 pub roots-end : (s l : List ℕ) (i : ℕ) (w : List ℕ) (st : Copying) {r : Checked Copies} {w₀ : List ℕ} {st₀ : Copying}
-  → copyRoots s (drop i l) (standing w st) ≡ r → length l ≤ i → Held w₀ st₀ w st → Copied w₀ w (got.At st) r
+    → copyRoots s (drop i l) (standing w st) ≡ r → length l ≤ i → Held w₀ st₀ w st → Copied w₀ w (got.At st) r
 unfolding copyRoots
 roots-end s l i w st k h u = record { is = rw (drop-of-length-le l h) at k; past = u .past }

@@ -31,13 +31,13 @@ pub copies-laid : (w w' : List ℕ) (k : ℕ) → length w' ≡ length w → 2 *
 copies-laid w w' k l h p =
     let n = length-words-copies w' k (omega arith) in
     let e : blit 0 (copyWords (copiesIn w' k)) w ≡ copyWords (copiesIn w' k) ++ drop (2 * k) w =
-          blit-is 0 (copyWords (copiesIn w' k)) w (omega arith) ∙ rw (zero-add, n) in
+    blit-is 0 (copyWords (copiesIn w' k)) w (omega arith) ∙ rw (zero-add, n) in
     sym (e ∙ rw (words-copies w' 0 k (omega arith), ← (p .kept)) (take-append-drop (2 * k) w'))
 
 -- the words of `laidCopies`, in any order
 pub all-laid : (w w' : List ℕ) (k : ℕ) (chain : List ℕ) (ts : List Attachment) → length w' ≡ length w → 4096 ≤ length w → k ≤ 2048 → length ts ≤ 64
-  → Past (2 * k) (blit attachmentsAt (attachmentWords ts) (blit historyAt chain w)) w'
-  → w' ≡ blit historyAt chain (blit attachmentsAt (attachmentWords ts) (blit 0 (copyWords (copiesIn w' k)) w))
+    → Past (2 * k) (blit attachmentsAt (attachmentWords ts) (blit historyAt chain w)) w'
+    → w' ≡ blit historyAt chain (blit attachmentsAt (attachmentWords ts) (blit 0 (copyWords (copiesIn w' k)) w))
 all-laid w w' k chain ts l h u t p =
     let n = length-words-copies w' k (omega arith) in
     let m = length-words ts in
@@ -50,15 +50,15 @@ all-laid w w' k chain ts l h u t p =
 
 -- with the places of columns
 pub all-placed : (w w' : List ℕ) (k : ℕ) (chain : List ℕ) (ts : List Attachment) (ps : List ℕ) → length w' ≡ length w → 4096 ≤ length w → k ≤ 2048
-  → length ts ≤ 64 → length chain ≤ 2304
-  → Past (2 * k) (blit attachmentsAt (attachmentWords ts) (blit placedAt ps (blit historyAt chain w))) w'
-  → w' ≡ blit placedAt ps (blit historyAt chain (blit attachmentsAt (attachmentWords ts) (blit 0 (copyWords (copiesIn w' k)) w)))
+    → length ts ≤ 64 → length chain ≤ 2304
+    → Past (2 * k) (blit attachmentsAt (attachmentWords ts) (blit placedAt ps (blit historyAt chain w))) w'
+    → w' ≡ blit placedAt ps (blit historyAt chain (blit attachmentsAt (attachmentWords ts) (blit 0 (copyWords (copiesIn w' k)) w)))
 all-placed w w' k chain ts ps l h u t c p =
     let n = length-words-copies w' k (omega arith) in
     let m = length-words ts in
     let x = length-blit placedAt ps w in
     let q : Past (2 * k) (blit attachmentsAt (attachmentWords ts) (blit historyAt chain (blit placedAt ps w))) w' =
-          rw (blit-comm chain 4352 6656 ps w (omega arith)) p in
+    rw (blit-comm chain 4352 6656 ps w (omega arith)) p in
     all-laid (blit placedAt ps w) w' k chain ts (omega arith) (omega arith) u t q
     ∙ ap (λ (v : List ℕ). blit historyAt chain (blit attachmentsAt (attachmentWords ts) v)) (blit-comm (copyWords (copiesIn w' k)) 0 6656 ps w (omega arith))
     ∙ ap (blit historyAt chain) (blit-comm (attachmentWords ts) 4096 6656 ps (blit 0 (copyWords (copiesIn w' k)) w) (omega arith))

@@ -1,8 +1,16 @@
 // The attachment chain: each AT is placed after the blocks newly copied for it; three words each from 4096 on.
-use blocks::block::{kind_at, size_at, links_at, first_link, header_in};
+use crate::copier::AT;
+use crate::copier::Begun;
+use crate::copier::Got;
+use crate::copier::follow;
+use crate::memo::Copying;
+use crate::memo::aligned;
+use blocks::block::first_link;
+use blocks::block::header_in;
+use blocks::block::kind_at;
+use blocks::block::links_at;
+use blocks::block::size_at;
 use fields::Check;
-use crate::memo::{Copying, aligned};
-use crate::copier::{AT, Begun, Got, follow};
 ghost use mathlib.Core.Path.{_≡_};
 ghost use mathlib.Core.List.{[], _∷_};
 ghost use Prim.Native.Nat.{_+_, _*_, _≤_, _<_};
@@ -44,24 +52,42 @@ pub fn attachment_in(image: &[u8], a: u64) -> Check
 {
     let links = links_at(image, a);
     if links < 4 {
-        return Check::Refused { number: 18, place: a };
+        return Check::Refused {
+            number: 18,
+            place: a,
+        };
     }
     let size = size_at(image, a);
     if size < 24 {
-        return Check::Refused { number: 18, place: a };
+        return Check::Refused {
+            number: 18,
+            place: a,
+        };
     }
     if (size - 24) / 8 < links {
-        return Check::Refused { number: 18, place: a };
+        return Check::Refused {
+            number: 18,
+            place: a,
+        };
     }
     if 33554429 < links {
-        return Check::Refused { number: 18, place: a };
+        return Check::Refused {
+            number: 18,
+            place: a,
+        };
     }
     let n = image.len() as u64;
     if n < a {
-        return Check::Refused { number: 4, place: a };
+        return Check::Refused {
+            number: 4,
+            place: a,
+        };
     }
     if n - a < size {
-        return Check::Refused { number: 4, place: a };
+        return Check::Refused {
+            number: 4,
+            place: a,
+        };
     }
     Check::Fine
 }
@@ -89,7 +115,10 @@ fn attaches(image: &[u8], memo: &[u64], a: u64, count: u64) -> Begun
         if count < 64 {
             return Begun::Links;
         }
-        return Begun::Refused { number: 19, place: a };
+        return Begun::Refused {
+            number: 19,
+            place: a,
+        };
     }
     Begun::Nothing
 }
@@ -106,7 +135,10 @@ fn attach(memo: &mut [u64], a: u64, size: u64, count: u64, own: u64, state: Copy
     memo[at] = a;
     memo[at + 1] = to;
     memo[at + 2] = own;
-    Copying { used: state.used, next }
+    Copying {
+        used: state.used,
+        next,
+    }
 }
 
 // The chain from a on.

@@ -1,8 +1,10 @@
 // The columns, out of the words in which planning keeps them: sizes, places and copies.
-use channels::{width_of, block_count};
-use crate::memo::{Copying, aligned};
 use crate::copier::Got;
+use crate::memo::Copying;
+use crate::memo::aligned;
 use crate::roots::column_roots;
+use channels::block_count;
+use channels::width_of;
 ghost use mathlib.Core.Path.{_≡_};
 ghost use mathlib.Core.List.{[], _∷_};
 ghost use Prim.Native.Nat.{_+_, _*_, _≤_, _<_};
@@ -134,7 +136,16 @@ fn put_place(memo: &mut [u64], q: usize, dg: u64, first: u64, sd: u64)
 }
 
 // The places of n columns, whose DG begin at a and whose data begin at d, in the words from 6656 on; past their data.
-pub(crate) fn place_columns(image: &[u8], size: u64, fragments: &[u64], columns: &[u64], n: u64, memo: &mut [u64], a: u64, d: u64) -> u64
+pub(crate) fn place_columns(
+    image: &[u8],
+    size: u64,
+    fragments: &[u64],
+    columns: &[u64],
+    n: u64,
+    memo: &mut [u64],
+    a: u64,
+    d: u64,
+) -> u64
     requires { ⌜ (n ≤ 512) × (a ≤ 1125899906842624) × (d ≤ 1125899906842624) × (8192 ≤ length (now memo))
         × AllWithin (now image) size (now columns) (now fragments) 0 n ⌝ }
     ensures end { λ r. ⌜ r ≡ dataIn (now (image .entry)) size (now (columns .entry)) (now (fragments .entry)) 0 n d ⌝ }
@@ -158,7 +169,13 @@ pub(crate) fn place_columns(image: &[u8], size: u64, fragments: &[u64], columns:
 }
 
 // The blocks that n columns refer to, and all that they link to, in order.
-pub(crate) fn copy_columns(image: &[u8], columns: &[u64], n: u64, memo: &mut [u64], state: Copying) -> Got
+pub(crate) fn copy_columns(
+    image: &[u8],
+    columns: &[u64],
+    n: u64,
+    memo: &mut [u64],
+    state: Copying,
+) -> Got
     requires { ⌜ (n ≤ 512) × (8192 ≤ length (now memo)) × Room (state .used) (state .next) ⌝ }
     ensures { λ r. ⌜ Copied (now (memo .entry)) (now (memo .exit)) r
         (copiesOf (now (image .entry)) (now (columns .entry)) 0 n (standing (now (memo .entry)) state)) ⌝ }

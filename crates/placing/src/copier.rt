@@ -1,7 +1,17 @@
 // The metadata copier: it calls itself on each link, the depth left falls from 65, and copied blocks come from the words.
-use blocks::block::{TX, MD, kind_at, size_at, links_at, whole_at};
-use fields::{Check, u64_at};
-use crate::memo::{Copying, Found, find, is_in, place};
+use crate::memo::Copying;
+use crate::memo::Found;
+use crate::memo::find;
+use crate::memo::is_in;
+use crate::memo::place;
+use blocks::block::MD;
+use blocks::block::TX;
+use blocks::block::kind_at;
+use blocks::block::links_at;
+use blocks::block::size_at;
+use blocks::block::whole_at;
+use fields::Check;
+use fields::u64_at;
 ghost use mathlib.Core.Path.{_≡_};
 ghost use Prim.Native.Nat.{_+_, _*_, _-_, _≤_, _<_};
 ghost use lib.ListN.{length, drop};
@@ -12,8 +22,11 @@ ghost use Rattle.placing.specs.Begin.{beginAt};
 ghost use Rattle.placing.specs.Got.{begunOf, Copied, AfterGot};
 
 pub const CC: u64 = 1128473379;
+
 pub const SI: u64 = 1230185251;
+
 pub const FH: u64 = 1212556067;
+
 pub const AT: u64 = 1413554979;
 
 // What was copied, or document 01's refusal with number and place.
@@ -84,10 +97,16 @@ fn begin(image: &[u8], memo: &[u64], way: &[u64], a: u64, left: u64, used: u64) 
         return Begun::Nothing;
     }
     if left == 0 {
-        return Begun::Refused { number: 16, place: a };
+        return Begun::Refused {
+            number: 16,
+            place: a,
+        };
     }
     if is_in(way, left as usize, 65, a) {
-        return Begun::Refused { number: 16, place: a };
+        return Begun::Refused {
+            number: 16,
+            place: a,
+        };
     }
     let whole = whole_at(image, a);
     if let Check::Refused { number, place } = whole {
@@ -97,13 +116,23 @@ fn begin(image: &[u8], memo: &[u64], way: &[u64], a: u64, left: u64, used: u64) 
         if used + (65 - left) < 2048 {
             return Begun::Links;
         }
-        return Begun::Refused { number: 19, place: a };
+        return Begun::Refused {
+            number: 19,
+            place: a,
+        };
     }
     Begun::Nothing
 }
 
 // The block at a and all that it links to, with the blocks on the way down in `way` from index left on.
-pub(crate) fn copy(image: &[u8], memo: &mut [u64], way: [u64; 65], a: u64, left: u64, state: Copying) -> Got
+pub(crate) fn copy(
+    image: &[u8],
+    memo: &mut [u64],
+    way: [u64; 65],
+    a: u64,
+    left: u64,
+    state: Copying,
+) -> Got
     requires { ⌜ (8192 ≤ length (now memo)) × (left ≤ 65) × (state .used + 65 ≤ 2048 + left) × Room (state .used) (state .next) ⌝ }
     ensures { λ r. ⌜ Copied (now (memo .entry)) (now (memo .exit)) r
         (copyAt left (now (image .entry)) (drop left way) a (standing (now (memo .entry)) state)) ⌝ }

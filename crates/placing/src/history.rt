@@ -1,8 +1,15 @@
 // The history chain: its blocks are copied, and their addresses kept in the words from 4352 on.
-use blocks::block::{kind_at, links_at, first_link, whole_at};
+use crate::copier::Begun;
+use crate::copier::Got;
+use crate::copier::copy_root;
+use crate::copier::is_copied;
+use crate::memo::Copying;
+use crate::memo::is_in;
+use blocks::block::first_link;
+use blocks::block::kind_at;
+use blocks::block::links_at;
+use blocks::block::whole_at;
 use fields::Check;
-use crate::memo::{Copying, is_in};
-use crate::copier::{Begun, Got, is_copied, copy_root};
 ghost use mathlib.Core.Path.{_≡_};
 ghost use Prim.Native.Nat.{_+_, _≤_, _<_};
 ghost use lib.ListN.{length};
@@ -34,7 +41,10 @@ fn goes_on(image: &[u8], memo: &[u64], a: u64, count: u64) -> Begun
     }
     if is_copied(kind_at(image, a)) {
         if links_at(image, a) == 0 {
-            return Begun::Refused { number: 17, place: a };
+            return Begun::Refused {
+                number: 17,
+                place: a,
+            };
         }
         return Begun::Links;
     }

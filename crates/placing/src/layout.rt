@@ -1,10 +1,16 @@
 // The whole layout, while measuring: copies, the new MD and FH, columns, attachments.
+use crate::attachments::Moved;
+use crate::attachments::attachments;
+use crate::columns::copy_columns;
+use crate::columns::place_columns;
+use crate::columns::structure_end;
+use crate::copier::Got;
+use crate::copier::copy_root;
+use crate::history::Chain;
+use crate::history::history_chain;
+use crate::memo::Copying;
+use crate::memo::aligned;
 use blocks::block::link_at;
-use crate::memo::{Copying, aligned};
-use crate::copier::{Got, copy_root};
-use crate::history::{Chain, history_chain};
-use crate::attachments::{Moved, attachments};
-use crate::columns::{structure_end, place_columns, copy_columns};
 ghost use mathlib.Core.Path.{_≡_};
 ghost use Prim.Native.Nat.{_+_, _*_, _≤_, _<_};
 ghost use lib.ListN.{length};
@@ -34,8 +40,15 @@ pub enum Laid {
 
 // What follows the columns' metadata: attachments, the end of metadata, what is placed; or a refusal.
 pub enum Rest {
-    At { count: u64, end: u64, state: Copying },
-    Refused { number: u64, place: u64 },
+    At {
+        count: u64,
+        end: u64,
+        state: Copying,
+    },
+    Refused {
+        number: u64,
+        place: u64,
+    },
 }
 
 // Bytes of the MD with a text of n bytes.
@@ -51,7 +64,12 @@ fn first_copies(image: &[u8], memo: &mut [u64]) -> Chain
     requires { ⌜ 8192 ≤ length (now memo) ⌝ }
     ensures { λ r. ⌜ Begins (now (image .entry)) (now (memo .entry)) (now (memo .exit)) r ⌝ }
 {
-    let got = copy_root(image, memo, link_at(image, 64, 5), Copying { used: 0, next: 168 });
+    let got = copy_root(
+        image,
+        memo,
+        link_at(image, 64, 5),
+        Copying { used: 0, next: 168 },
+    );
     match got {
         Got::At(t) => {
             return history_chain(image, memo, link_at(image, 64, 1), t);
@@ -63,7 +81,15 @@ fn first_copies(image: &[u8], memo: &mut [u64]) -> Chain
 }
 
 // After the columns' metadata: places of columns, then attachments.
-fn place_rest(image: &[u8], size: u64, fragments: &[u64], columns: &[u64], n: u64, memo: &mut [u64], state: Copying) -> Rest
+fn place_rest(
+    image: &[u8],
+    size: u64,
+    fragments: &[u64],
+    columns: &[u64],
+    n: u64,
+    memo: &mut [u64],
+    state: Copying,
+) -> Rest
     requires { ⌜ (n ≤ 512) × (8192 ≤ length (now memo)) × (length (now image) ≤ 4294967296) × (state .used ≤ 2048)
         × (state .next ≤ 562949953421312) × AllWithin (now image) size (now columns) (now fragments) 0 n ⌝ }
     ensures { λ r. ⌜ Rests (now (image .entry)) size (now (columns .entry)) (now (fragments .entry)) n (now (memo .entry)) (now (memo .exit)) state r ⌝ }
@@ -71,7 +97,15 @@ fn place_rest(image: &[u8], size: u64, fragments: &[u64], columns: &[u64], n: u6
     let a = aligned(state.next);
     let end = structure_end(image, size, columns, n, a);
     let data = place_columns(image, size, fragments, columns, n, memo, a, end);
-    let moved = attachments(image, memo, link_at(image, 64, 3), Copying { used: state.used, next: data });
+    let moved = attachments(
+        image,
+        memo,
+        link_at(image, 64, 3),
+        Copying {
+            used: state.used,
+            next: data,
+        },
+    );
     match moved {
         Moved::At { count, state } => {
             return Rest::At { count, end, state };
@@ -83,7 +117,15 @@ fn place_rest(image: &[u8], size: u64, fragments: &[u64], columns: &[u64], n: u6
 }
 
 // The layout of n columns for a block size and a history text of so many bytes.
-pub(crate) fn lay_out(image: &[u8], size: u64, text: u64, fragments: &[u64], columns: &[u64], n: u64, memo: &mut [u64]) -> Laid
+pub(crate) fn lay_out(
+    image: &[u8],
+    size: u64,
+    text: u64,
+    fragments: &[u64],
+    columns: &[u64],
+    n: u64,
+    memo: &mut [u64],
+) -> Laid
     requires { ⌜ (n ≤ 512) × (8192 ≤ length (now memo)) × (length (now image) ≤ 4294967296) × (text ≤ 4096)
         × AllWithin (now image) size (now columns) (now fragments) 0 n ⌝ }
     ensures { λ r. ⌜ LaysOut (now (image .entry)) size text (now (columns .entry)) (now (fragments .entry)) n (now (memo .entry)) (now (memo .exit)) r ⌝ }
@@ -93,12 +135,25 @@ pub(crate) fn lay_out(image: &[u8], size: u64, text: u64, fragments: &[u64], col
         Chain::At { count, state } => {
             let md = aligned(state.next);
             let fh = md + md_bytes(text);
-            let got = copy_columns(image, columns, n, memo, Copying { used: state.used, next: fh + 56 });
+            let got = copy_columns(
+                image,
+                columns,
+                n,
+                memo,
+                Copying {
+                    used: state.used,
+                    next: fh + 56,
+                },
+            );
             match got {
                 Got::At(t) => {
                     let rest = place_rest(image, size, fragments, columns, n, memo, t);
                     match rest {
-                        Rest::At { count: attached, end, state: u } => {
+                        Rest::At {
+                            count: attached,
+                            end,
+                            state: u,
+                        } => {
                             return Laid::Done(Numbers {
                                 history: state.used,
                                 chain: count,

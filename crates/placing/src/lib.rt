@@ -1,9 +1,9 @@
 // Which metadata blocks are copied and where all blocks of the result are placed, while measuring.
-pub mod memo;
-pub mod copier;
-pub mod roots;
-pub mod history;
 pub mod attachments;
 pub mod columns;
-pub mod layout;
+pub mod copier;
 pub mod decide;
+pub mod history;
+pub mod layout;
+pub mod memo;
+pub mod roots;

@@ -96,5 +96,8 @@ pub(crate) fn place(memo: &mut [u64], a: u64, size: u64, state: Copying) -> Copy
     let to = aligned(state.next);
     memo[at] = a;
     memo[at + 1] = to;
-    Copying { used: used + 1, next: to + size }
+    Copying {
+        used: used + 1,
+        next: to + size,
+    }
 }

@@ -1,7 +1,8 @@
 // What a column refers to: links of its CG, its CN and its DG.
-use blocks::block::link_at;
+use crate::copier::Got;
+use crate::copier::copy_root;
 use crate::memo::Copying;
-use crate::copier::{Got, copy_root};
+use blocks::block::link_at;
 ghost use mathlib.Core.Path.{_≡_};
 ghost use Prim.Native.Nat.{_≤_, _<_};
 ghost use lib.ListN.{length, getD};
@@ -45,7 +46,14 @@ pub fn root(image: &[u8], dg: u64, cg: u64, cn: u64, i: u64) -> u64
 }
 
 // The nine blocks and all that they link to, in order.
-pub(crate) fn column_roots(image: &[u8], memo: &mut [u64], dg: u64, cg: u64, cn: u64, state: Copying) -> Got
+pub(crate) fn column_roots(
+    image: &[u8],
+    memo: &mut [u64],
+    dg: u64,
+    cg: u64,
+    cn: u64,
+    state: Copying,
+) -> Got
     requires { ⌜ (8192 ≤ length (now memo)) × Room (state .used) (state .next) ⌝ }
     ensures { λ r. ⌜ Copied (now (memo .entry)) (now (memo .exit)) r
         (copyRoots (now (image .entry)) (roots (now (image .entry)) dg cg cn) (standing (now (memo .entry)) state)) ⌝ }

@@ -137,7 +137,7 @@ keptSignal (stopped number place fs) = refused number place
 unfoldable pub decideSignal : List ℕ → ℕ → ℕ → Checked Decision
 decideSignal s n c =
     let sd = andThen (headerIn s (linkAt s c 5)) (λ _.
-          ifEq (kindAt s (linkAt s c 5)) kindCG (ok (omitted 7)) (keptSignal (chain signal limits s n (linkAt s c 5)))) in
+    ifEq (kindAt s (linkAt s c 5)) kindCG (ok (omitted 7)) (keptSignal (chain signal limits s n (linkAt s c 5)))) in
     ifEq (channelType s c) 1 (ifEq (linkAt s c 5) 0 (ok (kept unsigned)) sd) (ok (kept unsigned))
 
 -- "5 array, CN link 2 leads to CA; 6 structure, it leads to CN"
@@ -145,7 +145,7 @@ unfoldable pub decideComposition : List ℕ → ℕ → ℕ → Checked Decision
 decideComposition s n c =
     let signals = decideSignal s n c in
     let led = andThen (headerIn s (linkAt s c 1)) (λ _.
-          ifEq (kindAt s (linkAt s c 1)) kindCA (ok (omitted 5)) (ifEq (kindAt s (linkAt s c 1)) kindCN (ok (omitted 6)) signals)) in
+    ifEq (kindAt s (linkAt s c 1)) kindCA (ok (omitted 5)) (ifEq (kindAt s (linkAt s c 1)) kindCN (ok (omitted 6)) signals)) in
     ifEq (linkAt s c 1) 0 signals led
 
 abbrev pub onTreatment : {A : Type 0} → Treatment → A → A → A

@@ -15,10 +15,13 @@ use Rattle.plan.specs.Columns.{SrcGroup, Column}
 
 abbrev pub kindCC : ℕ
 kindCC = 1128473379
+
 abbrev pub kindSI : ℕ
 kindSI = 1230185251
+
 abbrev pub kindFH : ℕ
 kindFH = 1212556067
+
 abbrev pub kindAT : ℕ
 kindAT = 1413554979
 
@@ -155,7 +158,8 @@ unfoldable pub attach : ℕ → ℕ → Copies → Copies → Attached → Attac
 attach a size before m t =
     record {
       attachments = t .attachments ++ (record { from = a; to = align8 (m .next); own = drop (length (before .memo)) (m .memo) } ∷ []);
-      made = copies (m .memo) (align8 (align8 (m .next) + size)) }
+      made = copies (m .memo) (align8 (align8 (m .next) + size));
+    }
 
 unfoldable pub attachmentsFrom : ℕ → List ℕ → ℕ → Attached → Checked Attached
 attachmentsFrom zero s a t = ok t

@@ -19,6 +19,7 @@ attachmentWords (t ∷ ts) = t .from ∷ t .to ∷ length (t .own) ∷ attachmen
 -- copies from 0 on; attachments and the history chain from here on
 abbrev pub attachmentsAt : ℕ
 attachmentsAt = 4096
+
 abbrev pub historyAt : ℕ
 historyAt = 4352
 

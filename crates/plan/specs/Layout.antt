@@ -96,11 +96,11 @@ unfoldable pub mdSize : ℕ → ℕ
 mdSize n = align8 (24 + n + 1)
 
 pub record Layout : Type 0 where
-  pub comment : Copies          -- after the HD comment
-  pub past : History            -- after the history chain
-  pub md : ℕ                    -- the new MD
-  pub fh : ℕ                    -- the new FH
-  pub metadata : Copies         -- after the columns' metadata
+  pub comment : Copies  -- after the HD comment
+  pub past : History  -- after the history chain
+  pub md : ℕ  -- the new MD
+  pub fh : ℕ  -- the new FH
+  pub metadata : Copies  -- after the columns' metadata
   pub placed : List Placed
   pub metadataEnd : ℕ
   pub attached : Attached
@@ -133,4 +133,5 @@ layout s size n cs =
       placed = placedFrom s size (structurePlace m2) (structureEnd s size (structurePlace m2) cs) cs;
       metadataEnd = structureEnd s size (structurePlace m2) cs;
       attached = t;
-      fileSize = t .made .next })))))
+      fileSize = t .made .next;
+    })))))

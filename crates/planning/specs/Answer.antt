@@ -86,7 +86,7 @@ keptBy a w f c = record {
   omissions = length (a .planned .omissions);
   words = blit countsAt (a .numbers) (laidItems (a .source .items) w);
   pieces = blit 0 (fragmentWords (a .source .fragments ++ signalFragments (a .planned .columns))) f;
-  plans = laidPlan (length (a .source .fragments)) (a .planned) c
+  plans = laidPlan (length (a .source .fragments)) (a .planned) c;
 }
 
 unfoldable pub planOver : List ℕ → ℕ → List ℕ → List ℕ → List ℕ → Checked Kept
@@ -103,7 +103,7 @@ arranged s size r =
 -- the data stage and the block counts, for all columns that stand in the words
 pub record StageOver (s : List ℕ) (size : ℕ) (src f w : List ℕ) (n nf nc : ℕ) (r : Check) : Type 0 where
   pub is : (m : ℕ) (cs : List Column) → Stand w m 0 cs → length cs ≡ nc
-    → verdictOf r ≡ andThen (allDataOver s w f nf nc (itemsFrom src 0 n)) (λ _. blocksIn s size cs)
+      → verdictOf r ≡ andThen (allDataOver s w f nf nc (itemsFrom src 0 n)) (λ _. blocksIn s size cs)
 
 -- a recording that the words hold
 pub record ReadIn (s src f : List ℕ) (n nf : ℕ) (r : Recording) (w₀ f₀ : List ℕ) : Type 0 where

@@ -55,19 +55,19 @@ module _ (s : List ℕ) (size : ℕ) (src f w : List ℕ) (n nf nc : ℕ) {v : C
 
 -- two checks, then what is decided
 stage-refused : {A B : Type 0} (d b : Verdict) (a : A) (k : A → B) {y p : ℕ} → _≡_ {A = Verdict} (refused y p) (andThen d (λ _. b))
-  → refused y p ≡ andThen (andThen d (λ _. andThen b (λ _. ok a))) (λ z. ok (k z))
+    → refused y p ≡ andThen (andThen d (λ _. andThen b (λ _. ok a))) (λ z. ok (k z))
 stage-refused (ok t) (ok u) a k e = absurd (refused≢ok e)
 stage-refused (ok t) (refused m n) a k e = cc
 stage-refused (refused m n) b a k e = cc
 
 stage-fine : {A B : Type 0} (d b : Verdict) (a : A) (k : A → B) → fine ≡ andThen d (λ _. b)
-  → ok (k a) ≡ andThen (andThen d (λ _. andThen b (λ _. ok a))) (λ z. ok (k z))
+    → ok (k a) ≡ andThen (andThen d (λ _. andThen b (λ _. ok a))) (λ z. ok (k z))
 stage-fine (ok t) (ok u) a k e = refl
 stage-fine (ok t) (refused m n) a k e = absurd (ok≢refused e)
 stage-fine (refused m n) b a k e = absurd (ok≢refused e)
 
 same-kept : {a a' b b' c c' d d' : ℕ} {w w' f f' p p' : List ℕ} → a ≡ a' → b ≡ b' → c ≡ c' → d ≡ d' → w ≡ w' → f ≡ f' → p ≡ p'
-  → _≡_ {A = Checked Kept} (ok (record { items = a; fragments = b; columns = c; omissions = d; words = w; pieces = f; plans = p }))
+    → _≡_ {A = Checked Kept} (ok (record { items = a; fragments = b; columns = c; omissions = d; words = w; pieces = f; plans = p }))
     (ok (record { items = a'; fragments = b'; columns = c'; omissions = d'; words = w'; pieces = f'; plans = p' }))
 same-kept i j k l x y z = rw (i, j, k, l, x, y, z)
 
@@ -99,11 +99,12 @@ unfolding plannedOf reading arranged
 planned-reading s size = go (identified s) (walk s)
   where
     more : (st : Source) (v : Checked (List ℕ))
-      → andThen v (λ ns. arranged s size (record { source = st; counts = ns })) ≡ andThen (andThen v (λ ns. ok (record { source = st; counts = ns }))) (arranged s size)
+        → andThen v (λ ns. arranged s size (record { source = st; counts = ns })) ≡ andThen (andThen v (λ ns. ok (record { source = st; counts = ns }))) (arranged s size)
     more st (ok ns) = refl
     more st (refused x p) = refl
+
     go : (a : Verdict) (b : Checked Source)
-      → andThen a (λ _. andThen b (λ st. andThen (counts s (dataGroups st)) (λ ns. arranged s size (record { source = st; counts = ns }))))
+        → andThen a (λ _. andThen b (λ st. andThen (counts s (dataGroups st)) (λ ns. arranged s size (record { source = st; counts = ns }))))
         ≡ andThen (andThen a (λ _. andThen b (λ st. andThen (counts s (dataGroups st)) (λ ns. ok (record { source = st; counts = ns }))))) (arranged s size)
     go (ok t) (ok st) = more st (counts s (dataGroups st))
     go (ok t) (refused x p) = refl
@@ -117,7 +118,7 @@ within-few n {nc = nc} {no} {nf} b q h =
     (omega arith, k .2)
 
 pub planned-few : (s src : List ℕ) (n nf : ℕ) (c f c1 f1 : List ℕ) {r : Progress} {nc no nf' : ℕ} → GroupsPlan s src n nf c f r c1 f1 → r ≡ Progress.Done nc no nf'
-  → n ≤ 1536 → (nc ≤ 4194304) × (nf' ≤ 1024)
+    → n ≤ 1536 → (nc ≤ 4194304) × (nf' ≤ 1024)
 planned-few s src n nf c f c1 f1 g q h = within-few n (g .bound) q h
 
 -- ---- the plan of what was read
@@ -127,7 +128,7 @@ module _ (s : List ℕ) (size : ℕ) (src f c : List ℕ) (n nf : ℕ) {r : Prog
     known = reading-known s x (h .is)
 
     gave : Gives (record { found = length (x .source .fragments); words = c; fragments = f })
-      (bareChecked (plan s (length (x .source .fragments)) (srcGroups (dataGroups (x .source)) (x .counts)))) r c1 f1
+        (bareChecked (plan s (length (x .source .fragments)) (srcGroups (dataGroups (x .source)) (x .counts)))) r c1 f1
     gave = read-gives s (x .source) (x .counts) (known .walked) (known .counted) w₀ (h .long) (rw (h .words, h .items, h .fragments) at g)
 
     no-plan : {y p : ℕ} → r ≡ Progress.Refused y p → refused y p ≡ andThen (arranged s size x) (λ a. ok (keptBy a w₀ f₀ c))
@@ -137,7 +138,7 @@ module _ (s : List ℕ) (size : ℕ) (src f c : List ℕ) (n nf : ℕ) {r : Prog
         rw e
 
     module _ (long : 6144 ≤ length c) (room : 3072 ≤ length f) {nc no nf' : ℕ} (q : r ≡ Progress.Done nc no nf') (few : nf' ≤ 1024)
-      (v : Check) (t : StageOver s size src f1 c1 n nf nc v) where
+        (v : Check) (t : StageOver s size src f1 c1 n nf nc v) where
       planned-is : PlanIs (plan s (length (x .source .fragments)) (srcGroups (dataGroups (x .source)) (x .counts))) (length (x .source .fragments)) nc no nf' c f c1 f1
       planned-is = gives-plan (length (x .source .fragments)) c f (plan s (length (x .source .fragments)) (srcGroups (dataGroups (x .source)) (x .counts))) gave q
 
@@ -158,15 +159,19 @@ module _ (s : List ℕ) (size : ℕ) (src f c : List ℕ) (n nf : ℕ) {r : Prog
           let z = ap length (h .pieces) ∙ length-blit 0 (fragmentWords (x .source .fragments)) f₀ in
           record {
             stand = subst (λ (l : List ℕ). Stand l (length (x .source .fragments)) 0 (p .columns)) (sym (held .inColumns))
-              (laid-stand (length (x .source .fragments)) p c (omega arith) (omega arith));
-            walked = record { is =
-              ap (λ l. part 0 (length (fragmentWords (x .source .fragments))) l) (held .inFragments)
-              ∙ part-blit-before (fragmentWords (signalFragments (p .columns))) (3 * length (x .source .fragments)) 0 (length (fragmentWords (x .source .fragments))) f (omega arith)
-              ∙ ap (λ l. part 0 (length (fragmentWords (x .source .fragments))) l) (h .pieces)
-              ∙ part-blit 0 (fragmentWords (x .source .fragments)) f₀ (omega arith) };
-            signals = record { is =
-              ap (λ l. part (3 * length (x .source .fragments)) (length (fragmentWords (signalFragments (p .columns)))) l) (held .inFragments)
-              ∙ part-blit (3 * length (x .source .fragments)) (fragmentWords (signalFragments (p .columns))) f (omega arith) };
+                (laid-stand (length (x .source .fragments)) p c (omega arith) (omega arith));
+            walked = record {
+              is =
+                  ap (λ l. part 0 (length (fragmentWords (x .source .fragments))) l) (held .inFragments)
+                  ∙ part-blit-before (fragmentWords (signalFragments (p .columns))) (3 * length (x .source .fragments)) 0 (length (fragmentWords (x .source .fragments))) f (omega arith)
+                  ∙ ap (λ l. part 0 (length (fragmentWords (x .source .fragments))) l) (h .pieces)
+                  ∙ part-blit 0 (fragmentWords (x .source .fragments)) f₀ (omega arith);
+            };
+            signals = record {
+              is =
+                  ap (λ l. part (3 * length (x .source .fragments)) (length (fragmentWords (signalFragments (p .columns)))) l) (held .inFragments)
+                  ∙ part-blit (3 * length (x .source .fragments)) (fragmentWords (signalFragments (p .columns))) f (omega arith);
+            };
             few = omega arith;
           }
 
@@ -174,17 +179,17 @@ module _ (s : List ℕ) (size : ℕ) (src f c : List ℕ) (n nf : ℕ) {r : Prog
       unfolding dataGroups
       staged =
           let i : itemsFrom src 0 n ≡ x .source .items =
-            rw (h .words, h .items) (read-items s (x .source) (x .counts) (known .walked) (known .counted) w₀ (h .long)) in
+          rw (h .words, h .items) (read-items s (x .source) (x .counts) (known .walked) (known .counted) w₀ (h .long)) in
           let o = several-counted s (dataGroups (x .source)) (x .counts) (groups-known s (x .source) (x .counts) (known .walked) (known .counted) .counted) in
           t .is (length (x .source .fragments)) (p .columns) (filled .stand) (sym (held .columns))
           ∙ ap (λ u. andThen u (λ _. blocksIn s size (p .columns)))
-            (same-over s c1 f1 (h .fragments) (held .columns) i ∙ data-filled s c1 f1 (p .columns) (x .source .fragments) filled (x .source .items) o)
+          (same-over s c1 f1 (h .fragments) (held .columns) i ∙ data-filled s c1 f1 (p .columns) (x .source .fragments) filled (x .source .items) o)
 
       abbrev found : Arranged
       found = record { source = x .source; numbers = x .counts; planned = p }
 
       opened : arranged s size x
-        ≡ andThen (allDataIn s (p .columns) (dataGroups (x .source))) (λ _. andThen (blocksIn s size (p .columns)) (λ _. ok found))
+          ≡ andThen (allDataIn s (p .columns) (dataGroups (x .source))) (λ _. andThen (blocksIn s size (p .columns)) (λ _. ok found))
       unfolding arranged
       opened = rw (planned-is .is)
 
@@ -203,7 +208,7 @@ module _ (s : List ℕ) (size : ℕ) (src f c : List ℕ) (n nf : ℕ) {r : Prog
   read-unplanned q = record { is = λ x w₀ f₀ h. no-plan x w₀ f₀ h q }
 
   module _ (long : 6144 ≤ length c) (room : 3072 ≤ length f) {nc no nf' : ℕ} (q : r ≡ Progress.Done nc no nf') (few : nf' ≤ 1024)
-    {v : Check} (t : StageOver s size src f1 c1 n nf nc v) where
+      {v : Check} (t : StageOver s size src f1 c1 n nf nc v) where
     pub read-unstaged : {y p : ℕ} → v ≡ Check.Refused y p → PlanRead s size src f c n nf (Refused y p) f1 c1
     read-unstaged z = record { is = λ x w₀ f₀ h. stopped x w₀ f₀ h long room q few v t z }
 
@@ -234,7 +239,7 @@ module _ (s w f : List ℕ) (l : sourceWords ≤ length w) (m : fragmentRoom ≤
       rw (planned-reading s size) (go (reading s) (ap (λ (v : Read). read.Left.left v w' f') (sym q) ∙ e ∙ long-enough))
     where
       go : (v : Checked Recording) → read.Left.left (Read.Refused y p) w' f' ≡ read.leftBy (andThen v (λ x. ok (read.keptBy x w f))) w f
-        → refused y p ≡ andThen (andThen v (arranged s size)) (λ a. ok (keptBy a w f c))
+          → refused y p ≡ andThen (andThen v (arranged s size)) (λ a. ok (keptBy a w f c))
       go (ok x) z = absurd (let o : _≡_ {A = ℕ} 0 1 = cc in omega arith)
       go (refused x k) z =
           let i : y ≡ x = cc in
@@ -267,7 +272,7 @@ module _ (s : List ℕ) (size : ℕ) (w f c : List ℕ) (l : 4096 ≤ length w) 
   all-long = sym (lt-no _ _ _ _ l (lt-no _ _ _ _ m (lt-no _ _ _ _ n refl)))
 
   pub plan-refused : (w' f' c' : List ℕ) (a : Planned) → given a w' f' c' ≡ planOver s size w f c → {y p : ℕ} → a ≡ Refused y p → {w'' f'' c'' : List ℕ} → length w' ≡ length w → length f' ≡ length f → length c' ≡ length c
-    → w'' ≡ zeros w' → f'' ≡ zeros f' → c'' ≡ zeros c' → planLeft (Refused y p) w'' f'' c'' ≡ planInto s size w f c
+      → w'' ≡ zeros w' → f'' ≡ zeros f' → c'' ≡ zeros c' → planLeft (Refused y p) w'' f'' c'' ≡ planInto s size w f c
   unfolding planOver
   plan-refused w' f' c' a e {y} {p} q i j k x z u =
       rw (x, z, u, i, j, k) (go (plannedOf s size) (ap (λ (v : Planned). given v w' f' c') (sym q) ∙ e) ∙ sym all-long)
@@ -289,6 +294,6 @@ module _ (s : List ℕ) (size : ℕ) (w f c : List ℕ) (l : 4096 ≤ length w) 
           same-left (ap Kept.items k) (ap Kept.fragments k) (ap Kept.columns k) (ap Kept.omissions k) (ap Kept.words k) (ap Kept.pieces k) (ap Kept.plans k)
         where
           same-left : {x' y' z' u' : ℕ} {w'' f'' c'' : List ℕ} → x ≡ x' → y ≡ y' → z ≡ z' → u ≡ u' → w' ≡ w'' → f' ≡ f'' → c' ≡ c''
-            → planLeft (Done x y z u) w' f' c' ≡ planLeft (Done x' y' z' u') w'' f'' c''
+              → planLeft (Done x y z u) w' f' c' ≡ planLeft (Done x' y' z' u') w'' f'' c''
           same-left i j k l x y z = rw (i, j, k, l, x, y, z)
       go (refused b d) o = absurd (ok≢refused o)

@@ -34,13 +34,15 @@ remote-bare s all g = rw (group-bare (remoteLink s (g .at)) all) (go (groupAt (r
     at : (t : SrcGroup) (m : ℕ) (b : Bool) → pick b (time (bare t) m) differs ≡ bareTime (pick b (time t m) differs)
     at t m true = refl
     at t m false = refl
+
     by : (t : SrcGroup) (o : Option ℕ)
-      → onMaster o untimed (λ m. pick (eqb (t .records) (g .records)) (time (bare t) m) differs)
+        → onMaster o untimed (λ m. pick (eqb (t .records) (g .records)) (time (bare t) m) differs)
         ≡ bareTime (onMaster o untimed (λ m. pick (eqb (t .records) (g .records)) (time t m) differs))
     by t none = refl
     by t (some m) = at t m (eqb (t .records) (g .records))
+
     go : (o : Option SrcGroup)
-      → onGroup (bareGroup o) untimed (λ t. onMaster (masterOf s t) untimed (λ m. pick (eqb (t .records) (g .records)) (time t m) differs))
+        → onGroup (bareGroup o) untimed (λ t. onMaster (masterOf s t) untimed (λ m. pick (eqb (t .records) (g .records)) (time t m) differs))
         ≡ bareTime (onGroup o untimed (λ t. onMaster (masterOf s t) untimed (λ m. pick (eqb (t .records) (g .records)) (time t m) differs)))
     go none = refl
     go (some t) = rw (master-bare s t) (by t (masterOf s t))
@@ -79,22 +81,22 @@ unfolding withTime
 timed-bare t m p = rw (column-bare (t .at) 0 (p .columns)) (go (timeColumn (t .at) 0 (p .columns)))
   where
     go : (o : Option ℕ) → onPlanned o (withColumn (bareColumn (record { group = t; channel = m; isTime = true; master = none; signalOf = unsigned })) 0 (barePlan p)) (barePlan p)
-      ≡ barePlan (onPlanned o (withColumn (record { group = t; channel = m; isTime = true; master = none; signalOf = unsigned }) 0 p) p)
+        ≡ barePlan (onPlanned o (withColumn (record { group = t; channel = m; isTime = true; master = none; signalOf = unsigned }) 0 p) p)
     go none = added-bare (record { group = t; channel = m; isTime = true; master = none; signalOf = unsigned }) 0 p
     go (some k) = refl
 
 channels-bare : (s : List ℕ) (g : SrcGroup) (own : ℕ) (m : Option ℕ) (cs : List ℕ) (p : Plan)
-  → planChannels s (bare g) own m cs (barePlan p) ≡ bareChecked (planChannels s g own m cs p)
+    → planChannels s (bare g) own m cs (barePlan p) ≡ bareChecked (planChannels s g own m cs p)
 unfolding planChannels ifEq
 channels-bare s g own m [] p = refl
 channels-bare s g own m (c ∷ cs) p =
     go (λ d. ap (planChannels s (bare g) own m cs) (decided-bare g m c p d) ∙ channels-bare s g own m cs (decided g m c p d))
-      (channels-bare s g own m cs p) (eqb c own) (decide s (p .fragments) (g .at) c)
+    (channels-bare s g own m cs p) (eqb c own) (decide s (p .fragments) (g .at) c)
   where
     go : ((d : Decision) → planChannels s (bare g) own m cs (decided (bare g) m c (barePlan p) d) ≡ bareChecked (planChannels s g own m cs (decided g m c p d)))
-      → planChannels s (bare g) own m cs (barePlan p) ≡ bareChecked (planChannels s g own m cs p)
-      → (t : Bool) (o : Checked Decision)
-      → pick t (planChannels s (bare g) own m cs (barePlan p)) (andThen o (λ d. planChannels s (bare g) own m cs (decided (bare g) m c (barePlan p) d)))
+        → planChannels s (bare g) own m cs (barePlan p) ≡ bareChecked (planChannels s g own m cs p)
+        → (t : Bool) (o : Checked Decision)
+        → pick t (planChannels s (bare g) own m cs (barePlan p)) (andThen o (λ d. planChannels s (bare g) own m cs (decided (bare g) m c (barePlan p) d)))
         ≡ bareChecked (pick t (planChannels s g own m cs p) (andThen o (λ d. planChannels s g own m cs (decided g m c p d))))
     go f h true o = h
     go f h false (ok d) = f d
@@ -110,6 +112,7 @@ planned-bare s all g p = rw (time-bare s all g) (go (isStorage s (g .at)) (timeO
     by (time t m) =
         rw (master-bare s g, timed-bare t m p, column-bare (t .at) 0 (withTime t m p .columns))
         (channels-bare s g (ownMaster (masterOf s g)) (timeColumn (t .at) 0 (withTime t m p .columns)) (g .channels) (withTime t m p))
+
     go : (b : Bool) (o : TimeOf) → pick b (ok (barePlan p)) (planTimed s (bare g) (bareTime o) (barePlan p)) ≡ bareChecked (pick b (ok p) (planTimed s g o p))
     go true o = refl
     go false o = by o
@@ -120,7 +123,7 @@ groups-bare s all [] p = refl
 groups-bare s all (g ∷ gs) p = rw (planned-bare s all g p) (go (λ q. groups-bare s all gs q) (planGroup s all g p))
   where
     go : ((q : Plan) → planGroups s (bares all) (bares gs) (barePlan q) ≡ bareChecked (planGroups s all gs q)) → (o : Checked Plan)
-      → andThen (bareChecked o) (λ q. planGroups s (bares all) (bares gs) q) ≡ bareChecked (andThen o (λ q. planGroups s all gs q))
+        → andThen (bareChecked o) (λ q. planGroups s (bares all) (bares gs) q) ≡ bareChecked (andThen o (λ q. planGroups s all gs q))
     go f (ok q) = f q
     go f (refused x y) = refl
 

@@ -24,7 +24,7 @@ time-later g k [] ds n e = absurd (none≢some e)
 time-later g k (c ∷ cs) ds n e = go (both (c .isTime) (eqb (c .group .at) g)) (time-later g (k + 1) cs ds n) e
   where
     go : (t : Bool) → (timeColumn g (k + 1) cs ≡ some n → timeColumn g (k + 1) (cs ++ ds) ≡ some n)
-      → pick t (some k) (timeColumn g (k + 1) cs) ≡ some n → pick t (some k) (timeColumn g (k + 1) (cs ++ ds)) ≡ some n
+        → pick t (some k) (timeColumn g (k + 1) cs) ≡ some n → pick t (some k) (timeColumn g (k + 1) (cs ++ ds)) ≡ some n
     go true ih q = q
     go false ih q = ih q
 
@@ -34,14 +34,14 @@ time-plain g k [] c e = rw e
 time-plain g k (d ∷ cs) c e = rw (time-plain g (k + 1) cs c e)
 
 pub time-added : (g k : ℕ) (cs : List Column) (c : Column) → timeColumn g k cs ≡ none → c .isTime ≡ true → c .group .at ≡ g
-  → timeColumn g k (cs ++ (c ∷ [])) ≡ some (k + length cs)
+    → timeColumn g k (cs ++ (c ∷ [])) ≡ some (k + length cs)
 unfolding timeColumn
 time-added g k [] c e t a = let z : k ≡ k + 0 = omega arith in rw (t, eq-eqb (c .group .at) g a) (ap some z)
 time-added g k (d ∷ cs) c e t a = go (both (d .isTime) (eqb (d .group .at) g)) (λ q. time-added g (k + 1) cs c q t a) e
   where
     go : (b : Bool) → (timeColumn g (k + 1) cs ≡ none → timeColumn g (k + 1) (cs ++ (c ∷ [])) ≡ some (k + 1 + length cs))
-      → pick b (some k) (timeColumn g (k + 1) cs) ≡ none
-      → pick b (some k) (timeColumn g (k + 1) (cs ++ (c ∷ []))) ≡ some (k + suc (length cs))
+        → pick b (some k) (timeColumn g (k + 1) cs) ≡ none
+        → pick b (some k) (timeColumn g (k + 1) (cs ++ (c ∷ []))) ≡ some (k + suc (length cs))
     go true ih q = absurd (none≢some (sym q))
     go false ih q = let z : k + 1 + length cs ≡ k + suc (length cs) = omega arith in rw (← z) (ih q)
 
@@ -67,14 +67,14 @@ waiting-later s cs ds (g ∷ gs) =
     omega arith
 
 pub waiting-plain : (s : List ℕ) (cs : List Column) (c : Column) (gs : List SrcGroup) → c .isTime ≡ false
-  → waiting s (cs ++ (c ∷ [])) gs ≡ waiting s cs gs
+    → waiting s (cs ++ (c ∷ [])) gs ≡ waiting s cs gs
 unfolding waiting
 waiting-plain s cs c [] e = refl
 waiting-plain s cs c (g ∷ gs) e = rw (time-plain (g .at) 0 cs c e, waiting-plain s cs c gs e)
 
 -- a time column more: one group less waits
 pub waiting-fewer : (s : List ℕ) (cs : List Column) (c : Column) (gs : List SrcGroup) {t : SrcGroup} {m : ℕ} → In t gs → masterOf s t ≡ some m
-  → timeColumn (t .at) 0 cs ≡ none → c .isTime ≡ true → c .group .at ≡ t .at → waiting s (cs ++ (c ∷ [])) gs + 1 ≤ waiting s cs gs
+    → timeColumn (t .at) 0 cs ≡ none → c .isTime ≡ true → c .group .at ≡ t .at → waiting s (cs ++ (c ∷ [])) gs + 1 ≤ waiting s cs gs
 unfolding waiting
 waiting-fewer s cs c (g ∷ gs) here e q y a =
     let z : lack (masterOf s g) (timeColumn (g .at) 0 (cs ++ (c ∷ []))) ≡ 0 = rw (e, time-added (g .at) 0 cs c q y a) in

@@ -76,9 +76,9 @@ signal-word unsigned n = refl
 signal-word (signalData fs) n = refl
 
 kept-plan : (s : List ℕ) (g d records master c nc no nf : ℕ) (w f : List ℕ) {b : Bool} {m x : ℕ} {w' f' : List ℕ} (e : Signal)
-  → decide s nf g c ≡ ok (columns.kept e) → b ≡ isSigned e → m ≡ nf + sizeOfSignal e → f' ≡ kept nf (fragmentsIn e) f → m ≤ 1024
-  → x ≡ signalIf b nf → w' ≡ blit (8 * nc) (c ∷ g ∷ d ∷ records ∷ 0 ∷ master ∷ x ∷ (m - nf) ∷ []) w
-  → ChannelPlan s g d records master c nc no nf w f (Done (nc + 1) no m) w' f'
+    → decide s nf g c ≡ ok (columns.kept e) → b ≡ isSigned e → m ≡ nf + sizeOfSignal e → f' ≡ kept nf (fragmentsIn e) f → m ≤ 1024
+    → x ≡ signalIf b nf → w' ≡ blit (8 * nc) (c ∷ g ∷ d ∷ records ∷ 0 ∷ master ∷ x ∷ (m - nf) ∷ []) w
+    → ChannelPlan s g d records master c nc no nf w f (Done (nc + 1) no m) w' f'
 unfolding gives columnWords
 kept-plan s g d records master c nc om nf w f {m = m} e o i j k t y u =
     let v : m - nf ≡ sizeOfSignal e = omega arith in
@@ -91,15 +91,15 @@ kept-plan s g d records master c nc om nf w f {m = m} e o i j k t y u =
           nf = nf + sizeOfSignal e;
           is = rw j;
           held = held-column h (record { group = groupOf d g cs records; channel = c; isTime = false; master = q; signalOf = e }) r
-            (u ∙ rw (y, i, signal-word e nf, v, l))
-            k;
-        })
-      }
+              (u ∙ rw (y, i, signal-word e nf, v, l))
+              k;
+        });
+      };
     }
 
 -- ---- one channel: r is the decision of the code
 module _ (s : List ℕ) (g d records master c nc no nf : ℕ) (w f : List ℕ) (r : Decision) (f' : List ℕ)
-  (e : left r f' ≡ laidDecision (decide s nf g c) nf f) where
+    (e : left r f' ≡ laidDecision (decide s nf g c) nf f) where
   pub channel-refused : {x p : ℕ} {w' : List ℕ} → r ≡ decisions.Refused x p → ChannelPlan s g d records master c nc no nf w f (Refused x p) w' f'
   unfolding gives
   channel-refused q =
@@ -107,15 +107,15 @@ module _ (s : List ℕ) (g d records master c nc no nf : ℕ) (w f : List ℕ) (
       record { bound = tt; is = λ b p m cs h k l. record { by = rw o } }
 
   pub channel-omitted : {k : ℕ} {w' : List ℕ} → r ≡ Omitted k → nf ≤ 1024 → w' ≡ blit (4096 + 2 * no) (c ∷ k ∷ []) w
-    → ChannelPlan s g d records master c nc no nf w f (Done nc (no + 1) nf) w' f'
+      → ChannelPlan s g d records master c nc no nf w f (Done nc (no + 1) nf) w' f'
   unfolding gives
   channel-omitted {k} q t u =
       let o = back-omitted (decide s nf g c) nf f (rw q at e) in
       record {
         bound = (omega arith, omega arith, t);
         is = λ b p m cs h i l. record {
-          by = rw (o .0) (record { nc = nc; no = no + 1; nf = nf; is = refl; held = rw (o .1) (held-omission h c k u) })
-        }
+          by = rw (o .0) (record { nc = nc; no = no + 1; nf = nf; is = refl; held = rw (o .1) (held-omission h c k u) });
+        };
       }
 
   pub channel-bounds : {b : Bool} {m : ℕ} → r ≡ Kept b m → nf ≤ 1024 → (nf ≤ m) × (m ≤ 1024)
@@ -125,8 +125,8 @@ module _ (s : List ℕ) (g d records master c nc no nf : ℕ) (w f : List ℕ) (
       (omega arith, omega arith)
 
   pub channel-kept : {b : Bool} {m x : ℕ} {w' : List ℕ} → r ≡ Kept b m → nf ≤ 1024 → x ≡ signalIf b nf
-    → w' ≡ blit (8 * nc) (c ∷ g ∷ d ∷ records ∷ 0 ∷ master ∷ x ∷ (m - nf) ∷ []) w
-    → ChannelPlan s g d records master c nc no nf w f (Done (nc + 1) no m) w' f'
+      → w' ≡ blit (8 * nc) (c ∷ g ∷ d ∷ records ∷ 0 ∷ master ∷ x ∷ (m - nf) ∷ []) w
+      → ChannelPlan s g d records master c nc no nf w f (Done (nc + 1) no m) w' f'
   channel-kept q t y u =
       let k = back-kept (decide s nf g c) nf f (rw q at e) in
       kept-plan s g d records master c nc no nf w f (k .signal) (k .is) (k .sign) (k .counted) (k .words) (channel-bounds q t .1) y u
@@ -154,17 +154,17 @@ module _ (s : List ℕ) (g : SrcGroup) (own : ℕ) (m : Option ℕ) where
   plan-own c cs p h = sym (eq-yes _ _ _ _ h refl)
 
   plan-more : (c : ℕ) (cs : List ℕ) (p : Plan) → (c ≡ own → ⊥)
-    → planChannels s g own m (c ∷ cs) p ≡ andThen (andThen (decide s (p .fragments) (g .at) c) (λ d. ok (decided g m c p d))) (planChannels s g own m cs)
+      → planChannels s g own m (c ∷ cs) p ≡ andThen (andThen (decide s (p .fragments) (g .at) c) (λ d. ok (decided g m c p d))) (planChannels s g own m cs)
   unfolding planChannels
   plan-more c cs p h = sym (eq-no _ _ _ _ h (go (decide s (p .fragments) (g .at) c)))
     where
       go : (o : Checked columns.Decision) → andThen (andThen o (λ d. ok (decided g m c p d))) (planChannels s g own m cs)
-        ≡ andThen o (λ d. planChannels s g own m cs (decided g m c p d))
+          ≡ andThen o (λ d. planChannels s g own m cs (decided g m c p d))
       go (ok d) = refl
       go (refused x y) = refl
 
   plan-step : (c : ℕ) (cs : List ℕ) (p : Plan) (nf : ℕ) → p .fragments ≡ nf → (c ≡ own → ⊥)
-    → andThen (andThen (decide s nf (g .at) c) (λ d. ok (decided g m c p d))) (planChannels s g own m cs) ≡ planChannels s g own m (c ∷ cs) p
+      → andThen (andThen (decide s nf (g .at) c) (λ d. ok (decided g m c p d))) (planChannels s g own m cs) ≡ planChannels s g own m (c ∷ cs) p
   plan-step c cs p nf e h = rw (← e) (sym (plan-more c cs p h))
 
 -- ---- the code's answer back to the plan
@@ -191,6 +191,7 @@ gives-done {b} {o} {r} {w} {f} {x} {y} {z} g e = go o (g .by)
         let ey : y' ≡ y = cc in
         let ez : z' ≡ z = cc in
         rw (← ex, ← ey, ← ez) h
+
     go : (o : Checked Plan) → gives b o r w f → Onward b o x y z w f
     go (refused x' y') h = absurd (let k : _≡_ {A = ℕ} 0 1 = cc in omega arith)
     go (ok q) h = record { plan = q; is = refl; held = at q (h .nc) (h .no) (h .nf) (h .is) (h .held) }
@@ -209,18 +210,22 @@ pub record Channels (s src : List ℕ) (n i g d records own master nc₀ no₀ n
   pub fewOmitted : no + i ≤ no₀ + k
   pub fewFragments : nf ≤ 1024
   pub now : (b : Base) (p : Plan) (m : Option ℕ) (cs : List ℕ) → Held b p nc₀ no₀ nf₀ w₀ f₀ → masterWord m ≡ master
-    → nc₀ + others own (channelsIn src n i) ≤ 512 → Standing s src n i k own nc no nf (groupOf d g cs records) b p m w f
+      → nc₀ + others own (channelsIn src n i) ≤ 512 → Standing s src n i k own nc no nf (groupOf d g cs records) b p m w f
 
 pub channels-begin : {s src : List ℕ} {n i g d records own master nc no nf : ℕ} {w f : List ℕ} → i ≤ n → nf ≤ 1024
-  → Channels s src n i g d records own master nc no nf w f i nc no nf w f
+    → Channels s src n i g d records own master nc no nf w f i nc no nf w f
 channels-begin h l =
     record {
-      from = omega arith; upTo = h; few = omega arith; fewOmitted = omega arith; fewFragments = l;
+      from = omega arith;
+      upTo = h;
+      few = omega arith;
+      fewOmitted = omega arith;
+      fewFragments = l;
       now = λ b p m cs j e t. record { plan = p; held = j; budget = t; rest = refl };
     }
 
 module _ {s src : List ℕ} {n i g d records own master nc₀ no₀ nf₀ : ℕ} {w₀ f₀ : List ℕ} {k nc no nf : ℕ} {w f : List ℕ}
-  (t : Channels s src n i g d records own master nc₀ no₀ nf₀ w₀ f₀ k nc no nf w f) where
+    (t : Channels s src n i g d records own master nc₀ no₀ nf₀ w₀ f₀ k nc no nf w f) where
   -- no channel is left
   channels-none : n ≤ 1536 → channelsIn src n k ≡ [] → ChannelsPlan s src n i g d records own master nc₀ no₀ nf₀ w₀ f₀ (Done nc no nf) w f
   unfolding gives
@@ -232,10 +237,10 @@ module _ {s src : List ℕ} {n i g d records own master nc₀ no₀ nf₀ : ℕ}
       record {
         bound = (omega arith, omega arith, t .fewFragments);
         is = λ b p m cs h j y.
-          let r = t .now b p m cs h j y in
-          let q : planChannels s (groupOf d g cs records) own m (channelsIn src n i) p ≡ ok (r .plan) =
+            let r = t .now b p m cs h j y in
+            let q : planChannels s (groupOf d g cs records) own m (channelsIn src n i) p ≡ ok (r .plan) =
             sym (r .rest) ∙ rw (e, plan-none s (groupOf d g cs records) own m (r .plan)) in
-          record { by = rw q (record { nc = nc; no = no; nf = nf; is = refl; held = r .held }) };
+            record { by = rw q (record { nc = nc; no = no; nf = nf; is = refl; held = r .held }) };
       }
 
   pub channels-last : n ≤ 1536 → n ≤ k → ChannelsPlan s src n i g d records own master nc₀ no₀ nf₀ w₀ f₀ (Done nc no nf) w f
@@ -252,20 +257,25 @@ module _ {s src : List ℕ} {n i g d records own master nc₀ no₀ nf₀ : ℕ}
           let l = t .few in
           let o = t .fewOmitted in
           record {
-            from = omega arith; upTo = omega arith; few = omega arith; fewOmitted = omega arith; fewFragments = t .fewFragments;
+            from = omega arith;
+            upTo = omega arith;
+            few = omega arith;
+            fewOmitted = omega arith;
+            fewFragments = t .fewFragments;
             now = λ b p m cs j y u.
-              let r = t .now b p m cs j y u in
-              record {
-                plan = r .plan; held = r .held;
-                budget = rw (channels-next src n k h e z v, q, others-own own (channelsIn src n (k + 1))) at (r .budget);
-                rest = rw (channels-next src n k h e z v, plan-own s (groupOf d g cs records) own m c (channelsIn src n (k + 1)) (r .plan) q) at (r .rest);
-              };
+                let r = t .now b p m cs j y u in
+                record {
+                  plan = r .plan;
+                  held = r .held;
+                  budget = rw (channels-next src n k h e z v, q, others-own own (channelsIn src n (k + 1))) at (r .budget);
+                  rest = rw (channels-next src n k h e z v, plan-own s (groupOf d g cs records) own m c (channelsIn src n (k + 1)) (r .plan) q) at (r .rest);
+                };
           }
 
       module _ (q : c ≡ own → ⊥) {r : Progress} {w' f' : List ℕ} (l : ChannelPlan s g d records master c nc no nf w f r w' f') where
         -- the channel, for one plan
         module _ (b : Base) (p : Plan) (m : Option ℕ) (cs : List ℕ) (j : Held b p nc₀ no₀ nf₀ w₀ f₀) (y : masterWord m ≡ master)
-          (u : nc₀ + others own (channelsIn src n i) ≤ 512) where
+            (u : nc₀ + others own (channelsIn src n i) ≤ 512) where
           abbrev stood : Standing s src n i k own nc no nf (groupOf d g cs records) b p m w f
           stood = t .now b p m cs j y u
 
@@ -279,7 +289,7 @@ module _ {s src : List ℕ} {n i g d records own master nc₀ no₀ nf₀ : ℕ}
           step-gives = l .is b (stood .plan) m cs (stood .held) y (let z' = next-budget in omega arith)
 
           step-rest : andThen step (planChannels s (groupOf d g cs records) own m (channelsIn src n (k + 1)))
-            ≡ planChannels s (groupOf d g cs records) own m (channelsIn src n i) p
+              ≡ planChannels s (groupOf d g cs records) own m (channelsIn src n i) p
           step-rest =
               plan-step s (groupOf d g cs records) own m c (channelsIn src n (k + 1)) (stood .plan) nf (stood .held .fragments) q
               ∙ (rw (channels-next src n k h e z v) at (stood .rest))
@@ -290,11 +300,11 @@ module _ {s src : List ℕ} {n i g d records own master nc₀ no₀ nf₀ : ℕ}
             record {
               bound = tt;
               is = λ b p m cs j o u.
-                let i' : planChannels s (groupOf d g cs records) own m (channelsIn src n i) p ≡ refused x' y =
+                  let i' : planChannels s (groupOf d g cs records) own m (channelsIn src n i) p ≡ refused x' y =
                   sym (step-rest b p m cs j o u)
                   ∙ ap (λ v'. andThen v' (planChannels s (groupOf d g cs records) own m (channelsIn src n (k + 1))))
-                    (gives-refused (step-gives b p m cs j o u) a) in
-                record { by = rw i' };
+                  (gives-refused (step-gives b p m cs j o u) a) in
+                  record { by = rw i' };
             }
 
         pub channels-on : {x' y z' : ℕ} → r ≡ Done x' y z' → Channels s src n i g d records own master nc₀ no₀ nf₀ w₀ f₀ (k + 1) x' y z' w' f'
@@ -304,15 +314,19 @@ module _ {s src : List ℕ} {n i g d records own master nc₀ no₀ nf₀ : ℕ}
             let few = t .few in
             let left = t .fewOmitted in
             record {
-              from = omega arith; upTo = omega arith; few = omega arith; fewOmitted = omega arith; fewFragments = bs .2;
+              from = omega arith;
+              upTo = omega arith;
+              few = omega arith;
+              fewOmitted = omega arith;
+              fewFragments = bs .2;
               now = λ b p m cs j o u.
-                let on = gives-done (step-gives b p m cs j o u) a in
-                let more = next-budget b p m cs j o u in
-                record {
-                  plan = on .plan;
-                  held = on .held;
-                  budget = omega arith;
-                  rest = ap (λ v'. andThen v' (planChannels s (groupOf d g cs records) own m (channelsIn src n (k + 1)))) (sym (on .is))
-                    ∙ step-rest b p m cs j o u;
-                };
+                  let on = gives-done (step-gives b p m cs j o u) a in
+                  let more = next-budget b p m cs j o u in
+                  record {
+                    plan = on .plan;
+                    held = on .held;
+                    budget = omega arith;
+                    rest = ap (λ v'. andThen v' (planChannels s (groupOf d g cs records) own m (channelsIn src n (k + 1)))) (sym (on .is))
+                        ∙ step-rest b p m cs j o u;
+                  };
             }

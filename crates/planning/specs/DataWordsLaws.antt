@@ -43,7 +43,7 @@ use Rattle.planning.specs.DataWords.{nonemptyOver, rangesOver, signalOve
 
 -- ---- a nonempty column
 nonempty-more : (s w : List ℕ) (d k n : ℕ) → k < n
-  → nonemptyOver s w d k (n - k) ≡ pick (nonemptyIn s w k d) true (nonemptyOver s w d (k + 1) (n - (k + 1)))
+    → nonemptyOver s w d k (n - k) ≡ pick (nonemptyIn s w k d) true (nonemptyOver s w d (k + 1) (n - (k + 1)))
 unfolding nonemptyOver
 nonempty-more s w d k n h = go (n - k) (omega arith)
   where
@@ -74,7 +74,7 @@ unfolding rangesOver
 ranges-past s f i m h = lt-yes _ _ _ _ h refl
 
 pub ranges-lent : (s f : List ℕ) (i m : ℕ) {v : Verdict} → i + m ≤ 1024
-  → v ≡ rangesIn s (fragmentsOf (midOf (3 * i) (3 * i + 3 * m - 3 * i) f)) → v ≡ rangesOver s f i m
+    → v ≡ rangesIn s (fragmentsOf (midOf (3 * i) (3 * i + 3 * m - 3 * i) f)) → v ≡ rangesOver s f i m
 unfolding rangesOver part
 ranges-lent s f i m h e = let z : 3 * i + 3 * m - 3 * i ≡ 3 * m = omega arith in lt-no _ _ _ _ h (rw z at e)
 
@@ -93,7 +93,7 @@ module _ (s w f : List ℕ) (d k : ℕ) {x : ℕ} (e : x ≡ getD w (8 * k + 2) 
     signal-some q j u = eq-yes _ _ _ _ (sym e ∙ h) (eq-no _ _ _ _ (λ z. q (i ∙ z)) (rw (i, j) at u))
 
 signals-more : (s w f : List ℕ) (d k n : ℕ) → k < n
-  → signalsOver s w f d k (n - k) ≡ andThen (signalOver s w f d k) (λ _. signalsOver s w f d (k + 1) (n - (k + 1)))
+    → signalsOver s w f d k (n - k) ≡ andThen (signalOver s w f d k) (λ _. signalsOver s w f d (k + 1) (n - (k + 1)))
 unfolding signalsOver
 signals-more s w f d k n h = go (n - k) (omega arith)
   where
@@ -134,8 +134,8 @@ module _ (s f src : List ℕ) (n nf i d m : ℕ) (l : n ≤ 1536) {x : ℕ} (e :
   records-none h = let z : min n 1536 ≡ n = min-eq-left l in eq-no _ _ _ _ (λ q. h (rw z at e ∙ q)) refl
 
   pub records-one : x ≡ 1 → {g all end : ℕ} → g ≡ getD (addresses (groupsOf (itemsFrom src i (min n 1536 - i)))) 0 0
-    → all ≡ upTo nf (itemsFrom src i (min n 1536 - i)) → end ≡ min all nf
-    → {v : Verdict} → v ≡ sortedIn s d g (fragmentsOf (part (3 * m) (3 * (end - m)) f)) → v ≡ recordsOver s f nf d m (itemsFrom src i (n - i))
+      → all ≡ upTo nf (itemsFrom src i (min n 1536 - i)) → end ≡ min all nf
+      → {v : Verdict} → v ≡ sortedIn s d g (fragmentsOf (part (3 * m) (3 * (end - m)) f)) → v ≡ recordsOver s f nf d m (itemsFrom src i (n - i))
   unfolding recordsOver
   records-one h a b c u =
       let z : min n 1536 ≡ n = min-eq-left l in
@@ -187,7 +187,7 @@ module _ {s w f : List ℕ} {nf nc : ℕ} {src : List ℕ} {n i : ℕ} (t : Data
         go (suc (suc x)) q l = absurd (omega arith)
 
     opened : 1 < m → (v : Verdict) → v ≡ dataOver s w f nf nc d (m - 2) (itemsFrom src (i + 1) (n - (i + 1)))
-      → andThen v (λ _. allDataOver s w f nf nc (itemsFrom src (i + 1) (n - (i + 1)))) ≡ allDataOver s w f nf nc (itemsFrom src 0 n)
+        → andThen v (λ _. allDataOver s w f nf nc (itemsFrom src (i + 1) (n - (i + 1)))) ≡ allDataOver s w f nf nc (itemsFrom src 0 n)
     unfolding allDataOver
     opened l v k = rw (k, j) (rw (next-dg src n i h e l) at (t .rest))
 
@@ -207,7 +207,7 @@ nonempty-stand s w d n k (c ∷ cs) h =
     (sym (nonempty-open s w k d c cs (stand-reads w n k c cs h)))
 
 ranges-stand : (s f : List ℕ) (n : ℕ) (fs : List Fragment) → Stands f (3 * n) (fragmentWords fs) → n + length fs ≤ 1024
-  → rangesOver s f n (length fs) ≡ rangesIn s fs
+    → rangesOver s f n (length fs) ≡ rangesIn s fs
 unfolding rangesOver
 ranges-stand s f n fs t l =
     let e : part (3 * n) (3 * length fs) f ≡ fragmentWords fs = rw (length-words fs) at (t .is) in
@@ -223,21 +223,21 @@ module _ (s w f : List ℕ) (d n k : ℕ) (c : Column) (cs : List Column) (h : S
   size-word = h .at 7 (omega arith)
 
   signal-stand : Stands f (3 * n) (fragmentWords (fragmentsIn (c .signalOf))) → n + length (fragmentsIn (c .signalOf)) ≤ 1024
-    → signalOver s w f d k ≡ ifEq (c .group .dataGroup .at) d (signalIn s (c .signalOf)) fine
+      → signalOver s w f d k ≡ ifEq (c .group .dataGroup .at) d (signalIn s (c .signalOf)) fine
   unfolding signalOver
   signal-stand t l =
       rw (stand-reads w n k c cs h .ofDG, inner (c .signalOf) signal-word size-word t l)
     where
       inner : (g : Signal) → getD w (8 * k + 6) 0 ≡ signalWord n g → getD w (8 * k + 7) 0 ≡ sizeOfSignal g → Stands f (3 * n) (fragmentWords (fragmentsIn g))
-        → n + length (fragmentsIn g) ≤ 1024
-        → ifEq (getD w (8 * k + 6) 0) 0 fine (rangesOver s f (getD w (8 * k + 6) 0 - 1) (getD w (8 * k + 7) 0)) ≡ signalIn s g
+          → n + length (fragmentsIn g) ≤ 1024
+          → ifEq (getD w (8 * k + 6) 0) 0 fine (rangesOver s f (getD w (8 * k + 6) 0 - 1) (getD w (8 * k + 7) 0)) ≡ signalIn s g
       inner unsigned p q t l = sym (eq-yes _ _ _ _ p refl)
       inner (signalData fs) p q t l =
           let z : n + 1 - 1 ≡ n = omega arith in
           sym (eq-no _ _ _ _ (λ x. omega (arith, x, p)) refl) ∙ rw (p, q, z) (ranges-stand s f n fs t l)
 
 signals-stand : (s w f : List ℕ) (d n k : ℕ) (cs : List Column) → Stand w n k cs → Stands f (3 * n) (fragmentWords (signalFragments cs))
-  → n + length (signalFragments cs) ≤ 1024 → signalsOver s w f d k (length cs) ≡ signalsIn s d cs
+    → n + length (signalFragments cs) ≤ 1024 → signalsOver s w f d k (length cs) ≡ signalsIn s d cs
 unfolding signalsOver signalsIn signalFragments
 signals-stand s w f d n k [] h t l = refl
 signals-stand s w f d n k (c ∷ cs) h t l =
@@ -248,8 +248,10 @@ signals-stand s w f d n k (c ∷ cs) h t l =
     let front = stands-front (fragmentWords mine) (fragmentWords (signalFragments cs)) split in
     let at : 3 * n + length (fragmentWords mine) ≡ 3 * (n + sizeOfSignal (c .signalOf)) = omega (arith, length-words mine, size) in
     let back = stands-at (stands-back (fragmentWords mine) (fragmentWords (signalFragments cs)) split) at in
-    rw (signal-stand s w f d n k c cs h front (omega arith),
-      signals-stand s w f d (n + sizeOfSignal (c .signalOf)) (k + 1) cs (stand-rest w n k c cs h) back (omega arith))
+    rw (
+      signal-stand s w f d n k c cs h front (omega arith),
+      signals-stand s w f d (n + sizeOfSignal (c .signalOf)) (k + 1) cs (stand-rest w n k c cs h) back (omega arith),
+    )
 
 part-cut : (fs : List Fragment) (e m : ℕ) → part m (min e (length fs) - m) fs ≡ part m (e - m) fs
 unfolding part
@@ -268,16 +270,16 @@ unfolding part fragmentsOf
 no-fragments f fs m j q = rw q
 
 fragments-part : (f : List ℕ) (fs : List Fragment) (e m : ℕ) → Stands f 0 (fragmentWords fs)
-  → fragmentsOf (part (3 * m) (3 * (min e (length fs) - m)) f) ≡ part m (e - m) fs
+    → fragmentsOf (part (3 * m) (3 * (min e (length fs) - m)) f) ≡ part m (e - m) fs
 fragments-part f fs e m t = go (ltb m (min e (length fs))) refl ∙ part-cut fs e m
   where
     go : (b : Bool) → ltb m (min e (length fs)) ≡ b
-      → fragmentsOf (part (3 * m) (3 * (min e (length fs) - m)) f) ≡ part m (min e (length fs) - m) fs
+        → fragmentsOf (part (3 * m) (3 * (min e (length fs) - m)) f) ≡ part m (min e (length fs) - m) fs
     go true q =
         let h = ltb-true m (min e (length fs)) q in
         let j = min e (length fs) - m in
         let p : part (3 * m) (3 * j) f ≡ part (3 * m) (3 * j) (fragmentWords fs) =
-          rw zero-add at (stands-part (fragmentWords fs) (3 * m) (3 * j) t (omega (arith, h, length-words fs, few))) in
+        rw zero-add at (stands-part (fragmentWords fs) (3 * m) (3 * j) t (omega (arith, h, length-words fs, few))) in
         rw (p, part-fragments m j fs, words-back (part m j fs))
       where
         few : min e (length fs) ≤ length fs
@@ -289,7 +291,7 @@ abbrev pub Several : List ℕ → DataGroup → Type 0
 Several s d = (length (addresses (d .groups)) ≡ 1 → ⊥) → recordsIn s (d .at) (addresses (d .groups)) (d .fragments) ≡ fine
 
 several-of : (s : List ℕ) (d : ℕ) (gs : List ℕ) (fs : List Fragment) {ms : List ℕ} → countGroups s d gs fs ≡ ok ms → (length gs ≡ 1 → ⊥)
-  → recordsIn s d gs fs ≡ fine
+    → recordsIn s d gs fs ≡ fine
 unfolding countGroups
 several-of s d [] fs e n = refl
 several-of s d (g ∷ []) fs e n = absurd (n refl)
@@ -308,27 +310,27 @@ pub record Filled (w f : List ℕ) (cs : List Column) (fs : List Fragment) : Typ
 
 module _ (s w f : List ℕ) (cs : List Column) (fs : List Fragment) (t : Filled w f cs fs) where
   records-stand : (d m : ℕ) (is : List Item)
-    → ((length (addresses (groupsOf is)) ≡ 1 → ⊥) → recordsIn s d (addresses (groupsOf is)) (part m (upTo (length fs) is - m) fs) ≡ fine)
-    → recordsOver s f (length fs) d m is ≡ recordsIn s d (addresses (groupsOf is)) (part m (upTo (length fs) is - m) fs)
+      → ((length (addresses (groupsOf is)) ≡ 1 → ⊥) → recordsIn s d (addresses (groupsOf is)) (part m (upTo (length fs) is - m) fs) ≡ fine)
+      → recordsOver s f (length fs) d m is ≡ recordsIn s d (addresses (groupsOf is)) (part m (upTo (length fs) is - m) fs)
   unfolding recordsOver
   records-stand d m is several =
       rw (fragments-part f fs (upTo (length fs) is) m (t .walked), ← addresses-length (groupsOf is))
       (go (addresses (groupsOf is)) several)
     where
       go : (gs : List ℕ) → ((length gs ≡ 1 → ⊥) → recordsIn s d gs (part m (upTo (length fs) is - m) fs) ≡ fine)
-        → ifEq (length gs) 1 (sortedIn s d (getD gs 0 0) (part m (upTo (length fs) is - m) fs)) fine ≡ recordsIn s d gs (part m (upTo (length fs) is - m) fs)
+          → ifEq (length gs) 1 (sortedIn s d (getD gs 0 0) (part m (upTo (length fs) is - m) fs)) fine ≡ recordsIn s d gs (part m (upTo (length fs) is - m) fs)
       go [] h = sym (eq-no _ _ _ _ (λ z. omega (arith, z)) refl)
       go (g ∷ []) h = sym (eq-yes _ _ _ _ refl refl)
       go (g ∷ g' ∷ gs) h = let n : length (g ∷ g' ∷ gs) ≡ 1 → ⊥ = λ z. omega (arith, z) in sym (eq-no _ _ _ _ n (h n))
 
   data-stand : (d m : ℕ) (is : List Item) → Several s (record { at = d; fragments = part m (upTo (length fs) is - m) fs; groups = groupsOf is })
-    → dataOver s w f (length fs) (length cs) d m is ≡ dataIn s cs (record { at = d; fragments = part m (upTo (length fs) is - m) fs; groups = groupsOf is })
+      → dataOver s w f (length fs) (length cs) d m is ≡ dataIn s cs (record { at = d; fragments = part m (upTo (length fs) is - m) fs; groups = groupsOf is })
   unfolding dataOver dataIn
   data-stand d m is several =
       rw (nonempty-stand s w d (length fs) 0 cs (t .stand), records-stand d m is several, signals-stand s w f d (length fs) 0 cs (t .stand) (t .signals) (t .few))
 
   pub data-filled : (is : List Item) → ((d : DataGroup) → In d (dataGroupsOf fs is) → Several s d)
-    → allDataOver s w f (length fs) (length cs) is ≡ allDataIn s cs (dataGroupsOf fs is)
+      → allDataOver s w f (length fs) (length cs) is ≡ allDataIn s cs (dataGroupsOf fs is)
   unfolding allDataOver allDataIn dataGroupsOf
   data-filled [] h = refl
   data-filled (dg a m ∷ is) h = rw (data-stand a m is (h _ here), data-filled is (λ d i. h d (there i)))

@@ -25,7 +25,7 @@ pub record Counts (w ns : List ℕ) : Type 0 where
   pub at : (j : ℕ) → j < length ns → getD w (3584 + j) 0 ≡ getD ns j 0
 
 flat-groups : (w ns : List ℕ) (fs : List Fragment) → Counts w ns → (is : List Item) (d : DataGroup) (k g : ℕ) → g + tally (levelCG .own) is ≤ length ns
-  → flat w (d .at) g is
+    → flat w (d .at) g is
     ≡ bares (withCounts d k (groupsOf is) (drop g ns) ++ srcGroups (dataGroupsOf fs is) (drop (length (groupsOf is)) (drop g ns)))
 unfolding flat tally groupsOf dataGroupsOf withCounts srcGroups bares
 flat-groups w ns fs c [] d k g h = refl
@@ -37,7 +37,7 @@ flat-groups w ns fs c (cg a ∷ is) d k g h =
 flat-groups w ns fs c (cn a ∷ is) d k g h = flat-groups w ns fs c is d k g (omega arith)
 
 opened : (w ns : List ℕ) (fs : List Fragment) → Counts w ns → (is : List Item) → Open is → tally (levelCG .own) is ≤ length ns
-  → flat w 0 0 is ≡ bares (srcGroups (dataGroupsOf fs is) ns)
+    → flat w 0 0 is ≡ bares (srcGroups (dataGroupsOf fs is) ns)
 unfolding flat tally groupsOf dataGroupsOf withCounts srcGroups bares
 opened w ns fs c [] o h = refl
 opened w ns fs c (dg a m ∷ is) o h = flat-groups w ns fs c is _ 0 0 (omega arith)
@@ -46,6 +46,6 @@ opened w ns fs c (cn a ∷ is) o h = absurd o
 
 -- the groups of n items that the words hold
 pub groups-flat : (w ns : List ℕ) (n : ℕ) (st : Source) → itemsFrom w 0 n ≡ st .items → Counts w ns → Open (st .items)
-  → tally (levelCG .own) (st .items) ≤ length ns → groupsIn w n ≡ bares (srcGroups (dataGroups st) ns)
+    → tally (levelCG .own) (st .items) ≤ length ns → groupsIn w n ≡ bares (srcGroups (dataGroups st) ns)
 unfolding groupsIn dataGroups
 groups-flat w ns n st e c o h = rw e (opened w ns (st .fragments) c (st .items) o h)

@@ -26,7 +26,7 @@ signals-more [] c = append-nil _
 signals-more (d ∷ cs) c = rw (signals-more cs c, append-assoc)
 
 columns-more : (n : ℕ) (cs : List Column) (c : Column)
-  → columnsWords n (cs ++ (c ∷ [])) ≡ columnsWords n cs ++ columnWords (n + length (signalFragments cs)) c
+    → columnsWords n (cs ++ (c ∷ [])) ≡ columnsWords n cs ++ columnWords (n + length (signalFragments cs)) c
 unfolding columnsWords signalFragments
 columns-more n [] c = rw (add-zero) (append-nil _)
 columns-more n (d ∷ cs) c =
@@ -53,25 +53,25 @@ length-column n c = refl
 
 -- ---- one column more
 laid-column : (n : ℕ) (p : Plan) (c : Column) (w : List ℕ) → 8 * length (p .columns) + 8 ≤ 4096
-  → blit (8 * length (p .columns)) (columnWords (n + length (signalFragments (p .columns))) c) (laidPlan n p w)
+    → blit (8 * length (p .columns)) (columnWords (n + length (signalFragments (p .columns))) c) (laidPlan n p w)
     ≡ laidPlan n (withColumn c (sizeOfSignal (c .signalOf)) p) w
 unfolding laidPlan
 laid-column n p c w h =
     let cw : List ℕ = columnWords (n + length (signalFragments (p .columns))) c in
     let e : 0 + length (columnsWords n (p .columns)) ≡ 8 * length (p .columns) = rw (length-columns n (p .columns)) (zero-add _) in
     blit-comm cw (8 * length (p .columns)) 4096 (omissionPairs (p .omissions)) (blit 0 (columnsWords n (p .columns)) w)
-      (rw (length-column (n + length (signalFragments (p .columns))) c) h)
+    (rw (length-column (n + length (signalFragments (p .columns))) c) h)
     ∙ rw (columns-more n (p .columns) c, blit-append (columnsWords n (p .columns)) 0 cw w, e)
 
 laid-omission : (n : ℕ) (p : Plan) (a r : ℕ) (w : List ℕ)
-  → blit (4096 + 2 * length (p .omissions)) (a ∷ r ∷ []) (laidPlan n p w) ≡ laidPlan n (withOmission a r p) w
+    → blit (4096 + 2 * length (p .omissions)) (a ∷ r ∷ []) (laidPlan n p w) ≡ laidPlan n (withOmission a r p) w
 unfolding laidPlan
 laid-omission n p a r w =
     rw (pairs-more (p .omissions) (record { at = a; reason = r }), blit-append (omissionPairs (p .omissions)) 4096, length-pairs (p .omissions))
 
 module _ {b : Base} {p : Plan} {nc no nf : ℕ} {w f : List ℕ} (h : Held b p nc no nf w f) where
   pub held-column : {w' f' : List ℕ} (c : Column) → nc < 512 → w' ≡ blit (8 * nc) (columnWords nf c) w → f' ≡ kept nf (fragmentsIn (c .signalOf)) f
-    → Held b (withColumn c (sizeOfSignal (c .signalOf)) p) (nc + 1) no (nf + sizeOfSignal (c .signalOf)) w' f'
+      → Held b (withColumn c (sizeOfSignal (c .signalOf)) p) (nc + 1) no (nf + sizeOfSignal (c .signalOf)) w' f'
   held-column {w'} {f'} c r e k =
       let l = h .columns in
       let s = h .signals in
@@ -82,10 +82,10 @@ module _ {b : Base} {p : Plan} {nc no nf : ℕ} {w f : List ℕ} (h : Held b p n
         signals = rw (signals-more (p .columns) c, length-append, ← size-is (c .signalOf)) (omega arith);
         room = omega arith;
         inColumns =
-          e ∙ rw (h .inColumns, ← l, s)
-          (laid-column (b .found) p c (b .words) (omega arith));
+            e ∙ rw (h .inColumns, ← l, s)
+            (laid-column (b .found) p c (b .words) (omega arith));
         inFragments =
-          k ∙ rw (h .inFragments, s, signals-more (p .columns) c, kept-append (b .found) (signalFragments (p .columns)) (fragmentsIn (c .signalOf)));
+            k ∙ rw (h .inFragments, s, signals-more (p .columns) c, kept-append (b .found) (signalFragments (p .columns)) (fragmentsIn (c .signalOf)));
       }
 
   pub held-omission : {w' : List ℕ} (a r : ℕ) → w' ≡ blit (4096 + 2 * no) (a ∷ r ∷ []) w → Held b (withOmission a r p) nc (no + 1) nf w' f

@@ -31,7 +31,7 @@ item-dg m a h k = sym (eq-no _ _ _ _ h (eq-no _ _ _ _ k refl))
 
 -- the next item
 pub items-open : (w : List ℕ) (i n : ℕ) {m a : ℕ} → m ≡ getD w (1536 + i) 0 → a ≡ getD w i 0 → i < n
-  → itemsFrom w i (n - i) ≡ item m a ∷ itemsFrom w (i + 1) (n - (i + 1))
+    → itemsFrom w i (n - i) ≡ item m a ∷ itemsFrom w (i + 1) (n - (i + 1))
 unfolding itemsFrom
 items-open w i n {m} {a} p q h = go (n - i) (omega arith)
   where
@@ -92,7 +92,7 @@ unfolding channelsOf
 over-dg a n is = refl
 
 channels-opened : (w : List ℕ) (n i : ℕ) {m : ℕ} → m ≡ getD w (1536 + i) 0 → i < n → (j : Item) → item m (getD w i 0) ≡ j
-  → channelsOf (j ∷ itemsFrom w (i + 1) (n - (i + 1))) ≡ [] → channelsIn w n i ≡ []
+    → channelsOf (j ∷ itemsFrom w (i + 1) (n - (i + 1))) ≡ [] → channelsIn w n i ≡ []
 unfolding channelsIn
 channels-opened w n i p h j e f = rw (items-open w i n p refl h, e) f
 
@@ -129,7 +129,7 @@ module _ (w : List ℕ) (n d g i : ℕ) where
     groups-cn z = rw (items-open w i n p q h, item-cn m a z)
 
     pub groups-cg : m ≡ 1 → {r : ℕ} → r ≡ getD w (3584 + g) 0
-      → groupsFrom w n d g i ≡ groupOf d a (channelsIn w n (i + 1)) r ∷ groupsFrom w n d (g + 1) (i + 1)
+        → groupsFrom w n d g i ≡ groupOf d a (channelsIn w n (i + 1)) r ∷ groupsFrom w n d (g + 1) (i + 1)
     unfolding groupsFrom flat channelsIn
     groups-cg z y = rw (items-open w i n p q h, item-cg m a z, y)
 

@@ -45,7 +45,7 @@ length-bare (c ∷ cs) = ap suc (length-bare cs)
 
 -- a plan that the words hold, as an outcome
 gives-outcome : (n : ℕ) (w f : List ℕ) (o : Checked Plan) (r : Progress) (w' f' : List ℕ)
-  → Gives (record { found = n; words = w; fragments = f }) (bareChecked o) r w' f' → outcome r w' f' ≡ laidOutcome o n w f
+    → Gives (record { found = n; words = w; fragments = f }) (bareChecked o) r w' f' → outcome r w' f' ≡ laidOutcome o n w f
 unfolding gives laidOutcome
 gives-outcome n w f (refused x p) r w' f' g = let e = g .by in rw e
 gives-outcome n w f (ok q) r w' f' g =
@@ -53,11 +53,11 @@ gives-outcome n w f (ok q) r w' f' g =
     let h = t .held in
     let c : t .nc ≡ length (q .columns) = sym (h .columns) ∙ length-bare (q .columns) in
     done q (t .nc) (t .no) (t .nf) (t .is) c (sym (h .omissions)) (sym (h .fragments))
-      (h .inColumns ∙ laid-bare n q w) (h .inFragments ∙ ap (λ fs. kept n fs f) (signals-bare (q .columns)))
+    (h .inColumns ∙ laid-bare n q w) (h .inFragments ∙ ap (λ fs. kept n fs f) (signals-bare (q .columns)))
   where
     done : (q : Plan) (x y z : ℕ) → r ≡ Done x y z → x ≡ length (q .columns) → y ≡ length (q .omissions) → z ≡ q .fragments
-      → w' ≡ laidPlan n q w → f' ≡ kept n (signalFragments (q .columns)) f
-      → outcome r w' f' ≡ leaves (Done (length (q .columns)) (length (q .omissions)) (q .fragments)) (laidPlan n q w) (kept n (signalFragments (q .columns)) f)
+        → w' ≡ laidPlan n q w → f' ≡ kept n (signalFragments (q .columns)) f
+        → outcome r w' f' ≡ leaves (Done (length (q .columns)) (length (q .omissions)) (q .fragments)) (laidPlan n q w) (kept n (signalFragments (q .columns)) f)
     done q x y z e a b c i j = rw (e, a, b, c, i, j)
 
 -- a plan that the words hold, with its numbers; n fragments were found in the walk
@@ -75,7 +75,7 @@ pub record PlanIs (o : Checked Plan) (n nc no nf : ℕ) (w f w' f' : List ℕ) :
   pub held : PlanHeld n plan nc no nf w f w' f'
 
 held-bare : (n : ℕ) (w f : List ℕ) (q : Plan) {nc no nf : ℕ} {w' f' : List ℕ} → Held (record { found = n; words = w; fragments = f }) (barePlan q) nc no nf w' f'
-  → PlanHeld n q nc no nf w f w' f'
+    → PlanHeld n q nc no nf w f w' f'
 held-bare n w f q h =
     record {
       columns = sym (h .columns) ∙ length-bare (q .columns);
@@ -87,7 +87,7 @@ held-bare n w f q h =
     }
 
 pub gives-plan : (n : ℕ) (w f : List ℕ) (o : Checked Plan) {r : Progress} {nc no nf : ℕ} {w' f' : List ℕ}
-  → Gives (record { found = n; words = w; fragments = f }) (bareChecked o) r w' f' → r ≡ Done nc no nf → PlanIs o n nc no nf w f w' f'
+    → Gives (record { found = n; words = w; fragments = f }) (bareChecked o) r w' f' → r ≡ Done nc no nf → PlanIs o n nc no nf w f w' f'
 unfolding gives
 gives-plan n w f (refused x p) g e = absurd (let q = g .by in let z : _≡_ {A = ℕ} 0 1 = cc in omega arith)
 gives-plan n w f (ok q) {nc = nc} {no} {nf} {w'} {f'} g e =
@@ -99,7 +99,7 @@ gives-plan n w f (ok q) {nc = nc} {no} {nf} {w'} {f'} g e =
     record { plan = q; is = refl; held = held-bare n w f q (rw (a, b, c) at (t .held)) }
 
 pub gives-none : (n : ℕ) (w f : List ℕ) (o : Checked Plan) {r : Progress} {x p : ℕ} {w' f' : List ℕ}
-  → Gives (record { found = n; words = w; fragments = f }) (bareChecked o) r w' f' → r ≡ Refused x p → o ≡ refused x p
+    → Gives (record { found = n; words = w; fragments = f }) (bareChecked o) r w' f' → r ≡ Refused x p → o ≡ refused x p
 unfolding gives
 gives-none n w f (refused y q) {x = x} {p} g e =
     let b = g .by in
@@ -139,13 +139,13 @@ module _ (s : List ℕ) (st : Source) (ns : List ℕ) (walked : walk s ≡ ok st
       let few = few-items (st .items) (h .fewDG) (h .fewCG) (h .fewCN) in
       let cg = h .fewCG in
       groups-flat kept-words ns (length (st .items)) st
-        read-items
-        (laid-counts (st .items) ns w₀ long few cg (omega arith))
-        (walk-open s st walked) (omega arith)
+      read-items
+      (laid-counts (st .items) ns w₀ long few cg (omega arith))
+      (walk-open s st walked) (omega arith)
 
   -- planning over those words is the recording's plan
   pub read-gives : {r : Progress} {w f w' f' : List ℕ} → GroupsPlan s kept-words (length (st .items)) (length (st .fragments)) w f r w' f'
-    → Gives (record { found = length (st .fragments); words = w; fragments = f }) (bareChecked (plan s (length (st .fragments)) all)) r w' f'
+      → Gives (record { found = length (st .fragments); words = w; fragments = f }) (bareChecked (plan s (length (st .fragments)) all)) r w' f'
   unfolding plan
   read-gives {r} {w} {f} {w'} {f'} g =
       let n = length (st .fragments) in
@@ -156,6 +156,6 @@ module _ (s : List ℕ) (st : Source) (ns : List ℕ) (walked : walk s ≡ ok st
       rw (← plan-bare s n all) (rw e at (g .is (record { found = n; words = w; fragments = f }) (nothing n) (held-nothing n w f) (rw e (omega arith))))
 
   pub planned-read : {r : Progress} {w f w' f' : List ℕ} → GroupsPlan s kept-words (length (st .items)) (length (st .fragments)) w f r w' f'
-    → outcome r w' f' ≡ laidOutcome (plan s (length (st .fragments)) all) (length (st .fragments)) w f
+      → outcome r w' f' ≡ laidOutcome (plan s (length (st .fragments)) all) (length (st .fragments)) w f
   planned-read {r} {w} {f} {w'} {f'} g =
       gives-outcome (length (st .fragments)) w f (plan s (length (st .fragments)) all) r w' f' (read-gives g)

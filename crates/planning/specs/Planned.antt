@@ -24,10 +24,10 @@ reserved s all p = length (p .columns) + waiting s (p .columns) all
 pub record GroupPlan (s src : List ℕ) (n i g d records nc no nf : ℕ) (w f : List ℕ) (r : Progress) (w' f' : List ℕ) : Type 0 where
   pub bound : within r (nc + 1537) (no + 1537)
   pub is : (b : Base) (p : Plan) → Held b p nc no nf w f → In (groupOf d g (channelsIn src n i) records) (groupsIn src n)
-    → reserved s (groupsIn src n) p + othersOf s (groupOf d g (channelsIn src n i) records) ≤ 512
-    → Gives b (planGroup s (groupsIn src n) (groupOf d g (channelsIn src n i) records) p) r w' f'
+      → reserved s (groupsIn src n) p + othersOf s (groupOf d g (channelsIn src n i) records) ≤ 512
+      → Gives b (planGroup s (groupsIn src n) (groupOf d g (channelsIn src n i) records) p) r w' f'
 
 pub record GroupsPlan (s src : List ℕ) (n nf : ℕ) (w f : List ℕ) (r : Progress) (w' f' : List ℕ) : Type 0 where
   pub bound : within r (1537 * n) (1537 * n)
   pub is : (b : Base) (p : Plan) → Held b p 0 0 nf w f → reserved s (groupsIn src n) p + othersIn s (groupsIn src n) ≤ 512
-    → Gives b (planGroups s (groupsIn src n) (groupsIn src n) p) r w' f'
+      → Gives b (planGroups s (groupsIn src n) (groupsIn src n) p) r w' f'

@@ -33,7 +33,7 @@ use Rattle.planning.specs.Planned.{othersOf, othersIn, reserved, GroupPl
 
 -- ---- a group
 timed-group : (s : List ℕ) (all : List SrcGroup) (g : SrcGroup) (p : Plan) → isStorage s (g .at) ≡ false
-  → planGroup s all g p ≡ planTimed s g (timeOf s all g) p
+    → planGroup s all g p ≡ planTimed s g (timeOf s all g) p
 unfolding planGroup
 timed-group s all g p e = rw e
 
@@ -52,8 +52,8 @@ module _ (s src : List ℕ) (n i g d records nc no nf : ℕ) (w f : List ℕ) {t
       }
 
   module _ (h : t ≡ false) {own : ℕ} (q : own ≡ ownMaster (masterIn s src n i g)) {r : Settled} {w1 : List ℕ}
-    (k : SettlePlan s src n i g d records nc no w r w1) {x : Progress} {w' f' : List ℕ}
-    (l : ChannelsPlan s src n i g d records own (r .master) (r .columns) (r .omissions) nf w1 f x w' f') where
+      (k : SettlePlan s src n i g d records nc no w r w1) {x : Progress} {w' f' : List ℕ}
+      (l : ChannelsPlan s src n i g d records own (r .master) (r .columns) (r .omissions) nf w1 f x w' f') where
     own-is : own ≡ ownMaster (masterOf s (groupOf d g (channelsIn src n i) records))
     own-is = q ∙ ap ownMaster (sym (master-group s src n i g d records))
 
@@ -64,15 +64,15 @@ module _ (s src : List ℕ) (n i g d records nc no nf : ℕ) (w f : List ℕ) {t
         record {
           bound = within-more x (l .bound) (omega arith) (omega arith);
           is = λ b p j i' y.
-            let c = j .columns in
-            let z = k .is b p nf f j i' (omega arith) in
-            let v = z .budget in
-            let u = rw own-is at (l .is b (z .plan) (z .column) (channelsIn src n i) (z .held) (z .master) (rw own-is (omega arith))) in
-            rw (is-timed p ∙ z .rest) u;
+              let c = j .columns in
+              let z = k .is b p nf f j i' (omega arith) in
+              let v = z .budget in
+              let u = rw own-is at (l .is b (z .plan) (z .column) (channelsIn src n i) (z .held) (z .master) (rw own-is (omega arith))) in
+              rw (is-timed p ∙ z .rest) u;
         }
       where
         is-timed : (p : Plan) → planGroup s (groupsIn src n) (groupOf d g (channelsIn src n i) records) p
-          ≡ planTimed s (groupOf d g (channelsIn src n i) records) (timeOf s (groupsIn src n) (groupOf d g (channelsIn src n i) records)) p
+            ≡ planTimed s (groupOf d g (channelsIn src n i) records) (timeOf s (groupsIn src n) (groupOf d g (channelsIn src n i) records)) p
         is-timed p = timed-group s (groupsIn src n) (groupOf d g (channelsIn src n i) records) p (sym e ∙ h)
 
 -- ---- columns reserved: the channels of a group take no more than their number
@@ -89,25 +89,25 @@ decided-took s all g m c p (kept d) =
     }
 
 channels-took : (s : List ℕ) (all : List SrcGroup) (g : SrcGroup) (own : ℕ) (m : Option ℕ) (cs : List ℕ) (p q : Plan)
-  → planChannels s g own m cs p ≡ ok q → Took s all (others own cs) p q
+    → planChannels s g own m cs p ≡ ok q → Took s all (others own cs) p q
 unfolding planChannels others
 channels-took s all g own m [] p q e = rw (ok-same e) (record { waits = refl; few = omega arith })
 channels-took s all g own m (c ∷ cs) p q e =
     eq-cases c own _ _ e
     (λ h i.
-      let t = channels-took s all g own m cs p q i in
-      let l = t .few in
-      record { waits = t .waits; few = omega arith })
+    let t = channels-took s all g own m cs p q i in
+    let l = t .few in
+    record { waits = t .waits; few = omega arith })
     (λ h i. with-ok (decide s (p .fragments) (g .at) c) _ i (λ d j k.
-      let a = decided-took s all g m c p d in
-      let t = channels-took s all g own m cs (decided g m c p d) q k in
-      let l = t .few in
-      let l' = a .few in
-      let o : _≡_ {A = ℕ} 1 (ifEq c own 0 1) = eq-no _ _ _ _ h refl in
-      record { waits = t .waits ∙ a .waits; few = omega arith }))
+    let a = decided-took s all g m c p d in
+    let t = channels-took s all g own m cs (decided g m c p d) q k in
+    let l = t .few in
+    let l' = a .few in
+    let o : _≡_ {A = ℕ} 1 (ifEq c own 0 1) = eq-no _ _ _ _ h refl in
+    record { waits = t .waits ∙ a .waits; few = omega arith }))
 
 pub group-budget : (s : List ℕ) (all : List SrcGroup) (g : SrcGroup) (p q : Plan) → In g all → planGroup s all g p ≡ ok q
-  → reserved s all q ≤ reserved s all p + othersOf s g
+    → reserved s all q ≤ reserved s all p + othersOf s g
 unfolding planGroup
 group-budget s all g p q i e =
     pick-cases (isStorage s (g .at)) _ _ e
@@ -163,12 +163,16 @@ pub record Groups (s src : List ℕ) (n nf₀ : ℕ) (w₀ f₀ : List ℕ) (i g
   pub fewOmitted : no ≤ 1537 * i
   pub fewFragments : nf ≤ 1024
   pub now : (b : Base) (p : Plan) → Held b p 0 0 nf₀ w₀ f₀ → reserved s (groupsIn src n) p + othersIn s (groupsIn src n) ≤ 512
-    → Stood s src n (groupsFrom src n d g i) nc no nf b p w f
+      → Stood s src n (groupsFrom src n d g i) nc no nf b p w f
 
 pub groups-begin : {s src : List ℕ} {n nf : ℕ} {w f : List ℕ} → nf ≤ 1024 → Groups s src n nf w f 0 0 0 0 0 nf w f
 groups-begin {s} {src} {n} l =
     record {
-      upTo = omega arith; few = omega arith; fewColumns = omega arith; fewOmitted = omega arith; fewFragments = l;
+      upTo = omega arith;
+      few = omega arith;
+      fewColumns = omega arith;
+      fewOmitted = omega arith;
+      fewFragments = l;
       now = λ b p h y. rw (groups-all src n) (record { plan = p; held = h; before = []; split = refl; budget = y; rest = refl });
     }
 
@@ -182,10 +186,10 @@ module _ {s src : List ℕ} {n nf₀ : ℕ} {w₀ f₀ : List ℕ} {i g d nc no 
       record {
         bound = (omega arith, omega arith, t .fewFragments);
         is = λ b p j y.
-          let r = t .now b p j y in
-          let q : planGroups s (groupsIn src n) (groupsIn src n) p ≡ ok (r .plan) =
+            let r = t .now b p j y in
+            let q : planGroups s (groupsIn src n) (groupsIn src n) p ≡ ok (r .plan) =
             sym (r .rest) ∙ rw (groups-none src n d g i h, groups-over s (groupsIn src n) (r .plan)) in
-          record { by = rw q (record { nc = nc; no = no; nf = nf; is = refl; held = r .held }) };
+            record { by = rw q (record { nc = nc; no = no; nf = nf; is = refl; held = r .held }) };
       }
 
   module _ (h : i < n) {m a : ℕ} (e : m ≡ getD src (1536 + i) 0) (q : a ≡ getD src i 0) where
@@ -195,7 +199,11 @@ module _ {s src : List ℕ} {n nf₀ : ℕ} {w₀ f₀ : List ℕ} {i g d nc no 
         let v = t .fewColumns in
         let x = t .fewOmitted in
         record {
-          upTo = omega arith; few = omega arith; fewColumns = omega arith; fewOmitted = omega arith; fewFragments = t .fewFragments;
+          upTo = omega arith;
+          few = omega arith;
+          fewColumns = omega arith;
+          fewOmitted = omega arith;
+          fewFragments = t .fewFragments;
           now = λ b p j y. rw (groups-cn src n d g i h e q z) at (t .now b p j y);
         }
 
@@ -205,12 +213,16 @@ module _ {s src : List ℕ} {n nf₀ : ℕ} {w₀ f₀ : List ℕ} {i g d nc no 
         let v = t .fewColumns in
         let x = t .fewOmitted in
         record {
-          upTo = omega arith; few = omega arith; fewColumns = omega arith; fewOmitted = omega arith; fewFragments = t .fewFragments;
+          upTo = omega arith;
+          few = omega arith;
+          fewColumns = omega arith;
+          fewOmitted = omega arith;
+          fewFragments = t .fewFragments;
           now = λ b p j y. rw (groups-dg src n d g i h e q z z') at (t .now b p j y);
         }
 
     module _ (z : m ≡ 1) {records : ℕ} (k : records ≡ getD src (3584 + g) 0) {r : Progress} {w' f' : List ℕ}
-      (l : GroupPlan s src n (i + 1) a d records nc no nf w f r w' f') where
+        (l : GroupPlan s src n (i + 1) a d records nc no nf w f r w' f') where
       -- the group and those after it
       abbrev this : SrcGroup
       this = groupOf d a (channelsIn src n (i + 1)) records
@@ -232,7 +244,7 @@ module _ {s src : List ℕ} {n nf₀ : ℕ} {w₀ f₀ : List ℕ} {i g d nc no 
         step-gives = l .is b (stood .plan) (stood .held) isIn (let o = budgeted in omega arith)
 
         step-rest : andThen (planGroup s (groupsIn src n) this (stood .plan)) (planGroups s (groupsIn src n) later)
-          ≡ planGroups s (groupsIn src n) (groupsIn src n) p
+            ≡ planGroups s (groupsIn src n) (groupsIn src n) p
         step-rest = sym (groups-more s (groupsIn src n) this later (stood .plan)) ∙ stood .rest
 
       pub groups-refused : {x x' : ℕ} → r ≡ Refused x x' → GroupsPlan s src n nf₀ w₀ f₀ (Refused x x') w' f'
@@ -241,9 +253,9 @@ module _ {s src : List ℕ} {n nf₀ : ℕ} {w₀ f₀ : List ℕ} {i g d nc no 
           record {
             bound = tt;
             is = λ b p j y.
-              let o : planGroups s (groupsIn src n) (groupsIn src n) p ≡ refused x x' =
+                let o : planGroups s (groupsIn src n) (groupsIn src n) p ≡ refused x x' =
                 sym (step-rest b p j y) ∙ ap (λ u. andThen u (planGroups s (groupsIn src n) later)) (gives-refused (step-gives b p j y) v) in
-              record { by = rw o };
+                record { by = rw o };
           }
 
       pub groups-on : {x y' z' : ℕ} → r ≡ Done x y' z' → Groups s src n nf₀ w₀ f₀ (i + 1) (g + 1) d x y' z' w' f'
@@ -253,17 +265,21 @@ module _ {s src : List ℕ} {n nf₀ : ℕ} {w₀ f₀ : List ℕ} {i g d nc no 
           let c = t .fewColumns in
           let o = t .fewOmitted in
           record {
-            upTo = omega arith; few = omega arith; fewColumns = omega arith; fewOmitted = omega arith; fewFragments = bs .2;
+            upTo = omega arith;
+            few = omega arith;
+            fewColumns = omega arith;
+            fewOmitted = omega arith;
+            fewFragments = bs .2;
             now = λ b p j y.
-              let on = gives-done (step-gives b p j y) v in
-              let more = budgeted b p j y in
-              let took = group-budget s (groupsIn src n) this (stood b p j y .plan) (on .plan) (isIn b p j y) (on .is) in
-              record {
-                plan = on .plan;
-                held = on .held;
-                before = stood b p j y .before ++ (this ∷ []);
-                split = stood b p j y .split ∙ rw append-assoc;
-                budget = omega arith;
-                rest = ap (λ u'. andThen u' (planGroups s (groupsIn src n) later)) (sym (on .is)) ∙ step-rest b p j y;
-              };
+                let on = gives-done (step-gives b p j y) v in
+                let more = budgeted b p j y in
+                let took = group-budget s (groupsIn src n) this (stood b p j y .plan) (on .plan) (isIn b p j y) (on .is) in
+                record {
+                  plan = on .plan;
+                  held = on .held;
+                  before = stood b p j y .before ++ (this ∷ []);
+                  split = stood b p j y .split ∙ rw append-assoc;
+                  budget = omega arith;
+                  rest = ap (λ u'. andThen u' (planGroups s (groupsIn src n) later)) (sym (on .is)) ∙ step-rest b p j y;
+                };
           }

@@ -111,13 +111,13 @@ module _ (is : List Item) (ns w : List ℕ) (long : 4096 ≤ length w) (few : le
       let g = length-groups is in
       record {
         addresses = λ j l.
-          blit-before ns 3584 (0 + j) _ (omega arith) ∙ blit-before (groupWords is) 3072 (0 + j) _ (omega arith)
-          ∙ blit-before (markWords is) 1536 (0 + j) _ (omega arith) ∙ blit-among (addressWords is) 0 j w (omega arith) (omega arith);
+            blit-before ns 3584 (0 + j) _ (omega arith) ∙ blit-before (groupWords is) 3072 (0 + j) _ (omega arith)
+            ∙ blit-before (markWords is) 1536 (0 + j) _ (omega arith) ∙ blit-among (addressWords is) 0 j w (omega arith) (omega arith);
         marks = λ j l.
-          let e : 1536 + (0 + j) ≡ 1536 + j = omega arith in
-          rw e
-          (blit-before ns 3584 (1536 + j) _ (omega arith) ∙ blit-before (groupWords is) 3072 (1536 + j) _ (omega arith)
-          ∙ blit-among (markWords is) 1536 j (blit 0 (addressWords is) w) (omega arith) (rw length-blit (omega arith)));
+            let e : 1536 + (0 + j) ≡ 1536 + j = omega arith in
+            rw e
+            (blit-before ns 3584 (1536 + j) _ (omega arith) ∙ blit-before (groupWords is) 3072 (1536 + j) _ (omega arith)
+            ∙ blit-among (markWords is) 1536 j (blit 0 (addressWords is) w) (omega arith) (rw length-blit (omega arith)));
       }
 
   pub laid-counts : Counts (blit countsAt ns (laidItems is w)) ns

@@ -51,6 +51,7 @@ group-room s g t = go (masterOf s g) refl
     few : (m : ℕ) (t : Option ℕ) → lack (some m) t ≤ 1
     few m none = omega arith
     few m (some k) = omega arith
+
     go : (o : Option ℕ) → masterOf s g ≡ o → lack o t + others (ownMaster o) (g .channels) ≤ length (g .channels)
     go none q = let a = others-few 0 (g .channels) in omega arith
     go (some m) q =

@@ -50,11 +50,11 @@ new-time t m p e = rw e
 
 -- a group that waits for its time column gets it: no more columns are left to come
 pub time-budget : (s : List ℕ) (all : List SrcGroup) (t : SrcGroup) (m : ℕ) (p : Plan) → In t all → masterOf s t ≡ some m
-  → length (withTime t m p .columns) + waiting s (withTime t m p .columns) all ≤ length (p .columns) + waiting s (p .columns) all
+    → length (withTime t m p .columns) + waiting s (withTime t m p .columns) all ≤ length (p .columns) + waiting s (p .columns) all
 time-budget s all t m p i e = go (timeColumn (t .at) 0 (p .columns)) refl
   where
     go : (o : Option ℕ) → timeColumn (t .at) 0 (p .columns) ≡ o
-      → length (withTime t m p .columns) + waiting s (withTime t m p .columns) all ≤ length (p .columns) + waiting s (p .columns) all
+        → length (withTime t m p .columns) + waiting s (withTime t m p .columns) all ≤ length (p .columns) + waiting s (p .columns) all
     go (some k) q = rw (old-time t m p q) (le-refl _)
     go none q =
         let f = waiting-fewer s (p .columns) (timeOfGroup t m) all i e q refl refl in
@@ -62,8 +62,8 @@ time-budget s all t m p i e = go (timeColumn (t .at) 0 (p .columns)) refl
 
 module _ (c g d records nc no : ℕ) (w : List ℕ) (long : 4096 ≤ length w) {k : ℕ} (e : k ≡ timeIn w g 0 nc) where
   old-held : (b : Base) (p : Plan) (nf : ℕ) (f : List ℕ) (t : SrcGroup) → Held b p nc no nf w f → t .at ≡ g → (k ≡ 0 → ⊥)
-    → (o : Option ℕ) → timeColumn (t .at) 0 (p .columns) ≡ o → masterWord o ≡ k
-    → TimeHeld b p t c nf f (record { master = k; columns = nc; omissions = no }) w
+      → (o : Option ℕ) → timeColumn (t .at) 0 (p .columns) ≡ o → masterWord o ≡ k
+      → TimeHeld b p t c nf f (record { master = k; columns = nc; omissions = no }) w
   old-held b p nf f t h a z none q r = absurd (z (sym r))
   old-held b p nf f t h a z (some j) q r =
       let y = old-time t c p q in
@@ -82,8 +82,8 @@ module _ (c g d records nc no : ℕ) (w : List ℕ) (long : 4096 ≤ length w) {
 
   module _ {w' : List ℕ} (u : w' ≡ blit (8 * nc) (c ∷ g ∷ d ∷ records ∷ 1 ∷ 0 ∷ 0 ∷ 0 ∷ []) w) where
     new-held : (b : Base) (p : Plan) (nf : ℕ) (f : List ℕ) (t : SrcGroup) → Held b p nc no nf w f → t .at ≡ g → t .dataGroup .at ≡ d
-      → t .records ≡ records → nc < 512 → timeColumn (t .at) 0 (p .columns) ≡ none
-      → TimeHeld b p t c nf f (record { master = nc + 1; columns = nc + 1; omissions = no }) w'
+        → t .records ≡ records → nc < 512 → timeColumn (t .at) 0 (p .columns) ≡ none
+        → TimeHeld b p t c nf f (record { master = nc + 1; columns = nc + 1; omissions = no }) w'
     unfolding columnWords
     new-held b p nf f t h a x y r q =
         let z = new-time t c p q in
@@ -100,8 +100,8 @@ module _ (c g d records nc no : ℕ) (w : List ℕ) (long : 4096 ≤ length w) {
           few = omega arith;
           fewOmitted = omega arith;
           is = λ b p nf f t h a x y r.
-            let q = lacking (timeColumn (t .at) 0 (p .columns)) (named b p nf f t h a ∙ z) in
-            new-held b p nf f t h a x y (r (rw a at q)) q;
+              let q = lacking (timeColumn (t .at) 0 (p .columns)) (named b p nf f t h a ∙ z) in
+              new-held b p nf f t h a x y (r (rw a at q)) q;
         }
       where
         lacking : (o : Option ℕ) → masterWord o ≡ 0 → o ≡ none
@@ -133,7 +133,7 @@ time-back (time t m) {c} e = let q : m ≡ c = cc in record { group = t; is = ap
 
 -- ---- the time of a group
 module _ (s src : List ℕ) (n i g d records nc no : ℕ) (w : List ℕ) {x : Time}
-  (e : x ≡ timeWords (timeOf s (groupsIn src n) (groupOf d g (channelsIn src n i) records))) where
+    (e : x ≡ timeWords (timeOf s (groupsIn src n) (groupOf d g (channelsIn src n i) records))) where
   pub settle-untimed : x ≡ Untimed → SettlePlan s src n i g d records nc no w (record { master = 0; columns = nc; omissions = no }) w
   settle-untimed h =
       let o = untimed-back (timeOf s (groupsIn src n) (groupOf d g (channelsIn src n i) records)) (sym h ∙ e) in
@@ -141,24 +141,24 @@ module _ (s src : List ℕ) (n i g d records nc no : ℕ) (w : List ℕ) {x : Ti
         few = omega arith;
         fewOmitted = omega arith;
         is = λ b p nf f k l y.
-          let c = k .columns in
-          record { plan = p; column = none; held = k; master = refl; budget = omega arith; rest = rw o };
+            let c = k .columns in
+            record { plan = p; column = none; held = k; master = refl; budget = omega arith; rest = rw o };
       }
 
   pub settle-differs : {w' : List ℕ} → x ≡ Differs → w' ≡ blit (4096 + 2 * no) (g ∷ 1 ∷ []) w
-    → SettlePlan s src n i g d records nc no w (record { master = 0; columns = nc; omissions = no + 1 }) w'
+      → SettlePlan s src n i g d records nc no w (record { master = 0; columns = nc; omissions = no + 1 }) w'
   settle-differs h u =
       let o = differs-back (timeOf s (groupsIn src n) (groupOf d g (channelsIn src n i) records)) (sym h ∙ e) in
       record {
         few = omega arith;
         fewOmitted = omega arith;
         is = λ b p nf f k l y.
-          let c = k .columns in
-          record { plan = withOmission g 1 p; column = none; held = held-omission k g 1 u; master = refl; budget = omega arith; rest = rw o };
+            let c = k .columns in
+            record { plan = withOmission g 1 p; column = none; held = held-omission k g 1 u; master = refl; budget = omega arith; rest = rw o };
       }
 
   pub settle-at : {c' g' d' r' : ℕ} {r : Settled} {w' : List ℕ} → x ≡ At c' g' d' r' → TimePlan c' g' d' r' nc no w r w'
-    → SettlePlan s src n i g d records nc no w r w'
+      → SettlePlan s src n i g d records nc no w r w'
   settle-at {c'} {g'} h t =
       let o = time-back (timeOf s (groupsIn src n) (groupOf d g (channelsIn src n i) records)) (sym h ∙ e) in
       let few = t .few in
@@ -167,26 +167,25 @@ module _ (s src : List ℕ) (n i g d records nc no : ℕ) (w : List ℕ) {x : Ti
         few = few;
         fewOmitted = omega arith;
         is = λ b p nf f k l y.
-          settled (o .group) c' (o .is) p k l y
-          (t .is b p nf f (o .group) k (o .at) (o .ofDG) (o .counted)
-          (λ q. waits (o .group) c' (o .is) p k l y (rw (o .at) q)));
+            settled (o .group) c' (o .is) p k l y
+            (t .is b p nf f (o .group) k (o .at) (o .ofDG) (o .counted)
+            (λ q. waits (o .group) c' (o .is) p k l y (rw (o .at) q)));
       }
     where
-
       waits : (t : SrcGroup) (m : ℕ) → timeOf s (groupsIn src n) (groupOf d g (channelsIn src n i) records) ≡ time t m
-        → {b : Base} {nf : ℕ} {f : List ℕ} (p : Plan) → Held b p nc no nf w f
-        → In (groupOf d g (channelsIn src n i) records) (groupsIn src n) → nc + waiting s (p .columns) (groupsIn src n) ≤ 512
-        → timeColumn (t .at) 0 (p .columns) ≡ none → nc < 512
+          → {b : Base} {nf : ℕ} {f : List ℕ} (p : Plan) → Held b p nc no nf w f
+          → In (groupOf d g (channelsIn src n i) records) (groupsIn src n) → nc + waiting s (p .columns) (groupsIn src n) ≤ 512
+          → timeColumn (t .at) 0 (p .columns) ≡ none → nc < 512
       waits t m o p k l y q =
           let z = time-known s (groupsIn src n) (groupOf d g (channelsIn src n i) records) t m l o in
           let f' = waiting-fewer s (p .columns) (timeOfGroup t m) (groupsIn src n) (z .isIn) (z .master) q refl refl in
           omega arith
 
       settled : (t : SrcGroup) (m : ℕ) → timeOf s (groupsIn src n) (groupOf d g (channelsIn src n i) records) ≡ time t m
-        → {b : Base} {nf : ℕ} {f : List ℕ} {r : Settled} {w' : List ℕ} (p : Plan) → Held b p nc no nf w f
-        → In (groupOf d g (channelsIn src n i) records) (groupsIn src n) → nc + waiting s (p .columns) (groupsIn src n) ≤ 512
-        → TimeHeld b p t m nf f r w'
-        → Settling s (groupsIn src n) (groupOf d g (channelsIn src n i) records) b p nf f r w'
+          → {b : Base} {nf : ℕ} {f : List ℕ} {r : Settled} {w' : List ℕ} (p : Plan) → Held b p nc no nf w f
+          → In (groupOf d g (channelsIn src n i) records) (groupsIn src n) → nc + waiting s (p .columns) (groupsIn src n) ≤ 512
+          → TimeHeld b p t m nf f r w'
+          → Settling s (groupsIn src n) (groupOf d g (channelsIn src n i) records) b p nf f r w'
       settled t m o p k l y h =
           let z = time-known s (groupsIn src n) (groupOf d g (channelsIn src n i) records) t m l o in
           let v = time-budget s (groupsIn src n) t m p (z .isIn) (z .master) in

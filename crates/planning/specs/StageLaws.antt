@@ -62,7 +62,7 @@ module _ {A : Type 0} {F : List Column → A} {w : List ℕ} {nc k : ℕ} (t : L
 
   module _ (h : k < nc) where
     pub left-stop : (v : A) → ((c : Column) (cs : List Column) → Reads w k c → v ≡ F (c ∷ cs))
-      → (n : ℕ) (cs : List Column) → Stand w n 0 cs → length cs ≡ nc → v ≡ F cs
+        → (n : ℕ) (cs : List Column) → Stand w n 0 cs → length cs ≡ nc → v ≡ F cs
     left-stop v by n cs i l =
         go (t .now n cs i l .columns) (t .now n cs i l .long) (t .now n cs i l .stand) (t .now n cs i l .same)
       where
@@ -104,18 +104,18 @@ module _ (s w : List ℕ) (k d : ℕ) {x : ℕ} (e : x ≡ getD w (8 * k + 2) 0)
     nonempty-by q u = rw (← e, eq-eqb x d h, ← i, ← j, ← l, lt-ltb 0 y q, u)
 
 pub nonempty-open : (s w : List ℕ) (k d : ℕ) (c : Column) (cs : List Column) → Reads w k c
-  → anyNonempty s d (c ∷ cs) ≡ pick (nonemptyIn s w k d) true (anyNonempty s d cs)
+    → anyNonempty s d (c ∷ cs) ≡ pick (nonemptyIn s w k d) true (anyNonempty s d cs)
 unfolding anyNonempty isNonempty nonemptyIn
 nonempty-open s w k d c cs h = rw (h .channel, h .group, h .ofDG, h .records)
 
 -- ---- the number of blocks
 blocks-over : (s : List ℕ) (size : ℕ) (c : Column) (cs : List Column) → 4294967295 < blockCount size (width s (c .group .at) (c .channel)) (c .group .records)
-  → refused 19 (c .channel) ≡ blocksIn s size (c ∷ cs)
+    → refused 19 (c .channel) ≡ blocksIn s size (c ∷ cs)
 unfolding blocksIn
 blocks-over s size c cs h = lt-yes _ _ _ _ h refl
 
 blocks-few : (s : List ℕ) (size : ℕ) (c : Column) (cs : List Column) → blockCount size (width s (c .group .at) (c .channel)) (c .group .records) ≤ 4294967295
-  → blocksIn s size cs ≡ blocksIn s size (c ∷ cs)
+    → blocksIn s size cs ≡ blocksIn s size (c ∷ cs)
 unfolding blocksIn
 blocks-few s size c cs h = lt-no _ _ _ _ h refl
 
@@ -125,7 +125,7 @@ module _ (s : List ℕ) (size : ℕ) {w : List ℕ} {nc k : ℕ} (t : LeftIn (bl
   blocks-end h = record { is = left-end t h }
 
   module _ (h : k < nc) {c g r y m : ℕ} (i : c ≡ getD w (8 * k) 0) (j : g ≡ getD w (8 * k + 1) 0) (l : r ≡ getD w (8 * k + 3) 0)
-    (u : y ≡ width s g c) (v : m ≡ blockCount size y r) where
+      (u : y ≡ width s g c) (v : m ≡ blockCount size y r) where
     number : (a : Column) → Reads w k a → m ≡ blockCount size (width s (a .group .at) (a .channel)) (a .group .records)
     number a z = v ∙ rw (u, i, j, l, z .channel, z .group, z .records)
 
@@ -133,8 +133,8 @@ module _ (s : List ℕ) (size : ℕ) {w : List ℕ} {nc k : ℕ} (t : LeftIn (bl
     blocks-stop q =
         record {
           is = left-stop t h (refused 19 c) (λ a cs z.
-            let n = number a z in
-            rw (i, z .channel) (blocks-over s size a cs (rw n at q)));
+              let n = number a z in
+              rw (i, z .channel) (blocks-over s size a cs (rw n at q)));
         }
 
     pub blocks-next : m ≤ 4294967295 → LeftIn (blocksIn s size) w nc (k + 1)

@@ -38,7 +38,7 @@ pub master-begin : {s w : List ℕ} {n i g : ℕ} → Mastering s w n i g i
 master-begin = record { rest = refl }
 
 master-open : (s : List ℕ) (g c : ℕ) (cs : List ℕ) {b : Bool} → b ≡ both (isMasterType s c) (fits s g c)
-  → firstMaster s g (c ∷ cs) ≡ pick b (some c) (firstMaster s g cs)
+    → firstMaster s g (c ∷ cs) ≡ pick b (some c) (firstMaster s g cs)
 unfolding firstMaster
 master-open s g c cs e = rw e
 
@@ -124,7 +124,7 @@ module _ (s w : List ℕ) (n g records : ℕ) {link : ℕ} (l : link ≡ remoteL
 -- ---- the time of a group
 module _ (s w : List ℕ) (n i g d records : ℕ) (m : Master) (f : masterFrom m ≡ masterIn s w n i g) where
   pub time-own : {c : ℕ} → m ≡ Channel c
-    → time (groupOf d g (channelsIn w n i) records) c ≡ timeOf s (groupsIn w n) (groupOf d g (channelsIn w n i) records)
+      → time (groupOf d g (channelsIn w n i) records) c ≡ timeOf s (groupsIn w n) (groupOf d g (channelsIn w n i) records)
   unfolding timeOf
   time-own h = rw (master-group s w n i g d records, ← f, h)
 

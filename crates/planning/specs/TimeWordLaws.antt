@@ -48,10 +48,10 @@ module _ (w : List ℕ) (n k : ℕ) (c : Column) (cs : List Column) (h : Stand w
   pub stand-rest : Stand w (n + sizeOfSignal (c .signalOf)) (k + 1) cs
   unfolding columnsWords columnWords
   stand-rest = record {
-      at = λ j l.
+    at = λ j l.
         let e : 8 * (k + 1) + j ≡ 8 * k + (8 + j) = omega arith in
-        rw e (h .at (8 + j) (omega arith) ∙ getD-append-add (columnWords n c) (columnsWords (n + sizeOfSignal (c .signalOf)) cs) j 0)
-    }
+        rw e (h .at (8 + j) (omega arith) ∙ getD-append-add (columnWords n c) (columnsWords (n + sizeOfSignal (c .signalOf)) cs) j 0);
+  }
 
 time-bit : (b : Bool) → eqb (timeWord b) 1 ≡ b
 time-bit true = refl
@@ -61,8 +61,12 @@ pub time-words : (w : List ℕ) (g n k : ℕ) (cs : List Column) → Stand w n k
 unfolding timeIn timeColumn isTimeIn
 time-words w g n k [] h = refl
 time-words w g n k (c ∷ cs) h =
-    rw (stand-time w n k c cs h, stand-group w n k c cs h, time-bit (c .isTime),
-      time-words w g (n + sizeOfSignal (c .signalOf)) (k + 1) cs (stand-rest w n k c cs h))
+    rw (
+      stand-time w n k c cs h,
+      stand-group w n k c cs h,
+      time-bit (c .isTime),
+      time-words w g (n + sizeOfSignal (c .signalOf)) (k + 1) cs (stand-rest w n k c cs h),
+    )
     (go (both (c .isTime) (eqb (c .group .at) g)) (timeColumn g (k + 1) cs))
   where
     go : (t : Bool) (o : Option ℕ) → pick t (k + 1) (masterWord o) ≡ masterWord (pick t (some k) o)
@@ -76,11 +80,11 @@ length-laid n p w = rw (length-blit, length-blit)
 pub laid-stand : (n : ℕ) (p : Plan) (w : List ℕ) → length (p .columns) ≤ 512 → 4096 ≤ length w → Stand (laidPlan n p w) n 0 (p .columns)
 unfolding laidPlan
 laid-stand n p w h l = record {
-    at = λ j r.
+  at = λ j r.
       let e : length (columnsWords n (p .columns)) ≡ 8 * length (p .columns) = length-columns n (p .columns) in
       blit-before (omissionPairs (p .omissions)) 4096 (0 + j) (blit 0 (columnsWords n (p .columns)) w) (omega arith)
-      ∙ blit-among (columnsWords n (p .columns)) 0 j w (omega arith) (omega arith)
-  }
+      ∙ blit-among (columnsWords n (p .columns)) 0 j w (omega arith) (omega arith);
+}
 
 pub held-stand : {b : Base} {p : Plan} {nc no nf : ℕ} {w f : List ℕ} → Held b p nc no nf w f → 4096 ≤ length w → Stand w (b .found) 0 (p .columns)
 held-stand {b} {p} h l =
@@ -89,5 +93,5 @@ held-stand {b} {p} h l =
     rw (h .inColumns) (laid-stand (b .found) p (b .words) (omega arith) (rw (h .inColumns, length-laid (b .found) p (b .words)) at l))
 
 pub held-time : {b : Base} {p : Plan} {nc no nf : ℕ} {w f : List ℕ} → Held b p nc no nf w f → 4096 ≤ length w → (g : ℕ)
-  → timeIn w g 0 nc ≡ masterWord (timeColumn g 0 (p .columns))
+    → timeIn w g 0 nc ≡ masterWord (timeColumn g 0 (p .columns))
 held-time {b} {p} {nc} {w = w} h l g = let c = h .columns in rw (← c) (time-words w g (b .found) 0 (p .columns) (held-stand h l))

@@ -31,7 +31,7 @@ pub record TimePlan (c g d records nc no : ℕ) (w : List ℕ) (r : Settled) (w'
   pub few : r .columns ≤ nc + 1
   pub fewOmitted : r .omissions ≤ no
   pub is : (b : Base) (p : Plan) (nf : ℕ) (f : List ℕ) (t : SrcGroup) → Held b p nc no nf w f → t .at ≡ g → t .dataGroup .at ≡ d
-    → t .records ≡ records → (timeColumn g 0 (p .columns) ≡ none → nc < 512) → TimeHeld b p t c nf f r w'
+      → t .records ≡ records → (timeColumn g 0 (p .columns) ≡ none → nc < 512) → TimeHeld b p t c nf f r w'
 
 pub record Settling (s : List ℕ) (all : List SrcGroup) (g : SrcGroup) (b : Base) (p : Plan) (nf : ℕ) (f : List ℕ) (r : Settled) (w' : List ℕ) : Type 0 where
   pub plan : Plan
@@ -46,5 +46,5 @@ pub record SettlePlan (s src : List ℕ) (n i g d records nc no : ℕ) (w : List
   pub few : r .columns ≤ nc + 1
   pub fewOmitted : r .omissions ≤ no + 1
   pub is : (b : Base) (p : Plan) (nf : ℕ) (f : List ℕ) → Held b p nc no nf w f → In (groupOf d g (channelsIn src n i) records) (groupsIn src n)
-    → nc + waiting s (p .columns) (groupsIn src n) ≤ 512
-    → Settling s (groupsIn src n) (groupOf d g (channelsIn src n i) records) b p nf f r w'
+      → nc + waiting s (p .columns) (groupsIn src n) ≤ 512
+      → Settling s (groupsIn src n) (groupOf d g (channelsIn src n i) records) b p nf f r w'

@@ -24,7 +24,7 @@ put-two i a b w e f =
     rw (f, e, i1)
 
 pub put-four : (i a b c d : ℕ) (w : List ℕ) {w1 w2 w3 w4 : List ℕ} → w1 ≡ set w i a → w2 ≡ set w1 (i + 1) b → w3 ≡ set w2 (i + 2) c
-  → w4 ≡ set w3 (i + 3) d → w4 ≡ blit i (a ∷ b ∷ c ∷ d ∷ []) w
+    → w4 ≡ set w3 (i + 3) d → w4 ≡ blit i (a ∷ b ∷ c ∷ d ∷ []) w
 unfolding blit
 put-four i a b c d w e f g h =
     let i1 : i + 1 ≡ suc i = omega arith in
@@ -33,7 +33,7 @@ put-four i a b c d w e f g h =
     rw (h, g, f, e, i1, i2, i3)
 
 pub put-eight : (i a b c d e f g h : ℕ) (w : List ℕ) {w1 w2 : List ℕ} → w1 ≡ blit i (a ∷ b ∷ c ∷ d ∷ []) w
-  → w2 ≡ blit (i + 4) (e ∷ f ∷ g ∷ h ∷ []) w1 → w2 ≡ blit i (a ∷ b ∷ c ∷ d ∷ e ∷ f ∷ g ∷ h ∷ []) w
+    → w2 ≡ blit (i + 4) (e ∷ f ∷ g ∷ h ∷ []) w1 → w2 ≡ blit i (a ∷ b ∷ c ∷ d ∷ e ∷ f ∷ g ∷ h ∷ []) w
 put-eight i a b c d e f g h w p q = q ∙ rw p (sym (blit-append (a ∷ b ∷ c ∷ d ∷ []) i (e ∷ f ∷ g ∷ h ∷ []) w))
 
 -- ---- the time column

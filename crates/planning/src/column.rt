@@ -1,14 +1,24 @@
 // The channels of a group: a column or an omission for each but the group's own master.
-use crate::words::{word, put_column, put_omission};
-use crate::decide::{Decision, decide};
+use crate::decide::Decision;
+use crate::decide::decide;
+use crate::words::put_column;
+use crate::words::put_omission;
+use crate::words::word;
 ghost use mathlib.Core.Path.{_≡_};
 ghost use Prim.Native.Nat.{_≤_};
 ghost use Rattle.planning.specs.Planning.{signalIf, ChannelPlan, ChannelsPlan};
 
 // A refusal, or the numbers of columns, omissions and fragments so far.
 pub enum Progress {
-    Refused { number: u64, place: u64 },
-    Done { columns: u64, omissions: u64, fragments: u64 },
+    Refused {
+        number: u64,
+        place: u64,
+    },
+    Done {
+        columns: u64,
+        omissions: u64,
+        fragments: u64,
+    },
 }
 
 // The seventh word of a column: n fragments are kept before its own.
@@ -23,7 +33,19 @@ fn signal_word(signal: bool, n: u64) -> u64
 }
 
 // The CN at c of the group at g: of the DG at d, with so many records, and the column of its master, 0 for none.
-pub(crate) fn plan_channel(image: &[u8], fragments: &mut [u64], columns: &mut [u64], g: u64, d: u64, records: u64, master: u64, c: u64, nc: u64, no: u64, nf: u64) -> Progress
+pub(crate) fn plan_channel(
+    image: &[u8],
+    fragments: &mut [u64],
+    columns: &mut [u64],
+    g: u64,
+    d: u64,
+    records: u64,
+    master: u64,
+    c: u64,
+    nc: u64,
+    no: u64,
+    nf: u64,
+) -> Progress
     requires { ⌜ (nc ≤ 4194304) × (no ≤ 4194304) × (nf ≤ 1024) ⌝ }
     ensures { λ r. ⌜ ChannelPlan (now (image .entry)) g d records master c nc no nf (now (columns .entry)) (now (fragments .entry))
         r (now (columns .exit)) (now (fragments .exit)) ⌝ }
@@ -33,18 +55,41 @@ pub(crate) fn plan_channel(image: &[u8], fragments: &mut [u64], columns: &mut [u
         Decision::Refused { number, place } => Progress::Refused { number, place },
         Decision::Omitted { reason } => {
             put_omission(columns, no, c, reason);
-            Progress::Done { columns: nc, omissions: no + 1, fragments: nf }
+            Progress::Done {
+                columns: nc,
+                omissions: no + 1,
+                fragments: nf,
+            }
         }
         Decision::Kept { signal, count } => {
             let word = signal_word(signal, nf);
             put_column(columns, nc, c, g, d, records, 0, master, word, count - nf);
-            Progress::Done { columns: nc + 1, omissions: no, fragments: count }
+            Progress::Done {
+                columns: nc + 1,
+                omissions: no,
+                fragments: count,
+            }
         }
     }
 }
 
 // The CN from item i on but own, with the same for each.
-pub(crate) fn plan_channels(image: &[u8], source: &[u64], fragments: &mut [u64], columns: &mut [u64], n: u64, i: u64, g: u64, d: u64, records: u64, own: u64, master: u64, nc: u64, no: u64, nf: u64) -> Progress
+pub(crate) fn plan_channels(
+    image: &[u8],
+    source: &[u64],
+    fragments: &mut [u64],
+    columns: &mut [u64],
+    n: u64,
+    i: u64,
+    g: u64,
+    d: u64,
+    records: u64,
+    own: u64,
+    master: u64,
+    nc: u64,
+    no: u64,
+    nf: u64,
+) -> Progress
     requires { ⌜ (n ≤ 1536) × (i ≤ n) × (nc ≤ 4190208) × (no ≤ 4190208) × (nf ≤ 1024) ⌝ }
     ensures { λ r. ⌜ ChannelsPlan (now (image .entry)) (now (source .entry)) n i g d records own master nc no nf (now (columns .entry)) (now (fragments .entry))
         r (now (columns .exit)) (now (fragments .exit)) ⌝ }
@@ -55,17 +100,37 @@ pub(crate) fn plan_channels(image: &[u8], source: &[u64], fragments: &mut [u64],
     let mut fragments_now = nf;
     while k < n {
         if word(source, 1536 + k) != 0 {
-            return Progress::Done { columns: columns_now, omissions: omissions_now, fragments: fragments_now };
+            return Progress::Done {
+                columns: columns_now,
+                omissions: omissions_now,
+                fragments: fragments_now,
+            };
         }
         let c = word(source, k);
         k += 1;
         if c != own {
-            let planned = plan_channel(image, fragments, columns, g, d, records, master, c, columns_now, omissions_now, fragments_now);
+            let planned = plan_channel(
+                image,
+                fragments,
+                columns,
+                g,
+                d,
+                records,
+                master,
+                c,
+                columns_now,
+                omissions_now,
+                fragments_now,
+            );
             match planned {
                 Progress::Refused { number, place } => {
                     return Progress::Refused { number, place };
                 }
-                Progress::Done { columns: more, omissions: others, fragments: found } => {
+                Progress::Done {
+                    columns: more,
+                    omissions: others,
+                    fragments: found,
+                } => {
                     columns_now = more;
                     omissions_now = others;
                     fragments_now = found;
@@ -73,5 +138,9 @@ pub(crate) fn plan_channels(image: &[u8], source: &[u64], fragments: &mut [u64],
             }
         }
     }
-    Progress::Done { columns: columns_now, omissions: omissions_now, fragments: fragments_now }
+    Progress::Done {
+        columns: columns_now,
+        omissions: omissions_now,
+        fragments: fragments_now,
+    }
 }

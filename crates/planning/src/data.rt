@@ -1,10 +1,13 @@
 // The data of each DG: its records where a column of it has bytes, and the signal data of its columns.
+use crate::span::end_of;
+use crate::span::first_group;
+use crate::span::least;
+use crate::span::own_groups;
+use crate::stage::any_nonempty;
+use crate::words::word;
 use fields::Check;
 use records::fragment::ranges_in;
 use records::sorted::sorted_in;
-use crate::words::word;
-use crate::span::{least, own_groups, first_group, end_of};
-use crate::stage::any_nonempty;
 ghost use mathlib.Core.Path.{_≡_};
 ghost use Prim.Native.Nat.{_*_, _-_, _≤_};
 ghost use lib.ListN.{length};
@@ -77,7 +80,16 @@ fn sorted_of(image: &[u8], fragments: &[u64], d: u64, g: u64, i: u64, end: u64) 
 }
 
 // The records of the DG at d, its fragments from number m on, its items from number i on.
-fn records_of(image: &[u8], source: &[u64], fragments: &[u64], n: u64, nf: u64, i: u64, d: u64, m: u64) -> Check
+fn records_of(
+    image: &[u8],
+    source: &[u64],
+    fragments: &[u64],
+    n: u64,
+    nf: u64,
+    i: u64,
+    d: u64,
+    m: u64,
+) -> Check
     requires { ⌜ (n ≤ 1536) × (nf ≤ 1024) × (3072 ≤ length (now fragments)) ⌝ }
     ensures { λ r. ⌜ verdictOf r ≡ recordsOver (now (image .entry)) (now (fragments .entry)) nf d m (itemsFrom (now (source .entry)) i (n - i)) ⌝ }
 {
@@ -91,7 +103,18 @@ fn records_of(image: &[u8], source: &[u64], fragments: &[u64], n: u64, nf: u64, 
 }
 
 // The records, then the signal data; there are nc columns.
-fn data_in(image: &[u8], source: &[u64], fragments: &[u64], columns: &[u64], n: u64, nf: u64, nc: u64, i: u64, d: u64, m: u64) -> Check
+fn data_in(
+    image: &[u8],
+    source: &[u64],
+    fragments: &[u64],
+    columns: &[u64],
+    n: u64,
+    nf: u64,
+    nc: u64,
+    i: u64,
+    d: u64,
+    m: u64,
+) -> Check
     requires { ⌜ (n ≤ 1536) × (nf ≤ 1024) × (nc ≤ 4194304) × (3072 ≤ length (now fragments)) ⌝ }
     ensures { λ r. ⌜ verdictOf r
         ≡ dataOver (now (image .entry)) (now (columns .entry)) (now (fragments .entry)) nf nc d m (itemsFrom (now (source .entry)) i (n - i)) ⌝ }
@@ -107,7 +130,15 @@ fn data_in(image: &[u8], source: &[u64], fragments: &[u64], columns: &[u64], n: 
 }
 
 // All DG of n items.
-pub(crate) fn all_data_in(image: &[u8], source: &[u64], fragments: &[u64], columns: &[u64], n: u64, nf: u64, nc: u64) -> Check
+pub(crate) fn all_data_in(
+    image: &[u8],
+    source: &[u64],
+    fragments: &[u64],
+    columns: &[u64],
+    n: u64,
+    nf: u64,
+    nc: u64,
+) -> Check
     requires { ⌜ (n ≤ 1536) × (nf ≤ 1024) × (nc ≤ 4194304) × (3072 ≤ length (now fragments)) ⌝ }
     ensures { λ r. ⌜ verdictOf r
         ≡ allDataOver (now (image .entry)) (now (columns .entry)) (now (fragments .entry)) nf nc (itemsFrom (now (source .entry)) 0 n) ⌝ }

@@ -1,8 +1,15 @@
 // What a channel other than its group's master becomes.
+use blocks::block::CG;
+use blocks::block::CN;
+use blocks::block::header_in;
+use blocks::block::kind_at;
+use blocks::block::link_at;
+use chains::chain::Chained;
+use chains::chain::chain;
+use channels::channel_type;
+use channels::fits_in;
+use channels::is_master_type;
 use fields::Check;
-use blocks::block::{CG, CN, link_at, kind_at, header_in};
-use chains::chain::{Chained, chain};
-use channels::{channel_type, fits_in, is_master_type};
 ghost use mathlib.Core.Path.{_≡_};
 ghost use Rattle.mdf.specs.Chain.{Chain.signal, limits, chain};
 ghost use Rattle.plan.specs.Columns.{keptSignal, decideSignal, decideComposition, decide};
@@ -24,8 +31,15 @@ fn signal_at(image: &[u8], fragments: &mut [u64], n: u64, a: u64) -> Decision
 {
     let walked = chain(true, image, fragments, n, a);
     match walked {
-        Chained::Stopped { number, place, count } => Decision::Refused { number, place },
-        Chained::Done { count } => Decision::Kept { signal: true, count },
+        Chained::Stopped {
+            number,
+            place,
+            count,
+        } => Decision::Refused { number, place },
+        Chained::Done { count } => Decision::Kept {
+            signal: true,
+            count,
+        },
     }
 }
 
@@ -34,11 +48,17 @@ fn decide_signal(image: &[u8], fragments: &mut [u64], n: u64, c: u64) -> Decisio
     ensures { λ r. ⌜ left r (now (fragments .exit)) ≡ laidDecision (decideSignal (now (image .entry)) n c) n (now (fragments .entry)) ⌝ }
 {
     if channel_type(image, c) != 1 {
-        return Decision::Kept { signal: false, count: n };
+        return Decision::Kept {
+            signal: false,
+            count: n,
+        };
     }
     let a = link_at(image, c, 5);
     if a == 0 {
-        return Decision::Kept { signal: false, count: n };
+        return Decision::Kept {
+            signal: false,
+            count: n,
+        };
     }
     let header = header_in(image, a);
     if let Check::Refused { number, place } = header {

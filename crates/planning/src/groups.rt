@@ -25,7 +25,11 @@ pub(crate) fn find_group(source: &[u64], n: u64, a: u64) -> Sought
         i += 1;
         if mark == 1 {
             if at == a {
-                return Sought::Group { item: i, records: word(source, 3584 + g), dg: d };
+                return Sought::Group {
+                    item: i,
+                    records: word(source, 3584 + g),
+                    dg: d,
+                };
             }
             g += 1;
         } else if mark != 0 {

@@ -1,8 +1,13 @@
 // A group's master, its own or its remote group's.
-use blocks::block::{links_at, link_at};
-use channels::{group_flags, is_storage, is_master_type, fits_in};
+use crate::groups::Sought;
+use crate::groups::find_group;
 use crate::words::word;
-use crate::groups::{Sought, find_group};
+use blocks::block::link_at;
+use blocks::block::links_at;
+use channels::fits_in;
+use channels::group_flags;
+use channels::is_master_type;
+use channels::is_storage;
 ghost use mathlib.Core.Path.{_≡_};
 ghost use Prim.Native.Nat.{_≤_};
 ghost use Rattle.plan.specs.Channel.{both, isMasterType, fits};
@@ -19,7 +24,12 @@ pub enum Master {
 pub enum Time {
     Untimed,
     Differs,
-    At { channel: u64, group: u64, dg: u64, records: u64 },
+    At {
+        channel: u64,
+        group: u64,
+        dg: u64,
+        records: u64,
+    },
 }
 
 // The CN at c is of type 2 or 3 and fits the group at g.
@@ -84,13 +94,22 @@ pub(crate) fn remote_time(image: &[u8], source: &[u64], n: u64, g: u64, records:
     let sought = find_group(source, n, link);
     match sought {
         Sought::Nothing => Time::Untimed,
-        Sought::Group { item, records: there, dg } => {
+        Sought::Group {
+            item,
+            records: there,
+            dg,
+        } => {
             let master = master_of(image, source, n, item, link);
             match master {
                 Master::Without => Time::Untimed,
                 Master::Channel(c) => {
                     if there == records {
-                        return Time::At { channel: c, group: link, dg, records: there };
+                        return Time::At {
+                            channel: c,
+                            group: link,
+                            dg,
+                            records: there,
+                        };
                     }
                     Time::Differs
                 }
@@ -100,14 +119,27 @@ pub(crate) fn remote_time(image: &[u8], source: &[u64], n: u64, g: u64, records:
 }
 
 // The time of the group with its CG at g, its channels from item i on, of the DG at d.
-pub(crate) fn time_of(image: &[u8], source: &[u64], n: u64, i: u64, g: u64, d: u64, records: u64) -> Time
+pub(crate) fn time_of(
+    image: &[u8],
+    source: &[u64],
+    n: u64,
+    i: u64,
+    g: u64,
+    d: u64,
+    records: u64,
+) -> Time
     requires { ⌜ n ≤ 1536 ⌝ }
     ensures { λ r. ⌜ r ≡ timeWords (timeOf (now (image .entry)) (groupsIn (now (source .entry)) n)
         (groupOf d g (channelsIn (now (source .entry)) n i) records)) ⌝ }
 {
     let master = master_of(image, source, n, i, g);
     match master {
-        Master::Channel(c) => Time::At { channel: c, group: g, dg: d, records },
+        Master::Channel(c) => Time::At {
+            channel: c,
+            group: g,
+            dg: d,
+            records,
+        },
         Master::Without => remote_time(image, source, n, g, records),
     }
 }

@@ -1,31 +1,73 @@
 // The groups in the order of the walk.
-use channels::is_storage;
+use crate::column::Progress;
+use crate::column::plan_channels;
+use crate::timing::Settled;
+use crate::timing::own_of;
+use crate::timing::settle;
 use crate::words::word;
-use crate::timing::{Settled, own_of, settle};
-use crate::column::{Progress, plan_channels};
+use channels::is_storage;
 ghost use Prim.Native.Nat.{_≤_};
 ghost use lib.ListN.{length};
 ghost use Rattle.planning.specs.Planned.{GroupPlan, GroupsPlan};
 
 // The group with its CG at g, its channels from item i on, of the DG at d, with so many records.
-pub(crate) fn plan_group(image: &[u8], source: &[u64], fragments: &mut [u64], columns: &mut [u64], n: u64, i: u64, g: u64, d: u64, records: u64, nc: u64, no: u64, nf: u64) -> Progress
+pub(crate) fn plan_group(
+    image: &[u8],
+    source: &[u64],
+    fragments: &mut [u64],
+    columns: &mut [u64],
+    n: u64,
+    i: u64,
+    g: u64,
+    d: u64,
+    records: u64,
+    nc: u64,
+    no: u64,
+    nf: u64,
+) -> Progress
     requires { ⌜ (n ≤ 1536) × (i ≤ n) × (nc ≤ 4190000) × (no ≤ 4190000) × (nf ≤ 1024) × (4096 ≤ length (now columns)) ⌝ }
     ensures { λ r. ⌜ GroupPlan (now (image .entry)) (now (source .entry)) n i g d records nc no nf (now (columns .entry)) (now (fragments .entry))
         r (now (columns .exit)) (now (fragments .exit)) ⌝ }
 {
     if is_storage(image, g) {
-        return Progress::Done { columns: nc, omissions: no, fragments: nf };
+        return Progress::Done {
+            columns: nc,
+            omissions: no,
+            fragments: nf,
+        };
     }
     let own = own_of(image, source, n, i, g);
     let settled = settle(image, source, columns, n, i, g, d, records, nc, no);
     let master = settled.master;
     let more = settled.columns;
     let others = settled.omissions;
-    plan_channels(image, source, fragments, columns, n, i, g, d, records, own, master, more, others, nf)
+    plan_channels(
+        image,
+        source,
+        fragments,
+        columns,
+        n,
+        i,
+        g,
+        d,
+        records,
+        own,
+        master,
+        more,
+        others,
+        nf,
+    )
 }
 
 // All groups of n items.
-pub(crate) fn plan_groups(image: &[u8], source: &[u64], fragments: &mut [u64], columns: &mut [u64], n: u64, nf: u64) -> Progress
+pub(crate) fn plan_groups(
+    image: &[u8],
+    source: &[u64],
+    fragments: &mut [u64],
+    columns: &mut [u64],
+    n: u64,
+    nf: u64,
+) -> Progress
     requires { ⌜ (n ≤ 1536) × (nf ≤ 1024) × (4096 ≤ length (now columns)) ⌝ }
     ensures { λ r. ⌜ GroupsPlan (now (image .entry)) (now (source .entry)) n nf (now (columns .entry)) (now (fragments .entry))
         r (now (columns .exit)) (now (fragments .exit)) ⌝ }
@@ -43,12 +85,29 @@ pub(crate) fn plan_groups(image: &[u8], source: &[u64], fragments: &mut [u64], c
         if mark == 1 {
             let records = word(source, 3584 + g);
             g += 1;
-            let planned = plan_group(image, source, fragments, columns, n, i, at, d, records, columns_now, omissions_now, fragments_now);
+            let planned = plan_group(
+                image,
+                source,
+                fragments,
+                columns,
+                n,
+                i,
+                at,
+                d,
+                records,
+                columns_now,
+                omissions_now,
+                fragments_now,
+            );
             match planned {
                 Progress::Refused { number, place } => {
                     return Progress::Refused { number, place };
                 }
-                Progress::Done { columns: more, omissions: others, fragments: found } => {
+                Progress::Done {
+                    columns: more,
+                    omissions: others,
+                    fragments: found,
+                } => {
                     columns_now = more;
                     omissions_now = others;
                     fragments_now = found;
@@ -58,5 +117,9 @@ pub(crate) fn plan_groups(image: &[u8], source: &[u64], fragments: &mut [u64], c
             d = at;
         }
     }
-    Progress::Done { columns: columns_now, omissions: omissions_now, fragments: fragments_now }
+    Progress::Done {
+        columns: columns_now,
+        omissions: omissions_now,
+        fragments: fragments_now,
+    }
 }

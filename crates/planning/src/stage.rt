@@ -1,7 +1,8 @@
 // The data stage over planned columns.
-use fields::Check;
-use channels::{width_of, block_count};
 use crate::words::word;
+use channels::block_count;
+use channels::width_of;
+use fields::Check;
 ghost use mathlib.Core.Path.{_≡_};
 ghost use Prim.Native.Nat.{_≤_};
 ghost use Rattle.planning.specs.Stage.{nonemptyIn, BlocksStage};
@@ -50,7 +51,10 @@ pub(crate) fn blocks_in(image: &[u8], columns: &[u64], n: u64, size: u64) -> Che
         let records = word(columns, 8 * k + 3);
         let width = width_of(image, g, c);
         if 4294967295 < block_count(size, width, records) {
-            return Check::Refused { number: 19, place: c };
+            return Check::Refused {
+                number: 19,
+                place: c,
+            };
         }
         k += 1;
     }

@@ -1,6 +1,11 @@
 // The time column of a group, planned where first needed.
-use crate::words::{time_column, put_column, put_omission};
-use crate::masters::{Master, Time, master_of, time_of};
+use crate::masters::Master;
+use crate::masters::Time;
+use crate::masters::master_of;
+use crate::masters::time_of;
+use crate::words::put_column;
+use crate::words::put_omission;
+use crate::words::time_column;
 ghost use mathlib.Core.Path.{_≡_};
 ghost use Prim.Native.Nat.{_≤_};
 ghost use lib.ListN.{length};
@@ -28,30 +33,70 @@ pub(crate) fn own_of(image: &[u8], source: &[u64], n: u64, i: u64, g: u64) -> u6
 }
 
 // The time column of the group at g, with its master at c, of the DG at d, with so many records.
-pub(crate) fn add_time(columns: &mut [u64], nc: u64, no: u64, c: u64, g: u64, d: u64, records: u64) -> Settled
+pub(crate) fn add_time(
+    columns: &mut [u64],
+    nc: u64,
+    no: u64,
+    c: u64,
+    g: u64,
+    d: u64,
+    records: u64,
+) -> Settled
     requires { ⌜ (nc ≤ 4194304) × (no ≤ 4194304) × (4096 ≤ length (now columns)) ⌝ }
     ensures { λ r. ⌜ TimePlan c g d records nc no (now (columns .entry)) r (now (columns .exit)) ⌝ }
 {
     let k = time_column(columns, nc, g);
     if k != 0 {
-        return Settled { master: k, columns: nc, omissions: no };
+        return Settled {
+            master: k,
+            columns: nc,
+            omissions: no,
+        };
     }
     put_column(columns, nc, c, g, d, records, 1, 0, 0, 0);
-    Settled { master: nc + 1, columns: nc + 1, omissions: no }
+    Settled {
+        master: nc + 1,
+        columns: nc + 1,
+        omissions: no,
+    }
 }
 
 // What the group with its CG at g, its channels from item i on, of the DG at d, has for its time.
-pub(crate) fn settle(image: &[u8], source: &[u64], columns: &mut [u64], n: u64, i: u64, g: u64, d: u64, records: u64, nc: u64, no: u64) -> Settled
+pub(crate) fn settle(
+    image: &[u8],
+    source: &[u64],
+    columns: &mut [u64],
+    n: u64,
+    i: u64,
+    g: u64,
+    d: u64,
+    records: u64,
+    nc: u64,
+    no: u64,
+) -> Settled
     requires { ⌜ (n ≤ 1536) × (nc ≤ 4194304) × (no ≤ 4194303) × (4096 ≤ length (now columns)) ⌝ }
     ensures { λ r. ⌜ SettlePlan (now (image .entry)) (now (source .entry)) n i g d records nc no (now (columns .entry)) r (now (columns .exit)) ⌝ }
 {
     let time = time_of(image, source, n, i, g, d, records);
     match time {
-        Time::Untimed => Settled { master: 0, columns: nc, omissions: no },
+        Time::Untimed => Settled {
+            master: 0,
+            columns: nc,
+            omissions: no,
+        },
         Time::Differs => {
             put_omission(columns, no, g, 1);
-            Settled { master: 0, columns: nc, omissions: no + 1 }
+            Settled {
+                master: 0,
+                columns: nc,
+                omissions: no + 1,
+            }
         }
-        Time::At { channel, group, dg, records: there } => add_time(columns, nc, no, channel, group, dg, there),
+        Time::At {
+            channel,
+            group,
+            dg,
+            records: there,
+        } => add_time(columns, nc, no, channel, group, dg, there),
     }
 }

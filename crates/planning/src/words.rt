@@ -39,7 +39,18 @@ fn put_source(w: &mut [u64], i: u64, channel: u64, group: u64, dg: u64, records:
 }
 
 // Column k.
-pub(crate) fn put_column(w: &mut [u64], k: u64, channel: u64, group: u64, dg: u64, records: u64, time: u64, master: u64, signal: u64, count: u64)
+pub(crate) fn put_column(
+    w: &mut [u64],
+    k: u64,
+    channel: u64,
+    group: u64,
+    dg: u64,
+    records: u64,
+    time: u64,
+    master: u64,
+    signal: u64,
+    count: u64,
+)
     requires { ⌜ k < 16777216 ⌝ }
     ensures { λ _. ⌜ now (w .exit)
         ≡ blit (8 * k) (channel ∷ group ∷ dg ∷ records ∷ time ∷ master ∷ signal ∷ count ∷ []) (now (w .entry)) ⌝ }

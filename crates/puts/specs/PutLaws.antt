@@ -80,7 +80,7 @@ copy-clip at from n have k s d e f =
     let all : take (length s - from) (drop from s) ≡ drop from s = take-all (length s - from) (drop from s) (simp length-drop (le-refl _)) in
     let there : take have (drop from s) ≡ take n (drop from s) = rw e (take-min n (length s - from) (drop from s) ∙ ap (take n) all) in
     let clipped : take k (drop from s) ≡ take (length d - at) (take n (drop from s)) =
-        rw (f, min-comm have (length d - at)) (take-min (length d - at) have (drop from s) ∙ ap (take (length d - at)) there) in
+    rw (f, min-comm have (length d - at)) (take-min (length d - at) have (drop from s) ∙ ap (take (length d - at)) there) in
     rw clipped (blit-take (length d - at) (take n (drop from s)) at d (omega arith))
 
 -- ---- zeros

@@ -45,4 +45,4 @@ pub record Counted (s w f : List ℕ) (n nf : ℕ) (c : List ℕ) (r : Check) (c
 -- the same of the words of the source, where the counts stand past the groups
 pub record CountedIn (s w f : List ℕ) (n groups nf : ℕ) (r : Check) (w' : List ℕ) : Type 0 where
   pub of : (h : Holding w f n nf) → groups ≡ tally (levelCG .own) (h .st .items)
-    → after r w' ≡ andThen (counts s (dataGroups (h .st))) (λ ns. ok (blit countsAt ns w))
+      → after r w' ≡ andThen (counts s (dataGroups (h .st))) (λ ns. ok (blit countsAt ns w))

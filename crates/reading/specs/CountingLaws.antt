@@ -35,7 +35,7 @@ use Rattle.reading.specs.Counting.{endAt, Ready, countedDG, countedAll, 
 
 -- ---- the counts of a DG, laid in a lent part of the words
 lent : (v : Checked (List ℕ)) (k g : ℕ) (c : List ℕ) (r : Check) (ys : List ℕ) → laid (verdictOf r) ys ≡ laidCounts v k (midOf g (length c - g) c)
-  → after r (putMid g (length c - g) c ys) ≡ andThen v (λ ns. ok (blit g ns c))
+    → after r (putMid g (length c - g) c ys) ≡ andThen v (λ ns. ok (blit g ns c))
 lent (ok ns) k g c Fine ys e =
     let m : ys ≡ blit 0 ns (midOf g (length c - g) c) = cc in
     ap (λ (l : List ℕ). ok (putMid g (length c - g) c l)) m ∙ rw (blit-lent g 0 ns c, add-zero)
@@ -44,9 +44,9 @@ lent (refused y p) k g c Fine ys e = absurd (let z : _≡_ {A = ℕ} 0 1 = cc in
 lent (refused y p) k g c (Refused z q) ys e = cc
 
 pub count-lent : (s w f : List ℕ) (i g groups end : ℕ) (c : List ℕ) (k : ℕ) (r : Check) (ys : List ℕ)
-  → laid (verdictOf r) ys ≡ laidCounts (countGroups s (getD w i 0) (midOf (groupsAt + g) (groupsAt + g + groups - (groupsAt + g)) w)
-      (fragmentsOf (midOf (3 * (getD w (marksAt + i) 0 - 2)) (3 * end - 3 * (getD w (marksAt + i) 0 - 2)) f))) k (midOf g (length c - g) c)
-  → after r (putMid g (length c - g) c ys) ≡ countedDG s w f i g groups end c
+    → laid (verdictOf r) ys ≡ laidCounts (countGroups s (getD w i 0) (midOf (groupsAt + g) (groupsAt + g + groups - (groupsAt + g)) w)
+    (fragmentsOf (midOf (3 * (getD w (marksAt + i) 0 - 2)) (3 * end - 3 * (getD w (marksAt + i) 0 - 2)) f))) k (midOf g (length c - g) c)
+    → after r (putMid g (length c - g) c ys) ≡ countedDG s w f i g groups end c
 unfolding countedDG part
 count-lent s w f i g groups end c k r ys e =
     let m = getD w (marksAt + i) 0 - 2 in
@@ -110,19 +110,23 @@ pub record Counting (s w f : List ℕ) (n nf : ℕ) (c₀ : List ℕ) (i g : ℕ
 
 pub count-begin : (s w f : List ℕ) (n nf : ℕ) (c : List ℕ) → Counting s w f n nf c 0 0 c
 unfolding counts dataGroups blit tally
-count-begin s w f n nf c = record { length-same = refl; at = λ h. record {
-  before = [];
-  rest = h .st .items;
-  done = [];
-  least = 0;
-  split = refl;
-  passed = refl;
-  groups = refl;
-  starts = h .sound .begins;
-  rising = h .sound .rising;
-  counted = refl;
-  words = refl;
-  same = refl } }
+count-begin s w f n nf c = record {
+  length-same = refl;
+  at = λ h. record {
+    before = [];
+    rest = h .st .items;
+    done = [];
+    least = 0;
+    split = refl;
+    passed = refl;
+    groups = refl;
+    starts = h .sound .begins;
+    rising = h .sound .rising;
+    counted = refl;
+    words = refl;
+    same = refl;
+  };
+}
 
 -- the end: every item was passed
 no-more : {is : List Item} → Starts is → length is ≡ 0 → is ≡ []
@@ -157,19 +161,30 @@ facing : {s w f : List ℕ} {n nf : ℕ} {h : Holding w f n nf} {c₀ : List ℕ
 facing {s} {n = n} {h = h} {i = i} {g = g} a l = go (a .rest) (a .starts) (a .rising) (a .split) (a .same)
   where
     go : (is : List Item) → Starts is → {lo : ℕ} → Rising lo is (length (h .st .fragments)) → h .st .items ≡ a .before ++ is
-      → countsFrom s (dataGroupsOf (h .st .fragments) is) (a .done) ≡ counts s (dataGroups (h .st)) → Facing s h i g (a .done)
+        → countsFrom s (dataGroupsOf (h .st .fragments) is) (a .done) ≡ counts s (dataGroups (h .st)) → Facing s h i g (a .done)
     go [] empty r e m =
         let b = h .blocks in
         let p = a .passed in
         absurd (omega (arith, ap length e, length-append (a .before) []))
     go (dg x k ∷ is) first-dg (next-dg u r) e m = record {
-      before = a .before; own-items = is; address = x; number = k; split = e; passed = a .passed; groups = a .groups; rising = r; same = m }
+      before = a .before;
+      own-items = is;
+      address = x;
+      number = k;
+      split = e;
+      passed = a .passed;
+      groups = a .groups;
+      rising = r;
+      same = m;
+    }
 
 module _ {s w f : List ℕ} {n nf : ℕ} {h : Holding w f n nf} {i g : ℕ} {done : List ℕ} (t : Facing s h i g done) where
   abbrev pre : List Item
   pre = t .before
+
   abbrev mine : List Item
   mine = t .own-items
+
   abbrev this : Item
   this = dg (t .address) (t .number)
 
@@ -213,7 +228,7 @@ module _ {s w f : List ℕ} {n nf : ℕ} {h : Holding w f n nf} {i g : ℕ} {don
   unfolding markWords
   mark-after x k is e =
       let b = stands-back (markWords (own mine)) (markWords (dg x k ∷ is))
-            (stands-as mine-stand (ap markWords (mine-split (dg x k ∷ is) e) ∙ mark-append (own mine) (dg x k ∷ is))) in
+      (stands-as mine-stand (ap markWords (mine-split (dg x k ∷ is) e) ∙ mark-append (own mine) (dg x k ∷ is))) in
       stands-head (2 + k) (markWords is) (stands-at b (omega (arith, length-marks (own mine))))
 
   -- the next DG's mark says where this one's fragments end
@@ -237,14 +252,19 @@ module _ {s w f : List ℕ} {n nf : ℕ} {h : Holding w f n nf} {i g : ℕ} {don
   own-room =
       let c = h .sound .cgs in
       let p = t .groups in
-      omega (arith, ap (tally (levelCG .own)) (t .split), tally-append (levelCG .own) pre (this ∷ mine),
-        ap (tally (levelCG .own)) (own-later mine), tally-append (levelCG .own) (own mine) (later mine))
+      omega (
+        arith,
+        ap (tally (levelCG .own)) (t .split),
+        tally-append (levelCG .own) pre (this ∷ mine),
+        ap (tally (levelCG .own)) (own-later mine),
+        tally-append (levelCG .own) (own mine) (later mine),
+      )
 
   groups-stand : part (groupsAt + g) (tally (levelCG .own) (own mine)) w ≡ addresses (groupsOf mine)
   unfolding groupWords
   groups-stand =
       let e = ap groupWords (t .split) ∙ group-append pre (this ∷ mine)
-            ∙ ap (λ (l : List ℕ). groupWords pre ++ l) (ap groupWords (own-later mine) ∙ group-append (own mine) (later mine)) in
+      ∙ ap (λ (l : List ℕ). groupWords pre ++ l) (ap groupWords (own-later mine) ∙ group-append (own mine) (later mine)) in
       let a = stands-back (groupWords pre) (groupWords (own mine) ++ groupWords (later mine)) (stands-as (h .groups) e) in
       let b = stands-front (groupWords (own mine)) (groupWords (later mine)) a in
       let c = stands-at b (ap (λ (k : ℕ). groupsAt + k) (length-groups pre ∙ sym (t .groups))) in
@@ -257,8 +277,8 @@ fragments-stand {f} fs k m s l =
     ap (λ (j : ℕ). fragmentsOf (part j (3 * m) f)) (sym (zero-add _)) ∙ ap fragmentsOf (e ∙ part-fragments k m fs) ∙ words-back (part k m fs)
 
 counted-as : (s w f : List ℕ) (i g groups end : ℕ) (c : List ℕ) {a k : ℕ} {gs : List ℕ} {fs : List Fragment} → getD w i 0 ≡ a → getD w (marksAt + i) 0 - 2 ≡ k
-  → part (groupsAt + g) groups w ≡ gs → fragmentsOf (part (3 * k) (3 * (end - k)) f) ≡ fs
-  → countedDG s w f i g groups end c ≡ andThen (countGroups s a gs fs) (λ ns. ok (blit g ns c))
+    → part (groupsAt + g) groups w ≡ gs → fragmentsOf (part (3 * k) (3 * (end - k)) f) ≡ fs
+    → countedDG s w f i g groups end c ≡ andThen (countGroups s a gs fs) (λ ns. ok (blit g ns c))
 unfolding countedDG
 counted-as s w f i g groups end c p q r e = rw (p, q, r, e)
 
@@ -278,7 +298,7 @@ record Turn (s : List ℕ) {w f : List ℕ} {n nf : ℕ} (h : Holding w f n nf) 
   end-at : end ≡ upTo (length (h .st .fragments)) (is .own-items)
 
 turn : {s w f : List ℕ} {n nf : ℕ} {h : Holding w f n nf} {c₀ : List ℕ} {i g : ℕ} {c : List ℕ} → At s h c₀ i g c → i < n
-  → {r : Span} → r ≡ spanAt w (i + 1) n → {end : ℕ} → end ≡ endAt w (r .next) n nf → Turn s h c₀ i g c (r .next) (r .groups) end
+    → {r : Span} → r ≡ spanAt w (i + 1) n → {end : ℕ} → end ≡ endAt w (r .next) n nf → Turn s h c₀ i g c (r .next) (r .groups) end
 turn {w = w} {n = n} {nf = nf} a l e k =
     let t = facing a l in
     let p = ap Span.next e ∙ next-is t in
@@ -287,8 +307,10 @@ turn {w = w} {n = n} {nf = nf} a l e k =
 module _ {s w f : List ℕ} {n nf : ℕ} {h : Holding w f n nf} {c₀ : List ℕ} {i g : ℕ} {c : List ℕ} {next groups end : ℕ} (t : Turn s h c₀ i g c next groups end) where
   abbrev items : List Item
   items = t .is .own-items
+
   abbrev pieces : List Fragment
   pieces = h .st .fragments
+
   abbrev first : ℕ
   first = t .is .number
 
@@ -312,7 +334,7 @@ module _ {s w f : List ℕ} {n nf : ℕ} {h : Holding w f n nf} {c₀ : List ℕ
         is-dg = omega arith;
         rises = omega arith;
         groups-room = omega (arith, t .groups-in, own-room (t .is));
-        counts-room = l
+        counts-room = l;
       }
 
   turn-next : (i < next) × (next ≤ n)
@@ -343,7 +365,7 @@ module _ {s w f : List ℕ} {n nf : ℕ} {h : Holding w f n nf} {c₀ : List ℕ
         ∙ ap (λ (k : Checked (List ℕ)). andThen k (λ ns. ok (blit 0 ns c₀))) (sym counts-is)
       where
         go : (k : Checked (List ℕ)) (m : List ℕ → Checked (List ℕ)) → _≡_ {A = Checked (List ℕ)} (refused y p) (andThen k (λ ns. ok (blit g ns c)))
-          → refused y p ≡ andThen (andThen k m) (λ ns. ok (blit 0 ns c₀))
+            → refused y p ≡ andThen (andThen k m) (λ ns. ok (blit 0 ns c₀))
         go (ok ns) m z = absurd (refused≢ok z)
         go (refused x o) m z = cc
 
@@ -357,7 +379,7 @@ module _ {s w f : List ℕ} {n nf : ℕ} {h : Holding w f n nf} {c₀ : List ℕ
             let b = t .is in
             let o : List Item = dg (b .address) first ∷ own items in
             let m : length ns ≡ tally (levelCG .own) (own items)
-                  = length-counts s _ _ _ u ∙ ap length (own-addresses items) ∙ length-groups (own items) in
+            = length-counts s _ _ _ u ∙ ap length (own-addresses items) ∙ length-groups (own items) in
             record {
               before = b .before ++ o;
               rest = later items;
@@ -370,12 +392,12 @@ module _ {s w f : List ℕ} {n nf : ℕ} {h : Holding w f n nf} {c₀ : List ℕ
               rising = later-rising (b .rising);
               counted = let p = a .counted in omega (arith, t .groups-in, m, length-append (a .done) ns);
               words = ok-same z ∙ laid-more g (a .done) ns c c₀ (a .counted) (a .words);
-              same = sym (counts-is ∙ ap (λ (k : Checked (List ℕ)). andThen k (λ ms. countsFrom s (dataGroupsOf pieces (later items)) (a .done ++ ms))) u)
+              same = sym (counts-is ∙ ap (λ (k : Checked (List ℕ)). andThen k (λ ms. countsFrom s (dataGroupsOf pieces (later items)) (a .done ++ ms))) u);
             }
 
 -- ---- for the code: r is the DG's span, end its fragments' end
 module _ {s w f : List ℕ} {n nf : ℕ} {c₀ : List ℕ} {i g : ℕ} {c : List ℕ} (t : Counting s w f n nf c₀ i g c) (l : i < n)
-  {r : Span} (e : r ≡ spanAt w (i + 1) n) {end : ℕ} (k : end ≡ endAt w (r .next) n nf) where
+    {r : Span} (e : r ≡ spanAt w (i + 1) n) {end : ℕ} (k : end ≡ endAt w (r .next) n nf) where
   pub count-ready : Holding w f n nf → mostItems ≤ length c → Ready w f i g (r .groups) end c
   count-ready h = turn-ready (turn (t .at h) l e k)
 

@@ -25,7 +25,7 @@ block k below s a st = andThen (visit k s st a) (λ _. below a (entered k a st))
 
 -- one block of a level: the turns left fall by one
 level-open : (k : Level) (below : Below) (fuel : ℕ) (s : List ℕ) (a : ℕ) (st : Source) → 0 < fuel
-  → level k below fuel s a st ≡ ifEq a 0 (ok st) (andThen (block k below s a st) (λ st'. level k below (fuel - 1) s (linkAt s a 0) st'))
+    → level k below fuel s a st ≡ ifEq a 0 (ok st) (andThen (block k below s a st) (λ st'. level k below (fuel - 1) s (linkAt s a 0) st'))
 unfolding level block
 level-open k below zero s a st p = absurd (omega arith)
 level-open k below (suc j) s a st p =
@@ -51,28 +51,45 @@ begin k below s a m r = record { fuel = turns; enough = omega arith; within = r;
 
 module _ {k : Level} {below : Below} {s : List ℕ} {a₀ : ℕ} {x₀ : State} {a m : ℕ} {x : State} (t : Turn k below s a₀ x₀ a m x) where
   pub turn-end : a ≡ 0 → m ≤ mostItems → Gives (level k below turns s a₀) x₀ x
-  turn-end z p = record { to = λ e f st h. let l = t .rest e f st h in
-    record { st = l .st; held = l .held; is = sym (l .same) ∙ level-open k below (t .fuel) s a (l .st) (omega arith) ∙ sym (eq-yes _ _ _ _ z refl) } }
+  turn-end z p = record {
+    to = λ e f st h. let l = t .rest e f st h in
+        record { st = l .st; held = l .held; is = sym (l .same) ∙ level-open k below (t .fuel) s a (l .st) (omega arith) ∙ sym (eq-yes _ _ _ _ z refl) };
+  }
 
   pub turn-stop : {y p : ℕ} → (a ≡ 0 → ⊥) → m ≤ mostItems → Stops (block k below s a) x y p → Stops (level k below turns s a₀) x₀ y p
-  turn-stop z p b = record { at = λ e f st h. let l = t .rest e f st h in
-    sym (l .same) ∙ level-open k below (t .fuel) s a (l .st) (omega arith) ∙ sym (eq-no _ _ _ _ z (rw (b .at e f (l .st) (l .held)))) }
+  turn-stop z p b = record {
+    at = λ e f st h. let l = t .rest e f st h in
+        sym (l .same) ∙ level-open k below (t .fuel) s a (l .st) (omega arith) ∙ sym (eq-no _ _ _ _ z (rw (b .at e f (l .st) (l .held))));
+  }
 
   pub turn-on : {a' m' : ℕ} {x' : State} → (a ≡ 0 → ⊥) → m ≤ mostItems → Gives (block k below s a) x x' → a' ≡ linkAt s a 0 → m < m' → Within x'
-    → length (x' .words) ≡ length (x₀ .words) → length (x' .frags) ≡ length (x₀ .frags) → Turn k below s a₀ x₀ a' m' x'
-  turn-on {a'} {m'} {x'} z p b q g r i j = record { fuel = t .fuel - 1; enough = omega arith; within = r; words-same = i; frags-same = j; rest = λ e f st h.
-    let l = t .rest e f st h in
-    let k' = b .to e f (l .st) (l .held) in
-    record { st = k' .st; held = k' .held; same =
-      eq-no _ _ _ _ z (rw (k' .is, q)) ∙ sym (level-open k below (t .fuel) s a (l .st) (omega arith)) ∙ l .same } }
+      → length (x' .words) ≡ length (x₀ .words) → length (x' .frags) ≡ length (x₀ .frags) → Turn k below s a₀ x₀ a' m' x'
+  turn-on {a'} {m'} {x'} z p b q g r i j = record {
+    fuel = t .fuel - 1;
+    enough = omega arith;
+    within = r;
+    words-same = i;
+    frags-same = j;
+    rest = λ e f st h.
+        let l = t .rest e f st h in
+        let k' = b .to e f (l .st) (l .held) in
+        record {
+          st = k' .st;
+          held = k' .held;
+          same =
+              eq-no _ _ _ _ z (rw (k' .is, q)) ∙ sym (level-open k below (t .fuel) s a (l .st) (omega arith)) ∙ l .same;
+        };
+  }
 
 -- ---- a part of the walk, then another
 module _ {F H : Source → Checked Source} {x : State} (G : Source → Checked Source) (e : (st : Source) → H st ≡ andThen (F st) G) where
   then-gives : {y z : State} → Gives F x y → Gives G y z → Gives H x z
-  then-gives f g = record { to = λ u v st h.
-    let i = f .to u v st h in
-    let j = g .to u v (i .st) (i .held) in
-    record { st = j .st; held = j .held; is = e st ∙ rw (i .is) (j .is) } }
+  then-gives f g = record {
+    to = λ u v st h.
+        let i = f .to u v st h in
+        let j = g .to u v (i .st) (i .held) in
+        record { st = j .st; held = j .held; is = e st ∙ rw (i .is) (j .is) };
+  }
 
   then-stops : {y : State} {n p : ℕ} → Gives F x y → Stops G y n p → Stops H x n p
   then-stops f g = record { at = λ u v st h. let i = f .to u v st h in e st ∙ rw (i .is) (g .at u v (i .st) (i .held)) }
@@ -101,23 +118,23 @@ cn-block-stops s a g = first-stops ok (cn-is s a) g
 
 -- ---- a CG: its name, then the CN chain
 cg-is : (s : List ℕ) (a b : ℕ) → b ≡ linkAt s a 1 → (st : Source)
-  → block levelCG (belowCG s) s a st ≡ andThen (entering levelCG s a (nameAt s (linkAt s a 2)) st) (level levelCN (belowCN s) turns s b)
+    → block levelCG (belowCG s) s a st ≡ andThen (entering levelCG s a (nameAt s (linkAt s a 2)) st) (level levelCN (belowCN s) turns s b)
 unfolding block belowCG entering
 cg-is s a b e st = rw e (go (visit levelCG s st a) (nameAt s (linkAt s a 2)))
   where
     go : (v c : Verdict) → andThen v (λ _. andThen c (λ _. level levelCN (belowCN s) turns s (linkAt s a 1) (entered levelCG a st)))
-      ≡ andThen (andThen v (λ _. andThen c (λ _. ok (entered levelCG a st)))) (level levelCN (belowCN s) turns s (linkAt s a 1))
+        ≡ andThen (andThen v (λ _. andThen c (λ _. ok (entered levelCG a st)))) (level levelCN (belowCN s) turns s (linkAt s a 1))
     go (ok u) (ok t) = refl
     go (ok u) (refused n p) = refl
     go (refused n p) c = refl
 
 module _ (s : List ℕ) (a : ℕ) {x : State} where
   pub cg-block : (b : ℕ) {y z : State} → b ≡ linkAt s a 1 → Gives (entering levelCG s a (nameAt s (linkAt s a 2))) x y
-    → Gives (level levelCN (belowCN s) turns s b) y z → Gives (block levelCG (belowCG s) s a) x z
+      → Gives (level levelCN (belowCN s) turns s b) y z → Gives (block levelCG (belowCG s) s a) x z
   cg-block b e f g = then-gives (level levelCN (belowCN s) turns s b) (cg-is s a b e) f g
 
   pub cg-below-stops : (b : ℕ) {y : State} {n p : ℕ} → b ≡ linkAt s a 1 → Gives (entering levelCG s a (nameAt s (linkAt s a 2))) x y
-    → Stops (level levelCN (belowCN s) turns s b) y n p → Stops (block levelCG (belowCG s) s a) x n p
+      → Stops (level levelCN (belowCN s) turns s b) y n p → Stops (block levelCG (belowCG s) s a) x n p
   cg-below-stops b e f g = then-stops (level levelCN (belowCN s) turns s b) (cg-is s a b e) f g
 
   pub cg-block-stops : {n p : ℕ} → Stops (entering levelCG s a (nameAt s (linkAt s a 2))) x n p → Stops (block levelCG (belowCG s) s a) x n p
@@ -129,7 +146,7 @@ unfolding belowDG taking
 below-is s a b e st = rw e (go (withFound (chain records limits s (length (st .fragments)) (linkAt s a 2)) st) (idSizeIn s a))
   where
     go : (v : Checked Source) (c : Verdict) → andThen v (λ st'. andThen c (λ _. level levelCG (belowCG s) turns s (linkAt s a 1) st'))
-      ≡ andThen (andThen v (λ st'. andThen c (λ _. ok st'))) (level levelCG (belowCG s) turns s (linkAt s a 1))
+        ≡ andThen (andThen v (λ st'. andThen c (λ _. ok st'))) (level levelCG (belowCG s) turns s (linkAt s a 1))
     go (ok u) (ok t) = refl
     go (ok u) (refused n p) = refl
     go (refused n p) c = refl
@@ -144,11 +161,11 @@ dg-is s a st = go (visit levelDG s st a)
 
 module _ (s : List ℕ) (a : ℕ) {x : State} where
   pub dg-block : (b : ℕ) {y z u : State} → b ≡ linkAt s a 1 → Gives (entering levelDG s a fine) x y → Gives (taking s a) y z
-    → Gives (level levelCG (belowCG s) turns s b) z u → Gives (block levelDG (belowDG s) s a) x u
+      → Gives (level levelCG (belowCG s) turns s b) z u → Gives (block levelDG (belowDG s) s a) x u
   dg-block b e f g h = then-gives (belowDG s a) (dg-is s a) f (then-gives (level levelCG (belowCG s) turns s b) (below-is s a b e) g h)
 
   pub dg-below-stops : (b : ℕ) {y z : State} {n p : ℕ} → b ≡ linkAt s a 1 → Gives (entering levelDG s a fine) x y → Gives (taking s a) y z
-    → Stops (level levelCG (belowCG s) turns s b) z n p → Stops (block levelDG (belowDG s) s a) x n p
+      → Stops (level levelCG (belowCG s) turns s b) z n p → Stops (block levelDG (belowDG s) s a) x n p
   dg-below-stops b e f g h = then-stops (belowDG s a) (dg-is s a) f (then-stops (level levelCG (belowCG s) turns s b) (below-is s a b e) g h)
 
   pub dg-data-stops : {y : State} {n p : ℕ} → Gives (entering levelDG s a fine) x y → Stops (taking s a) y n p → Stops (block levelDG (belowDG s) s a) x n p

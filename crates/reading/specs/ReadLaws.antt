@@ -54,7 +54,7 @@ module _ {w₀ counts : List ℕ} {n i : ℕ} {w : List ℕ} (t : Storing w₀ c
         few = t .few;
         enough = t .enough;
         same = length-set w (countsAt + i) (getD counts i 0) ∙ t .same;
-        is = rw (add-one, take-suc counts i 0 (omega arith), blit-snoc, k, ← t .is)
+        is = rw (add-one, take-suc counts i 0 (omega arith), blit-snoc, k, ← t .is);
       }
 
   pub store-all : n ≤ i → w ≡ blit countsAt (take n counts) w₀
@@ -66,15 +66,15 @@ groups-later is =
     omega (arith, ap length (own-addresses is), length-groups (own is), ap (tally (levelCG .own)) (own-later is), tally-append (levelCG .own) (own is) (later is))
 
 counts-from : (s : List ℕ) (fs : List Fragment) (is : List Item) (done : List ℕ) {ns : List ℕ} → countsFrom s (dataGroupsOf fs is) done ≡ ok ns
-  → length ns ≡ length done + tally (levelCG .own) (later is)
+    → length ns ≡ length done + tally (levelCG .own) (later is)
 unfolding countsFrom dataGroupsOf later tally
 counts-from s fs [] done e = ap length (sym (ok-same e)) ∙ sym (add-zero _)
 counts-from s fs (dg a k ∷ is) done {ns} e =
     go (countGroups s a (addresses (groupsOf is)) (part k (upTo (length fs) is - k) fs)) refl (λ ms f. counts-from s fs is (done ++ ms) f) e
   where
     go : (v : Checked (List ℕ)) → countGroups s a (addresses (groupsOf is)) (part k (upTo (length fs) is - k) fs) ≡ v
-      → ((ms : List ℕ) → countsFrom s (dataGroupsOf fs is) (done ++ ms) ≡ ok ns → length ns ≡ length (done ++ ms) + tally (levelCG .own) (later is))
-      → andThen v (λ ms. countsFrom s (dataGroupsOf fs is) (done ++ ms)) ≡ ok ns → length ns ≡ length done + tally (levelCG .own) (dg a k ∷ is)
+        → ((ms : List ℕ) → countsFrom s (dataGroupsOf fs is) (done ++ ms) ≡ ok ns → length ns ≡ length (done ++ ms) + tally (levelCG .own) (later is))
+        → andThen v (λ ms. countsFrom s (dataGroupsOf fs is) (done ++ ms)) ≡ ok ns → length ns ≡ length done + tally (levelCG .own) (dg a k ∷ is)
     go (ok ms) i more f =
         omega (arith, more ms f, length-append done ms, length-counts s a (addresses (groupsOf is)) (part k (upTo (length fs) is - k) fs) i, groups-later is, tally-dg a k is)
     go (refused y p) i more f = absurd (refused≢ok f)
@@ -105,7 +105,7 @@ module _ {s w f : List ℕ} {n nf : ℕ} {c₀ : List ℕ} {r : Check} {c : List
   into-words {w'} q l e = record { of = λ h g. go h g (counts s (dataGroups (h .st))) refl (sym (ap (λ (v : Check). after v c) q) ∙ t .of h) }
     where
       go : (h : Holding w f n nf) → groups ≡ tally (levelCG .own) (h .st .items) → (v : Checked (List ℕ)) → counts s (dataGroups (h .st)) ≡ v
-        → _≡_ {A = Checked (List ℕ)} (ok c) (andThen v (λ ns. ok (blit 0 ns c₀))) → ok w' ≡ andThen v (λ ns. ok (blit countsAt ns w))
+          → _≡_ {A = Checked (List ℕ)} (ok c) (andThen v (λ ns. ok (blit 0 ns c₀))) → ok w' ≡ andThen v (λ ns. ok (blit countsAt ns w))
       go h g (ok ns) i z =
           let b = h .sound .cgs in
           let k : length ns ≡ groups = counts-number s (h .st) (h .sound .begins) i ∙ sym g in
@@ -154,14 +154,14 @@ met-holding {s} {w} {f} {w' = w'} {f' = f'} m l r =
       addresses = rw (m .words) (addresses-stand (st .items) w h l);
       marks = rw (m .words) (marks-stand (st .items) w h l);
       groups = rw (m .words) (groups-stand (st .items) w h l (d .cgs));
-      fragments = rw (m .frags) (record { is = part-blit 0 (fragmentWords (st .fragments)) f (omega arith) })
+      fragments = rw (m .frags) (record { is = part-blit 0 (fragmentWords (st .fragments)) f (omega arith) });
     }
 
 pub met-few : {s w f : List ℕ} {n g k : ℕ} {w' f' : List ℕ} → Met s w f n g k w' f' → g ≤ 512
 met-few {s} m = let d = walk-sound s (m .st) (m .is) .cgs in let e = m .groups in omega arith
 
 same-kept : {a a' b b' c c' : ℕ} {w w' f f' : List ℕ} → a ≡ a' → b ≡ b' → c ≡ c' → w ≡ w' → f ≡ f'
-  → _≡_ {A = Checked Kept} (ok (record { items = a; groups = b; fragments = c; words = w; frags = f })) (ok (record { items = a'; groups = b'; fragments = c'; words = w'; frags = f' }))
+    → _≡_ {A = Checked Kept} (ok (record { items = a; groups = b; fragments = c; words = w; frags = f })) (ok (record { items = a'; groups = b'; fragments = c'; words = w'; frags = f' }))
 same-kept p q r x y = rw (p, q, r, x, y)
 
 -- ---- the whole
@@ -176,11 +176,11 @@ module _ (s w f : List ℕ) {o : Check} (e : verdictOf o ≡ identified s) where
     opened = rw (← e, q) (go (walk s))
       where
         go : (v : Checked Source) → andThen (andThen v (λ st. andThen (counts s (dataGroups st)) (λ ns. ok (record { source = st; counts = ns })))) (λ r. ok (keptBy r w f))
-          ≡ andThen v (λ st. andThen (counts s (dataGroups st)) (λ ns. ok (keptBy (record { source = st; counts = ns }) w f)))
+            ≡ andThen v (λ st. andThen (counts s (dataGroups st)) (λ ns. ok (keptBy (record { source = st; counts = ns }) w f)))
         go (ok st) = more (counts s (dataGroups st))
           where
             more : (v : Checked (List ℕ)) → andThen (andThen v (λ ns. ok (record { source = st; counts = ns }))) (λ r. ok (keptBy r w f))
-              ≡ andThen v (λ ns. ok (keptBy (record { source = st; counts = ns }) w f))
+                ≡ andThen v (λ ns. ok (keptBy (record { source = st; counts = ns }) w f))
             more (ok ns) = refl
             more (refused y p) = refl
         go (refused y p) = refl
@@ -191,12 +191,12 @@ module _ (s w f : List ℕ) {o : Check} (e : verdictOf o ≡ identified s) where
     all-stopped w' f' {y = y} {p = p} g z = go (walk s) (sym (ap (λ (v : Read). given v w' f') z) ∙ g) ∙ sym opened
       where
         go : (v : Checked Source) → _≡_ {A = Checked Kept} (refused y p) (andThen v (λ st. ok (keptOf st w f)))
-          → refused y p ≡ andThen v (λ st. andThen (counts s (dataGroups st)) (λ ns. ok (keptBy (record { source = st; counts = ns }) w f)))
+            → refused y p ≡ andThen v (λ st. andThen (counts s (dataGroups st)) (λ ns. ok (keptBy (record { source = st; counts = ns }) w f)))
         go (ok st) j = absurd (refused≢ok j)
         go (refused x i) j = cc
 
     module _ {n g k : ℕ} {w' f' : List ℕ} (m : Met s w f n g k w' f') (l : sourceWords ≤ length w) (r : fragmentRoom ≤ length f)
-      {v : Check} {w'' : List ℕ} (c : CountedIn s w' f' n g k v w'') where
+        {v : Check} {w'' : List ℕ} (c : CountedIn s w' f' n g k v w'') where
       -- after the walk
       past : readOver s w f ≡ andThen (counts s (dataGroups (m .st))) (λ ns. ok (keptBy (record { source = m .st; counts = ns }) w f))
       past = opened ∙ ap (λ (u : Checked Source). andThen u (λ st. andThen (counts s (dataGroups st)) (λ ns. ok (keptBy (record { source = st; counts = ns }) w f)))) (m .is)
@@ -209,7 +209,7 @@ module _ (s w f : List ℕ) {o : Check} (e : verdictOf o ≡ identified s) where
       all-uncounted {y} {p} z = go (counts s (dataGroups (m .st))) (sym (ap (λ (u : Check). after u w'') z) ∙ told) ∙ sym past
         where
           go : (u : Checked (List ℕ)) → _≡_ {A = Checked (List ℕ)} (refused y p) (andThen u (λ ns. ok (blit countsAt ns w')))
-            → refused y p ≡ andThen u (λ ns. ok (keptBy (record { source = m .st; counts = ns }) w f))
+              → refused y p ≡ andThen u (λ ns. ok (keptBy (record { source = m .st; counts = ns }) w f))
           go (ok ns) j = absurd (refused≢ok j)
           go (refused x i) j = cc
 
@@ -217,7 +217,7 @@ module _ (s w f : List ℕ) {o : Check} (e : verdictOf o ≡ identified s) where
       all-read z = go (counts s (dataGroups (m .st))) (sym (ap (λ (u : Check). after u w'') z) ∙ told) ∙ sym past
         where
           go : (u : Checked (List ℕ)) → _≡_ {A = Checked (List ℕ)} (ok w'') (andThen u (λ ns. ok (blit countsAt ns w')))
-            → given (Done n g k) w'' f' ≡ andThen u (λ ns. ok (keptBy (record { source = m .st; counts = ns }) w f))
+              → given (Done n g k) w'' f' ≡ andThen u (λ ns. ok (keptBy (record { source = m .st; counts = ns }) w f))
           go (ok ns) j =
               let x : w'' ≡ blit countsAt ns (laidItems (m .st .items) w) = ok-same j ∙ ap (blit countsAt ns) (m .words) in
               same-kept (m .items) (m .groups) (m .pieces) x (m .frags)
@@ -230,7 +230,7 @@ module _ (s w f : List ℕ) (l : sourceWords ≤ length w) (r : fragmentRoom ≤
   long-enough = sym (lt-no _ _ _ _ l (lt-no _ _ _ _ r refl))
 
   pub read-refused : (w' f' : List ℕ) {w'' f'' : List ℕ} {a : Read} {y p : ℕ} → given a w' f' ≡ readOver s w f → a ≡ Refused y p
-    → length w' ≡ length w → length f' ≡ length f → w'' ≡ zeros w' → f'' ≡ zeros f' → left (Refused y p) w'' f'' ≡ readInto s w f
+      → length w' ≡ length w → length f' ≡ length f → w'' ≡ zeros w' → f'' ≡ zeros f' → left (Refused y p) w'' f'' ≡ readInto s w f
   read-refused w' f' e q i j m n =
       let k = ap (λ (v : Read). given v w' f') (sym q) ∙ e in
       rw (m, n, i, j) (ap (λ (v : Checked Kept). leftBy v w f) k) ∙ sym long-enough

@@ -34,7 +34,7 @@ keptBy r w f = record {
   groups = tally (levelCG .own) (r .source .items);
   fragments = length (r .source .fragments);
   words = blit countsAt (r .counts) (laidItems (r .source .items) w);
-  frags = blit 0 (fragmentWords (r .source .fragments)) f
+  frags = blit 0 (fragmentWords (r .source .fragments)) f;
 }
 
 unfoldable pub readOver : List ℕ → List ℕ → List ℕ → Checked Kept

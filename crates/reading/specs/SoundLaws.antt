@@ -76,7 +76,7 @@ unfolding visit
 visit-room k s st a e = go (isMet a (st .items)) e
   where
     go : (t : Bool) {u : Unit {0}} → pick t (refused 11 a) (andThen (blockAt (k .wanted) s a) (λ _. ifLt (tally (k .own) (st .items)) mostItems fine (refused 19 a))) ≡ ok u
-      → tally (k .own) (st .items) < mostItems
+        → tally (k .own) (st .items) < mostItems
     go true f = absurd (refused≢ok f)
     go false f = let p = then-inv (blockAt (k .wanted) s a) (λ _. ifLt (tally (k .own) (st .items)) mostItems fine (refused 19 a)) f in
         lt-first _ _ _ _ (p .is) refused≢ok .0
@@ -87,43 +87,52 @@ record Enters (B : List Item → Type 0) (k : Level) : Type 0 where
 
 enters-dg : Enters Starts levelDG
 unfolding entered
-enters-dg = record { sound = λ a st h l. record {
-  dgs = rw tally-snoc (omega arith);
-  cgs = let i = h .cgs in rw tally-snoc (omega arith);
-  cns = let i = h .cns in rw tally-snoc (omega arith);
-  pieces = h .pieces;
-  rising = rising-dg a (h .rising);
-  begins = starts-dg (h .begins) a (length (st .fragments)) } }
+enters-dg = record {
+  sound = λ a st h l. record {
+    dgs = rw tally-snoc (omega arith);
+    cgs = let i = h .cgs in rw tally-snoc (omega arith);
+    cns = let i = h .cns in rw tally-snoc (omega arith);
+    pieces = h .pieces;
+    rising = rising-dg a (h .rising);
+    begins = starts-dg (h .begins) a (length (st .fragments));
+  };
+}
 
 enters-cg : Enters Begun levelCG
 unfolding entered
-enters-cg = record { sound = λ a st h l. record {
-  dgs = let i = h .dgs in rw tally-snoc (omega arith);
-  cgs = rw tally-snoc (omega arith);
-  cns = let i = h .cns in rw tally-snoc (omega arith);
-  pieces = h .pieces;
-  rising = rising-cg a (h .rising);
-  begins = begun-more (h .begins) (cg a ∷ []) } }
+enters-cg = record {
+  sound = λ a st h l. record {
+    dgs = let i = h .dgs in rw tally-snoc (omega arith);
+    cgs = rw tally-snoc (omega arith);
+    cns = let i = h .cns in rw tally-snoc (omega arith);
+    pieces = h .pieces;
+    rising = rising-cg a (h .rising);
+    begins = begun-more (h .begins) (cg a ∷ []);
+  };
+}
 
 enters-cn : Enters Begun levelCN
 unfolding entered
-enters-cn = record { sound = λ a st h l. record {
-  dgs = let i = h .dgs in rw tally-snoc (omega arith);
-  cgs = let i = h .cgs in rw tally-snoc (omega arith);
-  cns = rw tally-snoc (omega arith);
-  pieces = h .pieces;
-  rising = rising-cn a (h .rising);
-  begins = begun-more (h .begins) (cn a ∷ []) } }
+enters-cn = record {
+  sound = λ a st h l. record {
+    dgs = let i = h .dgs in rw tally-snoc (omega arith);
+    cgs = let i = h .cgs in rw tally-snoc (omega arith);
+    cns = rw tally-snoc (omega arith);
+    pieces = h .pieces;
+    rising = rising-cn a (h .rising);
+    begins = begun-more (h .begins) (cn a ∷ []);
+  };
+}
 
 -- a level keeps it where what is below its blocks does
 level-keeps : {B : List Item → Type 0} (k : Level) (below : ℕ → Source → Checked Source) (s : List ℕ) → Enters B k → ((a : ℕ) → Keeps Begun B (below a))
-  → (fuel a : ℕ) → Keeps B B (level k below fuel s a)
+    → (fuel a : ℕ) → Keeps B B (level k below fuel s a)
 unfolding level ifEq
 level-keeps k below s n b zero a = record { to = λ st st' h e. absurd (refused≢ok e) }
 level-keeps {B} k below s n b (suc j) a = record { to = λ st st' h e. go (level-keeps k below s n b j (linkAt s a 0)) st st' h (eqb a 0) e }
   where
     go : Keeps B B (level k below j s (linkAt s a 0)) → (st st' : Source) → SoundWith B st → (t : Bool)
-      → pick t (ok st) (andThen (visit k s st a) (λ _. andThen (below a (entered k a st)) (λ st''. level k below j s (linkAt s a 0) st''))) ≡ ok st' → SoundWith B st'
+        → pick t (ok st) (andThen (visit k s st a) (λ _. andThen (below a (entered k a st)) (λ st''. level k below j s (linkAt s a 0) st''))) ≡ ok st' → SoundWith B st'
     go more st st' h true e = rw (ok-same e) at h
     go more st st' h false e =
         let p = then-inv (visit k s st a) (λ _. andThen (below a (entered k a st)) (λ st''. level k below j s (linkAt s a 0) st'')) e in
@@ -137,9 +146,11 @@ keeps-cn s a = record { to = λ st st' h e. let p = then-inv (nameAt s (linkAt s
 
 keeps-cg : (s : List ℕ) (a : ℕ) → Keeps Begun Begun (belowCG s a)
 unfolding belowCG
-keeps-cg s a = record { to = λ st st' h e.
-  let p = then-inv (nameAt s (linkAt s a 2)) (λ _. level levelCN (belowCN s) turns s (linkAt s a 1) st) e in
-  level-keeps levelCN (belowCN s) s enters-cn (keeps-cn s) turns (linkAt s a 1) .to st st' h (p .is) }
+keeps-cg s a = record {
+  to = λ st st' h e.
+      let p = then-inv (nameAt s (linkAt s a 2)) (λ _. level levelCN (belowCN s) turns s (linkAt s a 1) st) e in
+      level-keeps levelCN (belowCN s) s enters-cn (keeps-cn s) turns (linkAt s a 1) .to st st' h (p .is);
+}
 
 -- the fragments of a data chain stay within the limit
 keeps-data : (s : List ℕ) (a : ℕ) → Keeps Begun Begun (λ st. withFound (chain records limits s (length (st .fragments)) (linkAt s a 2)) st)
@@ -152,17 +163,20 @@ keeps-data s a = record { to = λ st st' h e. go st st' h (chain records limits 
       cns = h .cns;
       pieces = let l = chain-limit records s (length (st .fragments)) (linkAt s a 2) (h .pieces) in rw length-append (rw i at l);
       rising = rw length-append (rising-more (h .rising) (length fs));
-      begins = h .begins })
+      begins = h .begins;
+    })
     go st st' h (stopped n p fs) i e = absurd (refused≢ok e)
 
 keeps-dg : (s : List ℕ) (a : ℕ) → Keeps Begun Starts (belowDG s a)
 unfolding belowDG
-keeps-dg s a = record { to = λ st st' h e.
-  let p = then-inv (withFound (chain records limits s (length (st .fragments)) (linkAt s a 2)) st)
-        (λ st''. andThen (idSizeIn s a) (λ _. level levelCG (belowCG s) turns s (linkAt s a 1) st'')) e in
-  let q = then-inv (idSizeIn s a) (λ _. level levelCG (belowCG s) turns s (linkAt s a 1) (p .value)) (p .is) in
-  let r = level-keeps levelCG (belowCG s) s enters-cg (keeps-cg s) turns (linkAt s a 1) .to (p .value) st' (keeps-data s a .to st (p .value) h (p .was)) (q .is) in
-  record { dgs = r .dgs; cgs = r .cgs; cns = r .cns; pieces = r .pieces; rising = r .rising; begins = starts (r .begins) } }
+keeps-dg s a = record {
+  to = λ st st' h e.
+      let p = then-inv (withFound (chain records limits s (length (st .fragments)) (linkAt s a 2)) st)
+      (λ st''. andThen (idSizeIn s a) (λ _. level levelCG (belowCG s) turns s (linkAt s a 1) st'')) e in
+      let q = then-inv (idSizeIn s a) (λ _. level levelCG (belowCG s) turns s (linkAt s a 1) (p .value)) (p .is) in
+      let r = level-keeps levelCG (belowCG s) s enters-cg (keeps-cg s) turns (linkAt s a 1) .to (p .value) st' (keeps-data s a .to st (p .value) h (p .was)) (q .is) in
+      record { dgs = r .dgs; cgs = r .cgs; cns = r .cns; pieces = r .pieces; rising = r .rising; begins = starts (r .begins) };
+}
 
 sound-none : Sound (source [] [])
 unfolding tally

@@ -22,16 +22,20 @@ part-part a m i n l h = rw (drop-take, drop-drop) (take-take n (m - i) (drop (a 
 
 pub stands-front : {l : List ℕ} {a : ℕ} (x y : List ℕ) → Stands l a (x ++ y) → Stands l a x
 unfolding part
-stands-front {l} {a} x y s = record { is =
-    ap (λ (k : ℕ). part k (length x) l) (sym (add-zero a))
-    ∙ sym (part-part a (length (x ++ y)) 0 (length x) l (rw length-append (omega arith)))
-    ∙ ap (part 0 (length x)) (s .is) ∙ take-append-seam x y }
+stands-front {l} {a} x y s = record {
+  is =
+      ap (λ (k : ℕ). part k (length x) l) (sym (add-zero a))
+      ∙ sym (part-part a (length (x ++ y)) 0 (length x) l (rw length-append (omega arith)))
+      ∙ ap (part 0 (length x)) (s .is) ∙ take-append-seam x y;
+}
 
 pub stands-back : {l : List ℕ} {a : ℕ} (x y : List ℕ) → Stands l a (x ++ y) → Stands l (a + length x) y
 unfolding part
-stands-back {l} {a} x y s = record { is =
-    sym (part-part a (length (x ++ y)) (length x) (length y) l (rw length-append (omega arith)))
-    ∙ ap (part (length x) (length y)) (s .is) ∙ ap (take (length y)) (drop-append-seam x y) ∙ take-length y }
+stands-back {l} {a} x y s = record {
+  is =
+      sym (part-part a (length (x ++ y)) (length x) (length y) l (rw length-append (omega arith)))
+      ∙ ap (part (length x) (length y)) (s .is) ∙ ap (take (length y)) (drop-append-seam x y) ∙ take-length y;
+}
 
 pub stands-head : {l : List ℕ} {a : ℕ} (x : ℕ) (ys : List ℕ) → Stands l a (x ∷ ys) → getD l a 0 ≡ x
 unfolding part

@@ -26,6 +26,7 @@ visited-room k s w n m y a {w'} e = among (isIn a (take n w)) e
     block : (o : Verdict) → andThen o (λ _. ifLt m mostItems (ok (set (set w n a) (marksAt + n) y)) (refused 19 a)) ≡ ok w' → m < mostItems
     block (ok u) f = lt-first _ _ _ _ f refused≢ok .0
     block (refused z p) f = absurd (refused≢ok f)
+
     among : (t : Bool) → pick t (refused 11 a) (andThen (blockAt k s a) (λ _. ifLt m mostItems (ok (set (set w n a) (marksAt + n) y)) (refused 19 a))) ≡ ok w' → m < mostItems
     among true f = absurd (refused≢ok f)
     among false f = block (blockAt k s a) f

@@ -28,7 +28,7 @@ keptOf st w f = record {
   groups = tally (levelCG .own) (st .items);
   fragments = length (st .fragments);
   words = laidItems (st .items) w;
-  frags = blit 0 (fragmentWords (st .fragments)) f
+  frags = blit 0 (fragmentWords (st .fragments)) f;
 }
 
 unfoldable pub walkedFrom : List ℕ → ℕ → List ℕ → List ℕ → Checked Kept

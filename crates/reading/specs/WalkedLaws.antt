@@ -24,7 +24,7 @@ within-none w f h = record { long = h; sum = refl; dg-room = omega arith; cg-roo
 
 module _ (s : List ℕ) (a : ℕ) (w f : List ℕ) where
   pub walk-gives : {w' f' : List ℕ} {n ndg ncg ncn nf : ℕ} → Gives (level levelDG (belowDG s) turns s a) (state w f 0 0 0 0 0) (state w' f' n ndg ncg ncn nf)
-    → ok (record { items = n; groups = ncg; fragments = nf; words = w'; frags = f' }) ≡ walkedFrom s a w f
+      → ok (record { items = n; groups = ncg; fragments = nf; words = w'; frags = f' }) ≡ walkedFrom s a w f
   unfolding walkedFrom
   walk-gives g =
       let b = g .to w f (source [] []) (held-none w f) in

@@ -73,26 +73,34 @@ pub blit-snoc : (i x : ℕ) (xs l : List ℕ) → blit i (xs ++ (x ∷ [])) l �
 blit-snoc i x xs l = blit-append xs i (x ∷ []) l ∙ blit-one _ _ _
 
 laid-over : (gs : List ℕ) (is : List Item) (i : Item) (w : List ℕ) → length is < marksAt
-  → blit groupsAt gs (blit marksAt (markWords (is ++ (i ∷ []))) (blit 0 (addressWords (is ++ (i ∷ []))) w))
+    → blit groupsAt gs (blit marksAt (markWords (is ++ (i ∷ []))) (blit 0 (addressWords (is ++ (i ∷ []))) w))
     ≡ set (set (blit groupsAt gs (blit marksAt (markWords is) (blit 0 (addressWords is) w))) (length is) (address i)) (marksAt + length is) (mark i)
 laid-over gs is i w h =
-    rw (address-snoc, mark-snoc, blit-snoc 0 (address i), blit-snoc marksAt (mark i), length-addresses, length-marks, zero-add,
+    rw (
+      address-snoc,
+      mark-snoc,
+      blit-snoc 0 (address i),
+      blit-snoc marksAt (mark i),
+      length-addresses,
+      length-marks,
+      zero-add,
       set-under (length is) marksAt (address i) (markWords is) _ h,
       set-under (marksAt + length is) groupsAt (mark i) gs _ (omega arith),
-      set-under (length is) groupsAt (address i) gs _ (omega arith))
+      set-under (length is) groupsAt (address i) gs _ (omega arith),
+    )
 
 pub laid-dg : (a n : ℕ) (is : List Item) (w : List ℕ) → length is < marksAt
-  → laidItems (is ++ (dg a n ∷ [])) w ≡ set (set (laidItems is w) (length is) a) (marksAt + length is) (2 + n)
+    → laidItems (is ++ (dg a n ∷ [])) w ≡ set (set (laidItems is w) (length is) a) (marksAt + length is) (2 + n)
 unfolding laidItems groupWords
 laid-dg a n is w h = rw (group-append is (dg a n ∷ []), append-nil) (laid-over (groupWords is) is (dg a n) w h)
 
 pub laid-cn : (a : ℕ) (is : List Item) (w : List ℕ) → length is < marksAt
-  → laidItems (is ++ (cn a ∷ [])) w ≡ set (set (laidItems is w) (length is) a) (marksAt + length is) 0
+    → laidItems (is ++ (cn a ∷ [])) w ≡ set (set (laidItems is w) (length is) a) (marksAt + length is) 0
 unfolding laidItems groupWords
 laid-cn a is w h = rw (group-append is (cn a ∷ []), append-nil) (laid-over (groupWords is) is (cn a) w h)
 
 pub laid-cg : (a : ℕ) (is : List Item) (w : List ℕ) → length is < marksAt
-  → laidItems (is ++ (cg a ∷ [])) w
+    → laidItems (is ++ (cg a ∷ [])) w
     ≡ set (set (set (laidItems is w) (length is) a) (marksAt + length is) 1) (groupsAt + tally (levelCG .own) is) a
 unfolding laidItems groupWords
 laid-cg a is w h =
@@ -122,8 +130,10 @@ module _ (is : List Item) (w : List ℕ) (h : length is ≤ marksAt) (l : source
   unfolding laidItems
   marks-stand =
       let n = length-marks is in
-      record { is = part-blit-before (groupWords is) groupsAt marksAt (length (markWords is)) _ (omega arith)
-        ∙ part-blit marksAt (markWords is) _ (simp length-blit (omega arith)) }
+      record {
+        is = part-blit-before (groupWords is) groupsAt marksAt (length (markWords is)) _ (omega arith)
+            ∙ part-blit marksAt (markWords is) _ (simp length-blit (omega arith));
+      }
 
   pub groups-stand : tally (levelCG .own) is ≤ mostItems → Stands (laidItems is w) groupsAt (groupWords is)
   unfolding laidItems

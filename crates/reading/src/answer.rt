@@ -2,8 +2,15 @@
 
 // Document 01's refusal with number and place; or the number of blocks met, of CG among them, and of fragments.
 pub enum Read {
-    Refused { number: u64, place: u64 },
-    Done { items: u64, groups: u64, fragments: u64 },
+    Refused {
+        number: u64,
+        place: u64,
+    },
+    Done {
+        items: u64,
+        groups: u64,
+        fragments: u64,
+    },
 }
 
 // A DG's data: a refusal, or the number of fragments with those before it.

@@ -1,12 +1,20 @@
 // Reading: what is met is kept in lent words, blocks in `source` and fragments in `fragments`.
-use fields::Check;
-use blocks::block::{HD, DG, CG, CN, link_at, block_at};
+use crate::answer::Read;
+use crate::answer::Span;
+use crate::answer::Taken;
+use blocks::block::CG;
+use blocks::block::CN;
+use blocks::block::DG;
+use blocks::block::HD;
+use blocks::block::block_at;
+use blocks::block::link_at;
 use blocks::name::name_at;
+use chains::chain::Chained;
+use chains::chain::chain;
+use fields::Check;
 use identification::identify;
-use chains::chain::{Chained, chain};
 use records::group::id_size;
 use records::several::count_groups;
-use crate::answer::{Read, Taken, Span};
 ghost use mathlib.Core.Path.{_≡_};
 ghost use Prim.Native.Nat.{_+_, _≤_};
 ghost use lib.ListN.{length, take};
@@ -39,13 +47,26 @@ fn seen(source: &[u64], n: u64, a: u64) -> bool
 }
 
 // A block met: 11 before it is read, its checks, then 19. Its address and mark go into the words.
-fn visit(image: &[u8], source: &mut [u64], n: u64, m: u64, mark: u64, a: u64, kind: u64, links: u64, bytes: u64) -> Check
+fn visit(
+    image: &[u8],
+    source: &mut [u64],
+    n: u64,
+    m: u64,
+    mark: u64,
+    a: u64,
+    kind: u64,
+    links: u64,
+    bytes: u64,
+) -> Check
     requires { ⌜ (n ≤ 1536) × (sourceWords ≤ length (now source)) ⌝ }
     ensures { λ r. ⌜ after r (now (source .exit))
         ≡ visited (record { kind = kind; links = links; bytes = bytes }) (now (image .entry)) (now (source .entry)) n m mark a ⌝ }
 {
     if seen(source, n, a) {
-        return Check::Refused { number: 11, place: a };
+        return Check::Refused {
+            number: 11,
+            place: a,
+        };
     }
     let checked = block_at(kind, links, bytes, image, a);
     if let Check::Refused { number, place } = checked {
@@ -57,7 +78,10 @@ fn visit(image: &[u8], source: &mut [u64], n: u64, m: u64, mark: u64, a: u64, ki
         source[1536 + i] = mark;
         return Check::Fine;
     }
-    Check::Refused { number: 19, place: a }
+    Check::Refused {
+        number: 19,
+        place: a,
+    }
 }
 
 // A CG, its name, and its address among the groups.
@@ -108,7 +132,10 @@ fn id_size_in(image: &[u8], a: u64) -> Check
     if size == 8 {
         return Check::Fine;
     }
-    Check::Refused { number: 13, place: a }
+    Check::Refused {
+        number: 13,
+        place: a,
+    }
 }
 
 // The DG at a: its data chain and id size, with n fragments before it.
@@ -118,7 +145,11 @@ fn take_data(image: &[u8], fragments: &mut [u64], n: u64, a: u64) -> Taken
     let data = link_at(image, a, 2);
     let chained = chain(false, image, fragments, n, data);
     match chained {
-        Chained::Stopped { number, place, count } => Taken::Refused { number, place },
+        Chained::Stopped {
+            number,
+            place,
+            count,
+        } => Taken::Refused { number, place },
         Chained::Done { count } => {
             let sized = id_size_in(image, a);
             match sized {
@@ -143,7 +174,11 @@ fn walk_from(image: &[u8], source: &mut [u64], fragments: &mut [u64], first: u64
     let mut dg = first;
     let answer = 'walk: loop {
         if dg == 0 {
-            break 'walk Read::Done { items: n, groups: ncg, fragments: nf };
+            break 'walk Read::Done {
+                items: n,
+                groups: ncg,
+                fragments: nf,
+            };
         }
         let met = visit(image, source, n, ndg, 2 + nf, dg, DG, 4, 1);
         if let Check::Refused { number, place } = met {
@@ -200,7 +235,7 @@ fn walk(image: &[u8], source: &mut [u64], fragments: &mut [u64]) -> Read
 }
 
 // Every word zero.
-fn clear(words: &mut [u64])
+pub fn clear(words: &mut [u64])
     ensures { λ _. ⌜ now (words .exit) ≡ zeros (now (words .entry)) ⌝ }
 {
     let mut i: usize = 0;
@@ -246,7 +281,16 @@ fn end_at(source: &[u64], i: u64, n: u64, all: u64) -> u64
 }
 
 // The counts of the DG at block i: its groups stand from g on, and its fragments end before end.
-fn count_dg(image: &[u8], source: &[u64], fragments: &[u64], i: u64, g: u64, groups: u64, end: u64, counts: &mut [u64]) -> Check
+fn count_dg(
+    image: &[u8],
+    source: &[u64],
+    fragments: &[u64],
+    i: u64,
+    g: u64,
+    groups: u64,
+    end: u64,
+    counts: &mut [u64],
+) -> Check
     requires { ⌜ Ready (now source) (now fragments) i g groups end (now counts) ⌝ }
     ensures { λ r. ⌜ after r (now (counts .exit))
         ≡ countedDG (now (image .entry)) (now (source .entry)) (now (fragments .entry)) i g groups end (now (counts .entry)) ⌝ }
@@ -258,11 +302,24 @@ fn count_dg(image: &[u8], source: &[u64], fragments: &[u64], i: u64, g: u64, gro
     let first = g as usize;
     let a = 3072 + first;
     let b = a + groups as usize;
-    count_groups(image, d, &source[a..b], &fragments[from..to], &mut counts[first..])
+    count_groups(
+        image,
+        d,
+        &source[a..b],
+        &fragments[from..to],
+        &mut counts[first..],
+    )
 }
 
 // The counts of all groups, DG by DG.
-fn count_all(image: &[u8], source: &[u64], fragments: &[u64], n: u64, nf: u64, counts: &mut [u64]) -> Check
+fn count_all(
+    image: &[u8],
+    source: &[u64],
+    fragments: &[u64],
+    n: u64,
+    nf: u64,
+    counts: &mut [u64],
+) -> Check
     requires { ⌜ Holding (now source) (now fragments) n nf × (512 ≤ length (now counts)) ⌝ }
     ensures { λ r. ⌜ Counted (now (image .entry)) (now (source .entry)) (now (fragments .entry)) n nf (now (counts .entry)) r (now (counts .exit)) ⌝ }
 {
@@ -297,7 +354,14 @@ fn store(source: &mut [u64], counts: &[u64], n: u64)
 }
 
 // The counts of all groups, and their words.
-fn count_into(image: &[u8], source: &mut [u64], fragments: &[u64], n: u64, groups: u64, nf: u64) -> Check
+fn count_into(
+    image: &[u8],
+    source: &mut [u64],
+    fragments: &[u64],
+    n: u64,
+    groups: u64,
+    nf: u64,
+) -> Check
     requires { ⌜ Holding (now source) (now fragments) n nf × (groups ≤ 512) ⌝ }
     ensures { λ r. ⌜ CountedIn (now (image .entry)) (now (source .entry)) (now (fragments .entry)) n groups nf r (now (source .exit)) ⌝ }
 {
@@ -323,11 +387,19 @@ fn read_all(image: &[u8], source: &mut [u64], fragments: &mut [u64]) -> Read
     let met = walk(image, source, fragments);
     match met {
         Read::Refused { number, place } => Read::Refused { number, place },
-        Read::Done { items, groups, fragments: pieces } => {
+        Read::Done {
+            items,
+            groups,
+            fragments: pieces,
+        } => {
             let counted = count_into(image, source, fragments, items, groups, pieces);
             match counted {
                 Check::Refused { number, place } => Read::Refused { number, place },
-                Check::Fine => Read::Done { items, groups, fragments: pieces },
+                Check::Fine => Read::Done {
+                    items,
+                    groups,
+                    fragments: pieces,
+                },
             }
         }
     }
@@ -339,10 +411,16 @@ pub fn read(image: &[u8], source: &mut [u64], fragments: &mut [u64]) -> Read
         ≡ readInto (now (image .entry)) (now (source .entry)) (now (fragments .entry)) ⌝ }
 {
     if source.len() < 4096 {
-        return Read::Refused { number: 1, place: 0 };
+        return Read::Refused {
+            number: 1,
+            place: 0,
+        };
     }
     if fragments.len() < 3072 {
-        return Read::Refused { number: 1, place: 0 };
+        return Read::Refused {
+            number: 1,
+            place: 0,
+        };
     }
     let answer = read_all(image, source, fragments);
     if let Read::Refused { number, place } = answer {

@@ -77,45 +77,45 @@ module _ (s : List ℕ) where
   unfolding skip clipped joined
   skip-joined [] m e = absurd (short≢onto e)
   skip-joined (f ∷ fs) m e =
-    let o : ℕ = f .offset in
-    let k : ℕ = length (part (f .offset) (f .size) s) in
-    let x : List ℕ = part o k s in
-    let y : List ℕ = joined s (clipped s fs) in
-    let lx : length x ≡ k = ap length (part-same o (f .size) s) in
-    ⊎-elim
-    (λ h. let q : drop m (x ++ y) ≡ drop m x ++ y = drop-append-le m x y (omega arith) in
-        rw (onto-same (le-yes m k _ _ h refl ∙ e), q, drop-part m o k s))
-    (λ h. let a : skip (m - k) (clipped s fs) ≡ onto _ = le-no m k _ _ h refl ∙ e in
-        let j : m ≡ length x + (m - k) = omega arith in
-        skip-joined fs (m - k) a ∙ sym (ap (λ (z : ℕ). drop z (x ++ y)) j ∙ drop-append-add x y (m - k)))
-    (le-or-lt m k)
+      let o : ℕ = f .offset in
+      let k : ℕ = length (part (f .offset) (f .size) s) in
+      let x : List ℕ = part o k s in
+      let y : List ℕ = joined s (clipped s fs) in
+      let lx : length x ≡ k = ap length (part-same o (f .size) s) in
+      ⊎-elim
+      (λ h. let q : drop m (x ++ y) ≡ drop m x ++ y = drop-append-le m x y (omega arith) in
+      rw (onto-same (le-yes m k _ _ h refl ∙ e), q, drop-part m o k s))
+      (λ h. let a : skip (m - k) (clipped s fs) ≡ onto _ = le-no m k _ _ h refl ∙ e in
+      let j : m ≡ length x + (m - k) = omega arith in
+      skip-joined fs (m - k) a ∙ sym (ap (λ (z : ℕ). drop z (x ++ y)) j ∙ drop-append-add x y (m - k)))
+      (le-or-lt m k)
 
   pub skip-long : (fs : List Fragment) (m : ℕ) {gs : List Fragment} → skip m (clipped s fs) ≡ onto gs → m ≤ length (joined s (clipped s fs))
   unfolding skip clipped joined
   skip-long [] m e = absurd (short≢onto e)
   skip-long (f ∷ fs) m e =
-    let k : ℕ = length (part (f .offset) (f .size) s) in
-    let x : List ℕ = part (f .offset) k s in
-    let lx : length x ≡ k = ap length (part-same (f .offset) (f .size) s) in
-    let t = length-append x (joined s (clipped s fs)) in
-    ⊎-elim
-    (λ h. omega arith)
-    (λ h. let a : skip (m - k) (clipped s fs) ≡ onto _ = le-no m k _ _ h refl ∙ e in let i = skip-long fs (m - k) a in omega arith)
-    (le-or-lt m k)
+      let k : ℕ = length (part (f .offset) (f .size) s) in
+      let x : List ℕ = part (f .offset) k s in
+      let lx : length x ≡ k = ap length (part-same (f .offset) (f .size) s) in
+      let t = length-append x (joined s (clipped s fs)) in
+      ⊎-elim
+      (λ h. omega arith)
+      (λ h. let a : skip (m - k) (clipped s fs) ≡ onto _ = le-no m k _ _ h refl ∙ e in let i = skip-long fs (m - k) a in omega arith)
+      (le-or-lt m k)
 
   skip-few : (fs : List Fragment) (m : ℕ) → 0 < m → skip m (clipped s fs) ≡ short → length (joined s (clipped s fs)) < m
   unfolding skip clipped joined
   skip-few [] m z e = z
   skip-few (f ∷ fs) m z e =
-    let k : ℕ = length (part (f .offset) (f .size) s) in
-    let x : List ℕ = part (f .offset) k s in
-    let lx : length x ≡ k = ap length (part-same (f .offset) (f .size) s) in
-    let t = length-append x (joined s (clipped s fs)) in
-    ⊎-elim
-    (λ h. absurd (onto≢short (le-yes m k _ _ h refl ∙ e)))
-    (λ h. let a : skip (m - k) (clipped s fs) ≡ short = le-no m k _ _ h refl
-        ∙ e in let i = skip-few fs (m - k) (omega arith) a in omega arith)
-    (le-or-lt m k)
+      let k : ℕ = length (part (f .offset) (f .size) s) in
+      let x : List ℕ = part (f .offset) k s in
+      let lx : length x ≡ k = ap length (part-same (f .offset) (f .size) s) in
+      let t = length-append x (joined s (clipped s fs)) in
+      ⊎-elim
+      (λ h. absurd (onto≢short (le-yes m k _ _ h refl ∙ e)))
+      (λ h. let a : skip (m - k) (clipped s fs) ≡ short = le-no m k _ _ h refl
+      ∙ e in let i = skip-few fs (m - k) (omega arith) a in omega arith)
+      (le-or-lt m k)
 
 -- ---- what is ahead past some bytes, whatever the image
 pub skip-place : (fs : List Fragment) (m : ℕ) {gs : List Fragment} → skip m fs ≡ onto gs → (q : ℕ) → placeOf gs q ≡ placeOf fs (m + q)
@@ -125,14 +125,14 @@ skip-place (f ∷ fs) m e q =
     let k : ℕ = f .size in
     ⊎-elim
     (λ h. rw (onto-same [] (le-yes m k _ _ h refl ∙ e)) (⊎-elim
-        (λ l. let a : f .offset + m + q ≡ f .offset + (m + q) = omega arith in
-            sym (lt-yes _ _ _ _ l refl) ∙ a ∙ lt-yes _ _ _ _ (omega arith) refl)
-        (λ l. let a : q - (k - m) ≡ m + q - k = omega arith in
-            sym (lt-no _ _ _ _ l refl) ∙ rw a (lt-no _ _ _ _ (omega arith) refl))
-        (lt-or-le q (k - m))))
+    (λ l. let a : f .offset + m + q ≡ f .offset + (m + q) = omega arith in
+    sym (lt-yes _ _ _ _ l refl) ∙ a ∙ lt-yes _ _ _ _ (omega arith) refl)
+    (λ l. let a : q - (k - m) ≡ m + q - k = omega arith in
+    sym (lt-no _ _ _ _ l refl) ∙ rw a (lt-no _ _ _ _ (omega arith) refl))
+    (lt-or-le q (k - m))))
     (λ h. let a : skip (m - k) fs ≡ onto _ = le-no m k _ _ h refl ∙ e in
-        let j : m - k + q ≡ m + q - k = omega arith in
-        skip-place fs (m - k) a q ∙ rw j (lt-no _ _ _ _ (omega arith) refl))
+    let j : m - k + q ≡ m + q - k = omega arith in
+    skip-place fs (m - k) a q ∙ rw j (lt-no _ _ _ _ (omega arith) refl))
     (le-or-lt m k)
 
 pub skip-fewer : (fs : List Fragment) (m : ℕ) {gs : List Fragment} → skip m fs ≡ onto gs → length gs ≤ length fs
@@ -152,14 +152,14 @@ skip-skip (f ∷ fs) n m e =
     let k : ℕ = f .size in
     ⊎-elim
     (λ h. rw (onto-same [] (le-yes n k _ _ h refl ∙ e)) (⊎-elim
-        (λ l. let a : f .offset + n + m ≡ f .offset + (n + m) = omega arith in let b : k - n - m ≡ k - (n + m) = omega arith in
-            sym (le-yes _ _ _ _ l refl) ∙ rw (a, b) (le-yes _ _ _ _ (omega arith) refl))
-        (λ l. let a : m - (k - n) ≡ n + m - k = omega arith in
-            sym (le-no _ _ _ _ l refl) ∙ rw a (le-no _ _ _ _ (omega arith) refl))
-        (le-or-lt m (k - n))))
+    (λ l. let a : f .offset + n + m ≡ f .offset + (n + m) = omega arith in let b : k - n - m ≡ k - (n + m) = omega arith in
+    sym (le-yes _ _ _ _ l refl) ∙ rw (a, b) (le-yes _ _ _ _ (omega arith) refl))
+    (λ l. let a : m - (k - n) ≡ n + m - k = omega arith in
+    sym (le-no _ _ _ _ l refl) ∙ rw a (le-no _ _ _ _ (omega arith) refl))
+    (le-or-lt m (k - n))))
     (λ h. let a : skip (n - k) fs ≡ onto _ = le-no n k _ _ h refl ∙ e in
-        let j : n - k + m ≡ n + m - k = omega arith in
-        skip-skip fs (n - k) m a ∙ rw j (le-no _ _ _ _ (omega arith) refl))
+    let j : n - k + m ≡ n + m - k = omega arith in
+    skip-skip fs (n - k) m a ∙ rw j (le-no _ _ _ _ (omega arith) refl))
     (le-or-lt n k)
 
 -- in the image nothing is left out
@@ -176,10 +176,10 @@ module _ (s ws : List ℕ) (at p l m : ℕ) {here : ℕ} (is : here ≡ length (
   pub skip-stay : m ≤ here → onto (ahead s ws at (p + m) (here - m)) ≡ skip m (ahead s ws at p l)
   unfolding ahead skip
   skip-stay h =
-    let k = part-high p l s in
-    let e : length (part (p + m) (here - m) s) ≡ length (part p l s) - m = rw is
-        (part-all (p + m) (length (part p l s) - m) s (omega arith)) in
-    rw e (le-yes _ _ _ _ (rw is at h) refl)
+      let k = part-high p l s in
+      let e : length (part (p + m) (here - m) s) ≡ length (part p l s) - m = rw is
+      (part-all (p + m) (length (part p l s) - m) s (omega arith)) in
+      rw e (le-yes _ _ _ _ (rw is at h) refl)
 
   pub skip-move : {v : Skipped} {o z : ℕ} → skip m (ahead s ws at p l) ≡ v → here < m → at + 3 ≤ length ws → o ≡ getD ws at 0
       → z ≡ getD ws (at + 1) 0
@@ -197,29 +197,29 @@ module _ (s ws : List ℕ) (at p l m : ℕ) {here : ℕ} (is : here ≡ length (
   pub byte-here : m < here → getD s (p + m) 0 ≡ v
   unfolding part
   byte-here h =
-    let low = part-low p l s in
-    let e : getD (part p l s ++ joined s (fragmentsFrom ws at)) m 0 ≡ getD (part p l s) m 0 = List·getD-append (part p l s)
-        (joined s (fragmentsFrom ws at)) 0 m (omega arith) in
-    sym (getD-drop p s m 0) ∙ sym (getD-take l (drop p s) m 0 (omega arith)) ∙ sym e ∙ (rw (joined-ahead s ws at p l) at rest)
+      let low = part-low p l s in
+      let e : getD (part p l s ++ joined s (fragmentsFrom ws at)) m 0 ≡ getD (part p l s) m 0 = List·getD-append (part p l s)
+      (joined s (fragmentsFrom ws at)) 0 m (omega arith) in
+      sym (getD-drop p s m 0) ∙ sym (getD-take l (drop p s) m 0 (omega arith)) ∙ sym e ∙ (rw (joined-ahead s ws at p l) at rest)
 
   pub byte-move : {o z : ℕ} → here ≤ m → at + 3 ≤ length ws → o ≡ getD ws at 0 → z ≡ getD ws (at + 1) 0
       → getD (joined s (ahead s ws (at + 3) o z)) (m - here) 0 ≡ v
   unfolding joined
   byte-move h i x y =
-    let j : m ≡ length (part p l s) + (m - here) = omega arith in
-    let e = getD-append-add (part p l s) (joined s (fragmentsFrom ws at)) (m - here) 0 in
-    let r : getD (part p l s ++ joined s (fragmentsFrom ws at)) (length (part p l s) + (m - here)) 0 ≡ v = rw (← j)
-        (rw (joined-ahead s ws at p l) at rest) in
-    rw (x, y, joined-ahead s ws (at + 3) (getD ws at 0) (getD ws (at + 1) 0)) (rw (from-more ws at i) at (sym e ∙ r))
+      let j : m ≡ length (part p l s) + (m - here) = omega arith in
+      let e = getD-append-add (part p l s) (joined s (fragmentsFrom ws at)) (m - here) 0 in
+      let r : getD (part p l s ++ joined s (fragmentsFrom ws at)) (length (part p l s) + (m - here)) 0 ≡ v = rw (← j)
+      (rw (joined-ahead s ws at p l) at rest) in
+      rw (x, y, joined-ahead s ws (at + 3) (getD ws at 0) (getD ws (at + 1) 0)) (rw (from-more ws at i) at (sym e ∙ r))
 
   pub byte-over : here ≤ m → length ws < at + 3 → 0 ≡ v
   unfolding joined
   byte-over h i =
-    let j : m ≡ length (part p l s) + (m - here) = omega arith in
-    let e = getD-append-add (part p l s) (joined s (fragmentsFrom ws at)) (m - here) 0 in
-    let r : getD (part p l s ++ joined s (fragmentsFrom ws at)) (length (part p l s) + (m - here)) 0 ≡ v = rw (← j)
-        (rw (joined-ahead s ws at p l) at rest) in
-    rw (from-none ws at i) at (sym e ∙ r)
+      let j : m ≡ length (part p l s) + (m - here) = omega arith in
+      let e = getD-append-add (part p l s) (joined s (fragmentsFrom ws at)) (m - here) 0 in
+      let r : getD (part p l s ++ joined s (fragmentsFrom ws at)) (length (part p l s) + (m - here)) 0 ≡ v = rw (← j)
+      (rw (joined-ahead s ws at p l) at rest) in
+      rw (from-none ws at i) at (sym e ∙ r)
 
 -- how much of the bytes left lies in the image
 pub inside-none : (p l : ℕ) (s : List ℕ) → length s < p → 0 ≡ length (part p l s)
@@ -252,4 +252,5 @@ ahead-counts s ws at p l =
     record {
       long = λ m e. skip-long s (f ∷ fragmentsFrom ws at) m e;
       few = λ m e. ahead-few s ws at p l m e;
-      drops = λ m e. skip-joined s (f ∷ fragmentsFrom ws at) m e }
+      drops = λ m e. skip-joined s (f ∷ fragmentsFrom ws at) m e;
+    }

@@ -40,8 +40,11 @@ module _ (b : Bool) (ws : List ℕ) (i n : ℕ) {m : ℕ} (rest : n + bytesOf b 
   pub bytes-next : i + 3 ≤ length ws
       → n + ownBytes b (kindOf (getD ws (i + 2) 0)) (getD ws (i + 1) 0) + bytesOf b (fragmentsFrom ws (i + 3)) ≡ m
   bytes-next h =
-    add-assoc n _ _ ∙ (rw (from-more ws i h, bytes-cons b (getD ws i 0) (getD ws (i + 1) 0) (kindOf (getD ws (i + 2) 0))
-        (fragmentsFrom ws (i + 3))) at rest)
+      add-assoc n _ _ ∙ (rw (
+        from-more ws i h,
+        bytes-cons b (getD ws i 0) (getD ws (i + 1) 0) (kindOf (getD ws (i + 2) 0))
+            (fragmentsFrom ws (i + 3)),
+      ) at rest)
 
   pub bytes-end : length ws < i + 3 → n ≡ m
   bytes-end h = sym (add-zero n) ∙ (rw (from-none ws i h, bytes-nil b) at rest)
@@ -89,9 +92,9 @@ module _ (s : List ℕ) (d g : ℕ) (fs : List Fragment) where
       → x ≡ quotient a (recordSize s d g dt) → y ≡ quotient b (recordSize s d g dv) → r ≡ within64 d (x + y) → r ≡ countOne s d g fs
   unfolding countOne sortedCount within64
   one-count e q m n k =
-    let v = within-ok d _ e in
-    let w = within-ok d _ q in
-    lt-no _ _ _ _ (v .0) (lt-no _ _ _ _ (w .0) (k ∙ rw (m, n, ← v .1, ← w .1)))
+      let v = within-ok d _ e in
+      let w = within-ok d _ q in
+      lt-no _ _ _ _ (v .0) (lt-no _ _ _ _ (w .0) (k ∙ rw (m, n, ← v .1, ← w .1)))
 
 -- ---- a fragment's own bytes
 kind-dv : (k : Kind) → true ≡ isDV k → k ≡ dv

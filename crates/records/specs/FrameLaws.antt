@@ -64,18 +64,18 @@ module _ (d : List ℕ) (n i : ℕ) {x : ℕ} (is : x ≡ leAt (n - i) d i) (h :
   pub number-big : 0 < i → 72057594037927935 < x → none ≡ numeral (leAt n d 0)
   unfolding numeral
   number-big z l =
-    let a = step-down d n i z h in
-    let g : leAt (n - (i - 1)) d (0 + (i - 1)) ≤ leAt (i - 1 + (n - (i - 1))) d 0 = grows d (i - 1) 0 (n - (i - 1)) in
-    let e : i - 1 + (n - (i - 1)) ≡ n = omega arith in
-    let f : leAt (n - (i - 1)) d (i - 1) ≤ leAt n d 0 = rw (zero-add (i - 1), e) at g in
-    lt-yes _ _ _ _ (omega arith) refl
+      let a = step-down d n i z h in
+      let g : leAt (n - (i - 1)) d (0 + (i - 1)) ≤ leAt (i - 1 + (n - (i - 1))) d 0 = grows d (i - 1) 0 (n - (i - 1)) in
+      let e : i - 1 + (n - (i - 1)) ≡ n = omega arith in
+      let f : leAt (n - (i - 1)) d (i - 1) ≤ leAt n d 0 = rw (zero-add (i - 1), e) at g in
+      lt-yes _ _ _ _ (omega arith) refl
 
   pub number-done : i ≡ 0 → x ≤ most64 → value x ≡ numeral (leAt n d 0)
   unfolding numeral
   number-done z l =
-    let a : n - 0 ≡ n = omega arith in
-    let e : x ≡ leAt n d 0 = rw (z, a) at is in
-    rw (← e) (lt-no _ _ _ _ l refl)
+      let a : n - 0 ≡ n = omega arith in
+      let e : x ≡ leAt n d 0 = rw (z, a) at is in
+      rw (← e) (lt-no _ _ _ _ l refl)
 
 pub number-start : (d : List ℕ) (n : ℕ) → 0 ≡ leAt (n - n) d n
 unfolding leAt
@@ -196,18 +196,23 @@ module _ (s : List ℕ) (n : ℕ) (gs : List ℕ) (fs : List Fragment) (t : Coun
         let h = t .long n e in
         let f : leAt 4 (joined s hs) 0 ≡ leAt 4 (joined s fs) n = rw d (le-drop 4 n (joined s fs) 0 ∙ rw add-zero) in
         ⊎-elim
-        (λ b. rw (← le-yes 4 (length (joined s hs)) (value (4 + leAt 4 (joined s hs) 0)) none (omega arith) refl, f,
-            ← le-yes (n + 4) (length (joined s fs)) (ofBytes (joined s fs) n k (4 + leAt 4 (joined s fs) n)) broken b refl)
-                (sized k (4 + leAt 4 (joined s fs) n)))
-        (λ b. rw (← le-no 4 (length (joined s hs)) (value (4 + leAt 4 (joined s hs) 0)) none (omega arith) refl,
-            ← le-no (n + 4) (length (joined s fs)) (ofBytes (joined s fs) n k (4 + leAt 4 (joined s fs) n)) broken b refl))
+        (λ b. rw (
+          ← le-yes 4 (length (joined s hs)) (value (4 + leAt 4 (joined s hs) 0)) none (omega arith) refl,
+          f,
+          ← le-yes (n + 4) (length (joined s fs)) (ofBytes (joined s fs) n k (4 + leAt 4 (joined s fs) n)) broken b refl,
+        )
+        (sized k (4 + leAt 4 (joined s fs) n)))
+        (λ b. rw (
+          ← le-no 4 (length (joined s hs)) (value (4 + leAt 4 (joined s hs) 0)) none (omega arith) refl,
+          ← le-no (n + 4) (length (joined s fs)) (ofBytes (joined s fs) n k (4 + leAt 4 (joined s fs) n)) broken b refl,
+        ))
         (le-or-lt (n + 4) (length (joined s fs)))
 
     by-kind : (k g : ℕ) (b : Bool)
         → onNumeral (pick b (ifLe 4 (length (joined s hs)) (value (4 + leAt 4 (joined s hs) 0)) none)
-            (value (samples s g + invalBytes s g))) (λ m. past (skip m hs) k m)
+        (value (samples s g + invalBytes s g))) (λ m. past (skip m hs) k m)
         ≡ onFrame (pick b (ifLe (n + 4) (length (joined s fs)) (ofBytes (joined s fs) n k (4 + leAt 4 (joined s fs) n)) broken)
-            (ofBytes (joined s fs) n k (samples s g + invalBytes s g))) n fs
+        (ofBytes (joined s fs) n k (samples s g + invalBytes s g))) n fs
     by-kind k g true = stored k
     by-kind k g false = sized k (samples s g + invalBytes s g)
 

@@ -55,8 +55,8 @@ module _ (s : List ℕ) (n : ℕ) (gs d : List ℕ) where
   sized-fits : (k m : ℕ) {r : Frame} → k < length gs → ofBytes d n k m ≡ framed r → Fits n (length gs) (length d) r
   unfolding ofBytes
   sized-fits k m h e =
-    let q = le-first _ _ _ _ e broken≢framed in
-    rw (← same-frame (q .1)) (record { group-in = h; id-in = omega arith; size-in = q .0 })
+      let q = le-first _ _ _ _ e broken≢framed in
+      rw (← same-frame (q .1)) (record { group-in = h; id-in = omega arith; size-in = q .0 })
 
   kind-fits : (k g : ℕ) (b : Bool) {r : Frame} → k < length gs
       → pick b (ifLe (n + 4) (length d) (ofBytes d n k (4 + leAt 4 d n)) broken) (ofBytes d n k (samples s g + invalBytes s g)) ≡ framed r
@@ -95,8 +95,14 @@ module _ (s : List ℕ) (n : ℕ) (gs : List ℕ) (hs : List Fragment) where
   on-past : (r : Frame) (v : Skipped) {k m : ℕ} {bs : List Fragment} → frameAt s n gs (joined s hs) ≡ framed r → skip (r .size) hs ≡ v
       → past v (r .group) (r .size - n) ≡ stepped k m bs → Stepping s n gs hs k bs
   on-past r short f q e = absurd (stuck≢stepped e)
-  on-past r (onto cs) f q e = record { frame = r; is = f; fits = frame-fits s n gs (joined s hs) f; group-is = stepped-group e; on = q
-      ∙ stepped-on e }
+  on-past r (onto cs) f q e = record {
+    frame = r;
+    is = f;
+    fits = frame-fits s n gs (joined s hs) f;
+    group-is = stepped-group e;
+    on = q
+        ∙ stepped-on e;
+  }
 
   on-frame : (v : Framed) {k m : ℕ} {bs : List Fragment} → frameAt s n gs (joined s hs) ≡ v → onFrame v n hs ≡ stepped k m bs
       → Stepping s n gs hs k bs
@@ -123,8 +129,8 @@ module _ (s : List ℕ) (n : ℕ) (gs : List ℕ) (hs : List Fragment) where
 -- ---- the frames, one at a time
 frames-open : (fuel : ℕ) (s : List ℕ) (n : ℕ) (gs : List ℕ) (fs : List Fragment) (d : List ℕ) (p : ℕ) (done : List Frame) → 0 < fuel
     → framesFrom fuel s n gs fs d p done ≡ ifEq (length d) 0 (ok done)
-      (onFramed (frameAt s n gs d) (refused 15 (placeOf fs p))
-          (λ r. framesFrom (fuel - 1) s n gs fs (drop (r .size) d) (p + r .size) (done ++ (r ∷ []))))
+    (onFramed (frameAt s n gs d) (refused 15 (placeOf fs p))
+    (λ r. framesFrom (fuel - 1) s n gs fs (drop (r .size) d) (p + r .size) (done ++ (r ∷ []))))
 unfolding framesFrom
 frames-open zero s n gs fs d p done h = absurd (omega arith)
 frames-open (suc fuel) s n gs fs d p done h = simp sub-one
@@ -211,54 +217,56 @@ read-begin s n gs ws e {w₀} r m c =
       place = λ k. empty-place s ws 0 0 0 none k ∙ rw (from-start ws, zero-add k) (place-clipped s fs k r);
       few = omega arith;
       counts = rw (tallies-none (length gs) 0, c) (sym (blit-blit (replicate (length gs) 0) (replicate (length gs) 0) 0 e refl));
-      same = refl }
+      same = refl;
+    }
 
 module _ (s : List ℕ) (n : ℕ) (gs ws w₀ : List ℕ) (at p l : ℕ) (w : List ℕ) (t : Reading s n gs ws w₀ at p l w) where
   -- a position without bytes: the next fragment, or the end
   pub read-move : {here o z : ℕ} → here ≡ length (part p l s) → here ≡ 0 → at + 3 ≤ length ws → o ≡ getD ws at 0 → z ≡ getD ws (at + 1) 0
       → Reading s n gs ws w₀ (at + 3) o z w
   read-move {here} {o} {z} e q h x y =
-    let none : length (part p l s) ≡ 0 = sym e ∙ q in
-    let j : joined s (ahead s ws at p l) ≡ joined s (ahead s ws (at + 3) o z) = empty-joined s ws at p l none ∙ joined-more s ws at h x y in
-    record {
-      done = t .done;
-      passed = t .passed;
-      fuel = t .fuel;
-      enough = rw j at (t .enough);
-      rest = rw j at (t .rest);
-      place = λ k. sym (rw (clipped-more s ws at h x y) at (empty-place s ws at p l none k)) ∙ t .place k;
-      few = rw j at (t .few);
-      counts = t .counts;
-      same = t .same }
+      let none : length (part p l s) ≡ 0 = sym e ∙ q in
+      let j : joined s (ahead s ws at p l) ≡ joined s (ahead s ws (at + 3) o z) = empty-joined s ws at p l none ∙ joined-more s ws at h x y in
+      record {
+        done = t .done;
+        passed = t .passed;
+        fuel = t .fuel;
+        enough = rw j at (t .enough);
+        rest = rw j at (t .rest);
+        place = λ k. sym (rw (clipped-more s ws at h x y) at (empty-place s ws at p l none k)) ∙ t .place k;
+        few = rw j at (t .few);
+        counts = t .counts;
+        same = t .same;
+      }
 
   pub move-less : {here o z : ℕ} → here ≡ length (part p l s) → here ≡ 0 → at + 3 ≤ length ws → o ≡ getD ws at 0 → z ≡ getD ws (at + 1) 0
       → length (joined s (ahead s ws (at + 3) o z)) + length (ahead s ws (at + 3) o z) < length (joined s (ahead s ws at p l)) + length
-          (ahead s ws at p l)
+      (ahead s ws at p l)
   move-less {here} {o} {z} e q h x y =
-    let none : length (part p l s) ≡ 0 = sym e ∙ q in
-    let j : length (joined s (ahead s ws at p l)) ≡ length (joined s (ahead s ws (at + 3) o z)) =
-          ap length (empty-joined s ws at p l none ∙ joined-more s ws at h x y) in
-    let c : length (ahead s ws at p l) ≡ suc (length (ahead s ws (at + 3) o z)) = empty-length s ws at p l none
-        ∙ ap (λ (f : List Fragment). suc (length f)) (clipped-more s ws at h x y) in
-    omega arith
+      let none : length (part p l s) ≡ 0 = sym e ∙ q in
+      let j : length (joined s (ahead s ws at p l)) ≡ length (joined s (ahead s ws (at + 3) o z)) =
+      ap length (empty-joined s ws at p l none ∙ joined-more s ws at h x y) in
+      let c : length (ahead s ws at p l) ≡ suc (length (ahead s ws (at + 3) o z)) = empty-length s ws at p l none
+      ∙ ap (λ (f : List Fragment). suc (length f)) (clipped-more s ws at h x y) in
+      omega arith
 
   -- the words, whatever was counted, over those before the first were set to zero
   over : (e : List ℕ) → w₀ ≡ blit 0 (replicate (length gs) 0) e → w ≡ blit 0 (tallies (length gs) 0 (t .done)) e
   over e c =
-    t .counts ∙ rw c (blit-blit (replicate (length gs) 0) (tallies (length gs) 0 (t .done)) 0 e
-    (length-replicate (length gs) 0 ∙ sym (length-tallies (length gs) 0 (t .done))))
+      t .counts ∙ rw c (blit-blit (replicate (length gs) 0) (tallies (length gs) 0 (t .done)) 0 e
+      (length-replicate (length gs) 0 ∙ sym (length-tallies (length gs) 0 (t .done))))
 
   pub read-end : (e : List ℕ) {here : ℕ} → w₀ ≡ blit 0 (replicate (length gs) 0) e → here ≡ length (part p l s) → here ≡ 0
       → length ws < at + 3
       → laid fine w ≡ laidCounts (tallied (length gs) (frames s n gs (fragmentsOf ws))) (length gs) e
   read-end e c m q h =
-    let none : length (part p l s) ≡ 0 = sym m ∙ q in
-    let j : length (joined s (ahead s ws at p l)) ≡ 0 = ap length (empty-joined s ws at p l none ∙ ap (joined s) (from-none ws at h))
-        ∙ joined-none s in
-    let o : frames s n gs (fragmentsOf ws) ≡ ok (t .done) =
-          sym (t .rest) ∙ frames-open (t .fuel) s n gs (fragmentsOf ws) (joined s (ahead s ws at p l)) (t .passed) (t .done) (omega arith)
-              ∙ sym (eq-yes _ _ _ _ j refl) in
-    rw o (ap (laid fine) (over e c))
+      let none : length (part p l s) ≡ 0 = sym m ∙ q in
+      let j : length (joined s (ahead s ws at p l)) ≡ 0 = ap length (empty-joined s ws at p l none ∙ ap (joined s) (from-none ws at h))
+      ∙ joined-none s in
+      let o : frames s n gs (fragmentsOf ws) ≡ ok (t .done) =
+      sym (t .rest) ∙ frames-open (t .fuel) s n gs (fragmentsOf ws) (joined s (ahead s ws at p l)) (t .passed) (t .done) (omega arith)
+      ∙ sym (eq-yes _ _ _ _ j refl) in
+      rw o (ap (laid fine) (over e c))
 
   -- a record that is no record
   pub read-broken : (e : List ℕ) {here : ℕ} {v : List ℕ} → w₀ ≡ blit 0 (replicate (length gs) 0) e → here ≡ length (part p l s)
@@ -266,17 +274,17 @@ module _ (s : List ℕ) (n : ℕ) (gs ws w₀ : List ℕ) (at p l : ℕ) (w : Li
       → stepAt s n gs (ahead s ws at p l) ≡ stuck → v ≡ blit 0 (replicate (length gs) 0) w
       → laid (refused 15 p) v ≡ laidCounts (tallied (length gs) (frames s n gs (fragmentsOf ws))) (length gs) e
   read-broken e {here} {v} c m q k x =
-    let some : length (part p l s) ≡ 0 → ⊥ = λ z. q (m ∙ z) in
-    let j = some-joined s ws at p l in
-    let b : frameAt s n gs (joined s (ahead s ws at p l)) ≡ broken = stuck-broken s n gs (ahead s ws at p l) (ahead-counts s ws at p l) k in
-    let y : placeOf (fragmentsOf ws) (t .passed) ≡ p = rw (add-zero (t .passed)) at (sym (t .place 0)) ∙ some-place s ws at p l some in
-    let o : frames s n gs (fragmentsOf ws) ≡ refused 15 p =
-          sym (t .rest) ∙ frames-open (t .fuel) s n gs (fragmentsOf ws) (joined s (ahead s ws at p l)) (t .passed) (t .done) (omega arith)
-          ∙ sym (eq-no _ _ _ _ (λ z. some (omega arith)) refl) ∙ rw (b, y) in
-    let d : v ≡ blit 0 (replicate (length gs) 0) e =
-          x ∙ rw (over e c) (blit-blit (tallies (length gs) 0 (t .done)) (replicate (length gs) 0) 0 e
-          (length-tallies (length gs) 0 (t .done) ∙ sym (length-replicate (length gs) 0))) in
-    rw o (ap (laid (refused 15 p)) d)
+      let some : length (part p l s) ≡ 0 → ⊥ = λ z. q (m ∙ z) in
+      let j = some-joined s ws at p l in
+      let b : frameAt s n gs (joined s (ahead s ws at p l)) ≡ broken = stuck-broken s n gs (ahead s ws at p l) (ahead-counts s ws at p l) k in
+      let y : placeOf (fragmentsOf ws) (t .passed) ≡ p = rw (add-zero (t .passed)) at (sym (t .place 0)) ∙ some-place s ws at p l some in
+      let o : frames s n gs (fragmentsOf ws) ≡ refused 15 p =
+      sym (t .rest) ∙ frames-open (t .fuel) s n gs (fragmentsOf ws) (joined s (ahead s ws at p l)) (t .passed) (t .done) (omega arith)
+      ∙ sym (eq-no _ _ _ _ (λ z. some (omega arith)) refl) ∙ rw (b, y) in
+      let d : v ≡ blit 0 (replicate (length gs) 0) e =
+      x ∙ rw (over e c) (blit-blit (tallies (length gs) 0 (t .done)) (replicate (length gs) 0) 0 e
+      (length-tallies (length gs) 0 (t .done) ∙ sym (length-replicate (length gs) 0))) in
+      rw o (ap (laid (refused 15 p)) d)
 
   -- a record
   module _ (at' p' l' : ℕ) {k m : ℕ} (id : 0 < n) (e : stepAt s n gs (ahead s ws at p l) ≡ stepped k m (ahead s ws at' p' l')) where
@@ -291,44 +299,45 @@ module _ (s : List ℕ) (n : ℕ) (gs ws w₀ : List ℕ) (at p l : ℕ) (w : Li
 
     pub record-low : getD w k 0 < most64
     record-low =
-      let a = tallied-low (length gs) (t .done) (step .frame) w₀ (t .counts) (step .fits .group-in) in
-      let b : getD w (step .frame .group) 0 ≡ getD w k 0 = rw (step .group-is) in
-      let f = t .few in
-      let g = step .fits .id-in in
-      let h = step .fits .size-in in
-      omega arith
+        let a = tallied-low (length gs) (t .done) (step .frame) w₀ (t .counts) (step .fits .group-in) in
+        let b : getD w (step .frame .group) 0 ≡ getD w k 0 = rw (step .group-is) in
+        let f = t .few in
+        let g = step .fits .id-in in
+        let h = step .fits .size-in in
+        omega arith
 
     pub record-less : length (joined s (ahead s ws at' p' l')) + length (ahead s ws at' p' l') < length (joined s (ahead s ws at p l)) +
         length (ahead s ws at p l)
     record-less =
-      let a = past-length in
-      let b = skip-fewer (ahead s ws at p l) (step .frame .size) (step .on) in
-      let g = step .fits .id-in in
-      let h = step .fits .size-in in
-      omega arith
+        let a = past-length in
+        let b = skip-fewer (ahead s ws at p l) (step .frame .size) (step .on) in
+        let g = step .fits .id-in in
+        let h = step .fits .size-in in
+        omega arith
 
     pub read-record : {v : List ℕ} → v ≡ set w k (getD w k 0 + 1) → Reading s n gs ws w₀ at' p' l' v
     read-record {v} x =
-      let r : Frame = step .frame in
-      let d : List ℕ = joined s (ahead s ws at p l) in
-      let z : ℕ = r .size in
-      let a : length (joined s (ahead s ws at' p' l')) ≡ length d - z = past-length in
-      let g = step .fits .id-in in
-      let h = step .fits .size-in in
-      let f = t .few in
-      let u = t .enough in
-      let some : length d ≡ 0 → ⊥ = λ y. omega arith in
-      let o : framesFrom (t .fuel - 1) s n gs (fragmentsOf ws) (drop z d) (t .passed + z) (t .done ++ (r ∷ [])) ≡ frames s n gs
-          (fragmentsOf ws) =
-            rw (step .is) at (eq-no _ _ _ _ some refl
-            ∙ sym (frames-open (t .fuel) s n gs (fragmentsOf ws) d (t .passed) (t .done) (omega arith)) ∙ t .rest) in
-      record {
-        done = t .done ++ (r ∷ []);
-        passed = t .passed + z;
-        fuel = t .fuel - 1;
-        enough = omega arith;
-        rest = rw past-is o;
-        place = λ q. skip-place (ahead s ws at p l) z (step .on) q ∙ t .place (z + q) ∙ rw (add-assoc (t .passed) z q);
-        few = let i = length-append (t .done) (r ∷ []) in omega arith;
-        counts = tallied-up (length gs) (t .done) r w₀ (t .counts) (step .fits .group-in) (rw (step .group-is) x);
-        same = ap length x ∙ length-set w k (getD w k 0 + 1) ∙ t .same }
+        let r : Frame = step .frame in
+        let d : List ℕ = joined s (ahead s ws at p l) in
+        let z : ℕ = r .size in
+        let a : length (joined s (ahead s ws at' p' l')) ≡ length d - z = past-length in
+        let g = step .fits .id-in in
+        let h = step .fits .size-in in
+        let f = t .few in
+        let u = t .enough in
+        let some : length d ≡ 0 → ⊥ = λ y. omega arith in
+        let o : framesFrom (t .fuel - 1) s n gs (fragmentsOf ws) (drop z d) (t .passed + z) (t .done ++ (r ∷ [])) ≡ frames s n gs
+        (fragmentsOf ws) =
+        rw (step .is) at (eq-no _ _ _ _ some refl
+        ∙ sym (frames-open (t .fuel) s n gs (fragmentsOf ws) d (t .passed) (t .done) (omega arith)) ∙ t .rest) in
+        record {
+          done = t .done ++ (r ∷ []);
+          passed = t .passed + z;
+          fuel = t .fuel - 1;
+          enough = omega arith;
+          rest = rw past-is o;
+          place = λ q. skip-place (ahead s ws at p l) z (step .on) q ∙ t .place (z + q) ∙ rw (add-assoc (t .passed) z q);
+          few = let i = length-append (t .done) (r ∷ []) in omega arith;
+          counts = tallied-up (length gs) (t .done) r w₀ (t .counts) (step .fits .group-in) (rw (step .group-is) x);
+          same = ap length x ∙ length-set w k (getD w k 0 + 1) ∙ t .same;
+        }

@@ -120,26 +120,26 @@ module _ (n : ℕ) (pre : List Fragment) (c st : ℕ) (b : Begun n pre c st) whe
   pub run-whole : c ≡ 0 → fine ≡ runWhole n pre
   unfolding runWhole remainder
   run-whole z =
-    ⊎-elim (λ e. eq-yes _ _ _ _ e refl)
-    (λ l. let m : sizeOf pre % n ≡ 0 = eq-no _ _ _ _ (λ e. omega arith) refl ∙ sym (b .is) ∙ z in
-        eq-no _ _ _ _ (λ e. omega arith) (eq-yes _ _ _ _ m refl))
-    (eq-zero-or-pos n)
+      ⊎-elim (λ e. eq-yes _ _ _ _ e refl)
+      (λ l. let m : sizeOf pre % n ≡ 0 = eq-no _ _ _ _ (λ e. omega arith) refl ∙ sym (b .is) ∙ z in
+      eq-no _ _ _ _ (λ e. omega arith) (eq-yes _ _ _ _ m refl))
+      (eq-zero-or-pos n)
 
   pub run-broken : 0 < c → refused 15 st ≡ runWhole n pre
   unfolding runWhole remainder
   run-broken z =
-    ⊎-elim (λ e. let m : 0 ≡ c = eq-yes _ _ _ _ e refl ∙ sym (b .is) in absurd (omega arith))
-    (λ l. let m : sizeOf pre % n ≡ c = eq-no _ _ _ _ (λ e. omega arith) refl ∙ sym (b .is) in
-        let r : refused 15 st ≡ refused 15 (placeOf pre (sizeOf pre - sizeOf pre % n)) = rw (m, b .starts z) in
-        eq-no _ _ _ _ (λ e. omega arith) (eq-no _ _ _ _ (λ e. omega arith) r))
-    (eq-zero-or-pos n)
+      ⊎-elim (λ e. let m : 0 ≡ c = eq-yes _ _ _ _ e refl ∙ sym (b .is) in absurd (omega arith))
+      (λ l. let m : sizeOf pre % n ≡ c = eq-no _ _ _ _ (λ e. omega arith) refl ∙ sym (b .is) in
+      let r : refused 15 st ≡ refused 15 (placeOf pre (sizeOf pre - sizeOf pre % n)) = rw (m, b .starts z) in
+      eq-no _ _ _ _ (λ e. omega arith) (eq-no _ _ _ _ (λ e. omega arith) r))
+      (eq-zero-or-pos n)
 
 remainder-add : (n x z : ℕ) → remainder n (remainder n x + z) ≡ remainder n (x + z)
 unfolding remainder
 remainder-add n x z =
     ⊎-elim (λ e. sym (eq-yes _ _ _ _ e refl) ∙ eq-yes _ _ _ _ e refl)
     (λ l. let d : n ≡ 0 → ⊥ = λ e. omega arith in
-        sym (eq-no _ _ _ _ d refl) ∙ rw (← eq-no n 0 0 (x % n) d refl) (mod-add-mod x n z ∙ eq-no _ _ _ _ d refl))
+    sym (eq-no _ _ _ _ d refl) ∙ rw (← eq-no n 0 0 (x % n) d refl) (mod-add-mod x n z ∙ eq-no _ _ _ _ d refl))
     (eq-zero-or-pos n)
 
 -- a remainder over z began before the last z bytes
@@ -148,10 +148,10 @@ unfolding remainder
 remainder-over n c z small h =
     ⊎-elim (λ e. let m : 0 ≡ ifEq n 0 0 ((c + z) % n) = eq-yes _ _ _ _ e refl in absurd (omega arith))
     (λ l. let m : (c + z) % n ≡ ifEq n 0 0 ((c + z) % n) = eq-no _ _ _ _ (λ e. omega arith) refl in
-        let b = small l in
-        ⊎-elim (λ q. sym m ∙ mod-eq-of-lt q)
-        (λ q. let f = mod-eq-sub-mod q in let u = mod-le (c + z - n) n in absurd (omega arith))
-        (lt-or-le (c + z) n))
+    let b = small l in
+    ⊎-elim (λ q. sym m ∙ mod-eq-of-lt q)
+    (λ q. let f = mod-eq-sub-mod q in let u = mod-le (c + z - n) n in absurd (omega arith))
+    (lt-or-le (c + z) n))
     (eq-zero-or-pos n)
 
 remainder-small : (n x : ℕ) → 0 < n → remainder n x < n
@@ -168,28 +168,29 @@ remainder-le n x =
 module _ (n : ℕ) (pre : List Fragment) (c st : ℕ) (b : Begun n pre c st) (o z : ℕ) (k : Kind) (c' : ℕ) (e : c' ≡ remainder n (c + z)) where
   starts-before : z < c' → placeOf (pre ++ (frag o z k ∷ [])) (sizeOf pre + z - c') ≡ st
   starts-before q =
-    let v = b .is in
-    let u = remainder-le n (sizeOf pre) in
-    let small : 0 < n → c < n = λ l. let w = remainder-small n (sizeOf pre) l in omega arith in
-    let m : c' ≡ c + z = e ∙ remainder-over n c z small (omega arith) in
-    let p : sizeOf pre + z - c' ≡ sizeOf pre - c = omega arith in
-    let low : sizeOf pre - c < sizeOf pre = omega arith in
-    let some : 0 < c = omega arith in
-    rw p (place-before pre (frag o z k) (sizeOf pre - c) low ∙ b .starts some)
+      let v = b .is in
+      let u = remainder-le n (sizeOf pre) in
+      let small : 0 < n → c < n = λ l. let w = remainder-small n (sizeOf pre) l in omega arith in
+      let m : c' ≡ c + z = e ∙ remainder-over n c z small (omega arith) in
+      let p : sizeOf pre + z - c' ≡ sizeOf pre - c = omega arith in
+      let low : sizeOf pre - c < sizeOf pre = omega arith in
+      let some : 0 < c = omega arith in
+      rw p (place-before pre (frag o z k) (sizeOf pre - c) low ∙ b .starts some)
 
   starts-in : 0 < c' → c' ≤ z → placeOf (pre ++ (frag o z k ∷ [])) (sizeOf pre + z - c') ≡ o + (z - c')
   starts-in l q =
-    let p : sizeOf pre + z - c' ≡ sizeOf pre + (z - c') = omega arith in
-    let low : z - c' < z = omega arith in
-    rw p (place-in pre (frag o z k) (z - c') low)
+      let p : sizeOf pre + z - c' ≡ sizeOf pre + (z - c') = omega arith in
+      let low : z - c' < z = omega arith in
+      rw p (place-in pre (frag o z k) (z - c') low)
 
   -- a fragment more in the run: its last record starts in it, or where it started before
   pub begun-more : {st' : ℕ} → (c' ≤ z → st' ≡ o + (z - c')) → (z < c' → st' ≡ st) → Begun n (pre ++ (frag o z k ∷ [])) c' st'
   begun-more {st'} here there =
-    let t : sizeOf (pre ++ (frag o z k ∷ [])) ≡ sizeOf pre + z = size-more pre (frag o z k) in
-    record {
-      is = rw (t, e, b .is) (remainder-add n (sizeOf pre) z);
-      starts = λ l. rw t (⊎-elim (λ q. starts-before q ∙ sym (there q)) (λ q. starts-in l q ∙ sym (here q)) (lt-or-le z c')) }
+      let t : sizeOf (pre ++ (frag o z k ∷ [])) ≡ sizeOf pre + z = size-more pre (frag o z k) in
+      record {
+        is = rw (t, e, b .is) (remainder-add n (sizeOf pre) z);
+        starts = λ l. rw t (⊎-elim (λ q. starts-before q ∙ sym (there q)) (λ q. starts-in l q ∙ sym (here q)) (lt-or-le z c'));
+      }
 
 pub begun-none : (n st : ℕ) → Begun n [] 0 st
 unfolding sizeOf remainder
@@ -204,10 +205,11 @@ pub record Passing (s : List ℕ) (d g : ℕ) (ws : List ℕ) (i : ℕ) (k : Kin
 
 pub pass-begin : {s : List ℕ} {d g : ℕ} {ws : List ℕ} (st : ℕ) → rangesIn s (fragmentsOf ws) ≡ fine → Passing s d g ws 0 dt 0 st
 pass-begin {s} {d} {g} {ws} st r = record {
-    pre = [];
-    begun = begun-none _ _;
-    rest = front-none s d g (runs (fragmentsFrom ws 0)) ∙ rw (from-start ws);
-    ranges = rw (from-start ws) r }
+  pre = [];
+  begun = begun-none _ _;
+  rest = front-none s d g (runs (fragmentsFrom ws 0)) ∙ rw (from-start ws);
+  ranges = rw (from-start ws) r;
+}
 
 false≢true : false ≡ true → ⊥
 false≢true e = let z : _≡_ {A = ℕ} 0 1 = cc in omega arith
@@ -220,42 +222,44 @@ module _ (s : List ℕ) (d g : ℕ) (ws : List ℕ) (i c st : ℕ) (h : i + 3 �
   same : (k : Kind) (c' st' : ℕ) → Passing s d g ws i k c st → kindOf (getD ws (i + 2) 0) ≡ k
       → c' ≡ remainder (recordSize s d g k) (c + getD ws (i + 1) 0)
       → (c' ≤ getD ws (i + 1) 0 → st' ≡ getD ws i 0 + (getD ws (i + 1) 0 - c')) → (getD ws (i + 1) 0 < c' → st' ≡ st)
-          → Passing s d g ws (i + 3) k c' st'
+      → Passing s d g ws (i + 3) k c' st'
   unfolding runs
   same k c' st' t q e here there =
-    let f : Fragment = frag (getD ws i 0) (getD ws (i + 1) 0) k in
-    let m : fragmentsFrom ws i ≡ f ∷ fragmentsFrom ws (i + 3) = rw (← q) (from-more ws i h) in
-    record {
-      pre = t .pre ++ (f ∷ []);
-      begun = begun-more _ _ _ _ (t .begun) _ _ k c' e here there;
-      rest = sym (ap (runsWhole s d g) (front-more _ _ (t .pre) k (runs (fragmentsFrom ws (i + 3))))) ∙ (rw m at (t .rest));
-      ranges = ranges-tail s _ _ (rw m at (t .ranges)) }
+      let f : Fragment = frag (getD ws i 0) (getD ws (i + 1) 0) k in
+      let m : fragmentsFrom ws i ≡ f ∷ fragmentsFrom ws (i + 3) = rw (← q) (from-more ws i h) in
+      record {
+        pre = t .pre ++ (f ∷ []);
+        begun = begun-more _ _ _ _ (t .begun) _ _ k c' e here there;
+        rest = sym (ap (runsWhole s d g) (front-more _ _ (t .pre) k (runs (fragmentsFrom ws (i + 3))))) ∙ (rw m at (t .rest));
+        ranges = ranges-tail s _ _ (rw m at (t .ranges));
+      }
 
   changed : (k : Kind) (c' st' : ℕ) → Passing s d g ws i (other k) c st → c ≡ 0 → kindOf (getD ws (i + 2) 0) ≡ k
       → c' ≡ remainder (recordSize s d g k) (c + getD ws (i + 1) 0)
       → (c' ≤ getD ws (i + 1) 0 → st' ≡ getD ws i 0 + (getD ws (i + 1) 0 - c')) → (getD ws (i + 1) 0 < c' → st' ≡ st)
-          → Passing s d g ws (i + 3) k c' st'
+      → Passing s d g ws (i + 3) k c' st'
   unfolding runs runsWhole
   changed k c' st' t z q e here there =
-    let f : Fragment = frag (getD ws i 0) (getD ws (i + 1) 0) k in
-    let m : fragmentsFrom ws i ≡ f ∷ fragmentsFrom ws (i + 3) = rw (← q) (from-more ws i h) in
-    let first : runsWhole s d g (withFront (other k) (t .pre) (inFront f (runs (fragmentsFrom ws (i + 3))))) ≡ runsWhole s d g
-        (runs (fragmentsOf ws)) = rw m at (t .rest) in
-    record {
-      pre = f ∷ [];
-      begun = begun-more _ [] 0 st (begun-none _ _) _ _ k c' (rw z at e) here there;
-      rest = rw (front-other _ _ (t .pre) k (runs (fragmentsFrom ws (i + 3))), ← run-whole _ _ _ _ (t .begun) z) at first;
-      ranges = ranges-tail s _ _ (rw m at (t .ranges)) }
+      let f : Fragment = frag (getD ws i 0) (getD ws (i + 1) 0) k in
+      let m : fragmentsFrom ws i ≡ f ∷ fragmentsFrom ws (i + 3) = rw (← q) (from-more ws i h) in
+      let first : runsWhole s d g (withFront (other k) (t .pre) (inFront f (runs (fragmentsFrom ws (i + 3))))) ≡ runsWhole s d g
+      (runs (fragmentsOf ws)) = rw m at (t .rest) in
+      record {
+        pre = f ∷ [];
+        begun = begun-more _ [] 0 st (begun-none _ _) _ _ k c' (rw z at e) here there;
+        rest = rw (front-other _ _ (t .pre) k (runs (fragmentsFrom ws (i + 3))), ← run-whole _ _ _ _ (t .begun) z) at first;
+        ranges = ranges-tail s _ _ (rw m at (t .ranges));
+      }
 
   apart : (k : Kind) → Passing s d g ws i (other k) c st → 0 < c → kindOf (getD ws (i + 2) 0) ≡ k
       → refused 15 st ≡ runsWhole s d g (runs (fragmentsOf ws))
   unfolding runs runsWhole
   apart k t z q =
-    let f : Fragment = frag (getD ws i 0) (getD ws (i + 1) 0) k in
-    let m : fragmentsFrom ws i ≡ f ∷ fragmentsFrom ws (i + 3) = rw (← q) (from-more ws i h) in
-    let first : runsWhole s d g (withFront (other k) (t .pre) (inFront f (runs (fragmentsFrom ws (i + 3))))) ≡ runsWhole s d g
-        (runs (fragmentsOf ws)) = rw m at (t .rest) in
-    rw (front-other _ _ (t .pre) k (runs (fragmentsFrom ws (i + 3))), ← run-broken _ _ _ _ (t .begun) z) at first
+      let f : Fragment = frag (getD ws i 0) (getD ws (i + 1) 0) k in
+      let m : fragmentsFrom ws i ≡ f ∷ fragmentsFrom ws (i + 3) = rw (← q) (from-more ws i h) in
+      let first : runsWhole s d g (withFront (other k) (t .pre) (inFront f (runs (fragmentsFrom ws (i + 3))))) ≡ runsWhole s d g
+      (runs (fragmentsOf ws)) = rw m at (t .rest) in
+      rw (front-other _ _ (t .pre) k (runs (fragmentsFrom ws (i + 3))), ← run-broken _ _ _ _ (t .begun) z) at first
 
   pub pass-straddle : (a b : Bool) → Passing s d g ws i (kindIf a) c st → b ≡ isDV (kindOf (getD ws (i + 2) 0)) → straddles c a b ≡ true
       → refused 15 st ≡ runsWhole s d g (runs (fragmentsOf ws))
@@ -281,8 +285,8 @@ module _ (s : List ℕ) (d g : ℕ) (ws : List ℕ) (i c st : ℕ) (h : i + 3 �
       → Passing s d g ws (i + 3) (kindIf b) c' st'
   unfolding startOf
   pass-on a b {c'} {st'} t q e p x y m n =
-    let n' : st' ≡ startOf c' (getD ws i 0) (getD ws (i + 1) 0) st = rw (← x, ← y) n in
-    pass-next a b c' st' t (kind-if _ q) e (rw (p, y) at m) (λ l. n' ∙ sym (le-yes _ _ _ _ l refl)) (λ l. n' ∙ sym (le-no _ _ _ _ l refl))
+      let n' : st' ≡ startOf c' (getD ws i 0) (getD ws (i + 1) 0) st = rw (← x, ← y) n in
+      pass-next a b c' st' t (kind-if _ q) e (rw (p, y) at m) (λ l. n' ∙ sym (le-yes _ _ _ _ l refl)) (λ l. n' ∙ sym (le-no _ _ _ _ l refl))
 
 -- the end: the last run
 module _ (s : List ℕ) (d g : ℕ) (ws : List ℕ) (i : ℕ) (k : Kind) (c st : ℕ) (t : Passing s d g ws i k c st) (h : length ws < i + 3) where

@@ -31,14 +31,14 @@ module _ (s : List ℕ) (id : ℕ) (gs : List ℕ) (i : ℕ) {b : Bool} (rest : 
   pub is-id : {g r : ℕ} → i < length gs → g ≡ getD gs i 0 → r ≡ recordId s g → r ≡ id → true ≡ b
   unfolding isIdOf
   is-id h e q m =
-    let z : recordId s (getD gs i 0) ≡ id = rw (← e) (sym q ∙ m) in
-    rw (drop-cons gs i 0 h, eq-eqb (recordId s (getD gs i 0)) id z) at rest
+      let z : recordId s (getD gs i 0) ≡ id = rw (← e) (sym q ∙ m) in
+      rw (drop-cons gs i 0 h, eq-eqb (recordId s (getD gs i 0)) id z) at rest
 
   pub is-next : {g r : ℕ} → i < length gs → g ≡ getD gs i 0 → r ≡ recordId s g → (r ≡ id → ⊥) → isIdOf s id (drop (i + 1) gs) ≡ b
   unfolding isIdOf
   is-next h e q m =
-    let z : recordId s (getD gs i 0) ≡ id → ⊥ = λ w. m (q ∙ rw e w) in
-    rw (add-one i) (rw (drop-cons gs i 0 h, ne-eqb (recordId s (getD gs i 0)) id z) at rest)
+      let z : recordId s (getD gs i 0) ≡ id → ⊥ = λ w. m (q ∙ rw e w) in
+      rw (add-one i) (rw (drop-cons gs i 0 h, ne-eqb (recordId s (getD gs i 0)) id z) at rest)
 
   pub is-end : length gs ≤ i → false ≡ b
   unfolding isIdOf
@@ -49,15 +49,15 @@ module _ (s : List ℕ) (gs : List ℕ) (i : ℕ) {b : Bool} (rest : equalIds s 
       → true ≡ b
   unfolding equalIds
   equal-met h e q m k =
-    let z : isIdOf s (recordId s (getD gs i 0)) (drop (suc i) gs) ≡ true = rw (← e, ← q, ← add-one i) (sym m ∙ k) in
-    rw (drop-cons gs i 0 h, z) at rest
+      let z : isIdOf s (recordId s (getD gs i 0)) (drop (suc i) gs) ≡ true = rw (← e, ← q, ← add-one i) (sym m ∙ k) in
+      rw (drop-cons gs i 0 h, z) at rest
 
   pub equal-next : {g r : ℕ} {t : Bool} → i < length gs → g ≡ getD gs i 0 → r ≡ recordId s g → t ≡ isIdOf s r (drop (i + 1) gs) → t ≡ false
       → equalIds s (drop (i + 1) gs) ≡ b
   unfolding equalIds
   equal-next h e q m k =
-    let z : isIdOf s (recordId s (getD gs i 0)) (drop (suc i) gs) ≡ false = rw (← e, ← q, ← add-one i) (sym m ∙ k) in
-    rw (add-one i) (rw (drop-cons gs i 0 h, z) at rest)
+      let z : isIdOf s (recordId s (getD gs i 0)) (drop (suc i) gs) ≡ false = rw (← e, ← q, ← add-one i) (sym m ∙ k) in
+      rw (add-one i) (rw (drop-cons gs i 0 h, z) at rest)
 
   pub equal-end : length gs ≤ i → false ≡ b
   unfolding equalIds
@@ -98,9 +98,9 @@ module _ (s : List ℕ) (d : ℕ) (gs : List ℕ) (fs : List Fragment) where
   pub several-is : unsortedFrames s d gs fs ≡ andThen (severalIn s d gs fs) (λ _. frames s (idSize s d) gs fs)
   unfolding unsortedFrames severalIn sizeIn
   several-is =
-    sym (chain (pick (equalIds s gs) (refused 14 d) fine) (ifEq (idSize s d) 0 (refused 14 d) fine) (pick (anyDV fs) (refused 14 d) fine)
-        (rangesIn s fs)
-    (ifLt most64 (sizeOf fs) (refused 19 d) fine) (frames s (idSize s d) gs fs))
+      sym (chain (pick (equalIds s gs) (refused 14 d) fine) (ifEq (idSize s d) 0 (refused 14 d) fine) (pick (anyDV fs) (refused 14 d) fine)
+      (rangesIn s fs)
+      (ifLt most64 (sizeOf fs) (refused 19 d) fine) (frames s (idSize s d) gs fs))
 
   pub several-equal : {a : Bool} → a ≡ equalIds s gs → a ≡ true → refused 14 d ≡ severalIn s d gs fs
   unfolding severalIn
@@ -163,8 +163,12 @@ blit-blit [] [] i w h = refl
 blit-blit [] (y ∷ ys) i w h = absurd (omega arith)
 blit-blit (x ∷ xs) [] i w h = absurd (omega arith)
 blit-blit (x ∷ xs) (y ∷ ys) i w h =
-    rw (← blit-one i y (blit (suc i) xs (set w i x)), blit-comm (y ∷ []) i (suc i) xs (set w i x) (omega arith), blit-one i y (set w i x),
-        set-set w i x y)
+    rw (
+      ← blit-one i y (blit (suc i) xs (set w i x)),
+      blit-comm (y ∷ []) i (suc i) xs (set w i x) (omega arith),
+      blit-one i y (set w i x),
+      set-set w i x y,
+    )
     (blit-blit xs ys (suc i) (set w i y) (omega arith))
 
 -- ---- counts of groups
@@ -193,7 +197,7 @@ one-few : (g k : ℕ) → ifEq g k 1 0 ≤ 1
 one-few g k =
     ⊎-elim (λ h. let e = one-other g k (λ z. omega arith) in omega arith)
     (λ h. ⊎-elim (λ l. let e = one-other g k (λ z. omega arith) in omega arith) (λ l. let e = one-same g k (omega arith) in omega arith)
-        (lt-or-le k g))
+    (lt-or-le k g))
     (lt-or-le g k)
 
 of-few : (k : ℕ) (rs : List Frame) → ofGroup k rs ≤ length rs
@@ -228,33 +232,33 @@ tallies-more (suc n) k (suc i) rs r e h =
 module _ (n : ℕ) (rs : List Frame) (r : Frame) (w₀ : List ℕ) {w : List ℕ} (is : w ≡ blit 0 (tallies n 0 rs) w₀) (h : r .group < n) where
   more : set w (r .group) (ofGroup (r .group) rs + 1) ≡ blit 0 (tallies n 0 (rs ++ (r ∷ []))) w₀
   more =
-    let g : ℕ = r .group in
-    let z : 0 + g ≡ g = zero-add g in
-    let l : g < length (tallies n 0 rs) = rw (length-tallies n 0 rs) h in
-    rw (tallies-more n 0 g rs r (sym z) h, blit-set (tallies n 0 rs) 0 g (ofGroup g rs + 1) w₀ l, z, is)
+      let g : ℕ = r .group in
+      let z : 0 + g ≡ g = zero-add g in
+      let l : g < length (tallies n 0 rs) = rw (length-tallies n 0 rs) h in
+      rw (tallies-more n 0 g rs r (sym z) h, blit-set (tallies n 0 rs) 0 g (ofGroup g rs + 1) w₀ l, z, is)
 
   at-group : r .group < length w → getD w (r .group) 0 ≡ ofGroup (r .group) rs
   at-group k =
-    let g : ℕ = r .group in
-    let m : length w ≡ length w₀ = ap length is ∙ length-blit 0 (tallies n 0 rs) w₀ in
-    let z : 0 + g ≡ g = zero-add g in
-    let l : g < length (tallies n 0 rs) = rw (length-tallies n 0 rs) h in
-    let a : getD (blit 0 (tallies n 0 rs) w₀) (0 + g) 0 ≡ getD (tallies n 0 rs) g 0 = getD-blit (tallies n 0 rs) 0 g w₀ l (omega arith) in
-    let b : getD (tallies n 0 rs) g 0 ≡ ofGroup (0 + g) rs = getD-tallies n 0 g rs h in
-    rw is (rw z at (a ∙ b))
+      let g : ℕ = r .group in
+      let m : length w ≡ length w₀ = ap length is ∙ length-blit 0 (tallies n 0 rs) w₀ in
+      let z : 0 + g ≡ g = zero-add g in
+      let l : g < length (tallies n 0 rs) = rw (length-tallies n 0 rs) h in
+      let a : getD (blit 0 (tallies n 0 rs) w₀) (0 + g) 0 ≡ getD (tallies n 0 rs) g 0 = getD-blit (tallies n 0 rs) 0 g w₀ l (omega arith) in
+      let b : getD (tallies n 0 rs) g 0 ≡ ofGroup (0 + g) rs = getD-tallies n 0 g rs h in
+      rw is (rw z at (a ∙ b))
 
   pub tallied-up : {v : List ℕ} → v ≡ set w (r .group) (getD w (r .group) 0 + 1) → v ≡ blit 0 (tallies n 0 (rs ++ (r ∷ []))) w₀
   tallied-up e =
-    ⊎-elim (λ k. e ∙ rw (at-group k) more)
-    (λ k. e ∙ set-out w (r .group) _ k ∙ sym (set-out w (r .group) (ofGroup (r .group) rs + 1) k) ∙ more)
-    (lt-or-le (r .group) (length w))
+      ⊎-elim (λ k. e ∙ rw (at-group k) more)
+      (λ k. e ∙ set-out w (r .group) _ k ∙ sym (set-out w (r .group) (ofGroup (r .group) rs + 1) k) ∙ more)
+      (lt-or-le (r .group) (length w))
 
   pub tallied-low : getD w (r .group) 0 ≤ length rs
   tallied-low =
-    let f = of-few (r .group) rs in
-    ⊎-elim (λ k. let a = at-group k in omega arith)
-    (λ k. let a : getD w (r .group) 0 ≡ 0 = List·getD-eq-default w 0 k in omega arith)
-    (lt-or-le (r .group) (length w))
+      let f = of-few (r .group) rs in
+      ⊎-elim (λ k. let a = at-group k in omega arith)
+      (λ k. let a : getD w (r .group) 0 ≡ 0 = List·getD-eq-default w 0 k in omega arith)
+      (lt-or-le (r .group) (length w))
 
 -- ---- words set to zero
 pub zero-turn : (n p : ℕ) (d : List ℕ) {g : List ℕ} → 0 < n → blit p (replicate n 0) d ≡ g
@@ -326,11 +330,11 @@ module _ (s : List ℕ) (d : ℕ) (gs : List ℕ) (fs : List Fragment) where
   pub several-passed : severalIn s d gs fs ≡ fine → Passed s d fs
   unfolding severalIn sizeIn
   several-passed e =
-    let a = then-fine (pick (equalIds s gs) (refused 14 d) fine) _ e in
-    let b = then-fine (ifEq (idSize s d) 0 (refused 14 d) fine) _ (a .1) in
-    let c = then-fine (pick (anyDV fs) (refused 14 d) fine) _ (b .1) in
-    let r = then-fine (rangesIn s fs) _ (c .1) in
-    record { id = some-id (idSize s d) d (b .0); ranges = r .0; size = lt-back _ _ _ _ (r .1) refused≢ok .0 }
+      let a = then-fine (pick (equalIds s gs) (refused 14 d) fine) _ e in
+      let b = then-fine (ifEq (idSize s d) 0 (refused 14 d) fine) _ (a .1) in
+      let c = then-fine (pick (anyDV fs) (refused 14 d) fine) _ (b .1) in
+      let r = then-fine (rangesIn s fs) _ (c .1) in
+      record { id = some-id (idSize s d) d (b .0); ranges = r .0; size = lt-back _ _ _ _ (r .1) refused≢ok .0 }
 
   pub several-refused : (w : List ℕ) {n p : ℕ} {v : List ℕ} → severalIn s d gs fs ≡ refused n p → v ≡ blit 0 (replicate (length gs) 0) w
       → laid (refused n p) v ≡ laidCounts (tallied (length gs) (unsortedFrames s d gs fs)) (length gs) w
@@ -338,5 +342,5 @@ module _ (s : List ℕ) (d : ℕ) (gs : List ℕ) (fs : List Fragment) where
 
   pub several-read : (w : List ℕ) (n : ℕ) {x : Laid} → severalIn s d gs fs ≡ fine → n ≡ idSize s d
       → x ≡ laidCounts (tallied (length gs) (frames s n gs fs)) (length gs) w
-          → x ≡ laidCounts (tallied (length gs) (unsortedFrames s d gs fs)) (length gs) w
+      → x ≡ laidCounts (tallied (length gs) (unsortedFrames s d gs fs)) (length gs) w
   several-read w n e q k = rw (several-is s d gs fs, e, ← q) k

@@ -39,10 +39,16 @@ pub fn ranges_in(image: &[u8], fragments: &[u64]) -> Check
         let offset = word_at(fragments, i);
         let size = word_at(fragments, i + 1);
         if end < offset {
-            return Check::Refused { number: 4, place: offset };
+            return Check::Refused {
+                number: 4,
+                place: offset,
+            };
         }
         if end - offset < size {
-            return Check::Refused { number: 4, place: offset };
+            return Check::Refused {
+                number: 4,
+                place: offset,
+            };
         }
         i += 3;
     }

@@ -1,7 +1,10 @@
 // Framing: the records of a DG with several groups, one after the other in its joined data.
-use fields::u8_at;
 use crate::fragment::word_at;
-use crate::group::{record_id, samples_of, inval_bytes, is_storage};
+use crate::group::inval_bytes;
+use crate::group::is_storage;
+use crate::group::record_id;
+use crate::group::samples_of;
+use fields::u8_at;
 ghost use mathlib.Core.Path.{_≡_};
 ghost use Prim.Native.Nat.{_+_};
 ghost use lib.ListN.{length, getD};
@@ -21,7 +24,13 @@ pub struct Framing {
 // A record: the number of its group, its bytes past the id, and the state, position and bytes left past it.
 pub enum Step {
     Broken,
-    Record { group: u64, bytes: u64, next: Framing, position: u64, left: u64 },
+    Record {
+        group: u64,
+        bytes: u64,
+        next: Framing,
+        position: u64,
+        left: u64,
+    },
 }
 
 // A place further on, or past the end.
@@ -59,7 +68,7 @@ pub fn inside(image: &[u8], position: u64, left: u64) -> u64
 // The place m bytes further on.
 pub fn skip_on(image: &[u8], fragments: &[u64], at: u64, position: u64, left: u64, m: u64) -> Moved
     ensures { λ r. ⌜ movedOf (now (image .entry)) (now (fragments .entry)) r
-      ≡ skip m (ahead (now (image .entry)) (now (fragments .entry)) at position left) ⌝ }
+        ≡ skip m (ahead (now (image .entry)) (now (fragments .entry)) at position left) ⌝ }
 {
     let n = fragments.len() as u64;
     let mut i = at;
@@ -69,7 +78,11 @@ pub fn skip_on(image: &[u8], fragments: &[u64], at: u64, position: u64, left: u6
     loop {
         let here = inside(image, p, l);
         if more <= here {
-            return Moved::To { at: i, position: p + more, left: here - more };
+            return Moved::To {
+                at: i,
+                position: p + more,
+                left: here - more,
+            };
         }
         if n < i {
             return Moved::Past;
@@ -87,7 +100,7 @@ pub fn skip_on(image: &[u8], fragments: &[u64], at: u64, position: u64, left: u6
 // Byte m of what is ahead, 0 past the end.
 pub fn byte_at(image: &[u8], fragments: &[u64], at: u64, position: u64, left: u64, m: u64) -> u64
     ensures { λ r. ⌜ Bounded 256
-      (getD (joined (now (image .entry)) (ahead (now (image .entry)) (now (fragments .entry)) at position left)) m 0) r ⌝ }
+        (getD (joined (now (image .entry)) (ahead (now (image .entry)) (now (fragments .entry)) at position left)) m 0) r ⌝ }
 {
     let n = fragments.len() as u64;
     let mut i = at;
@@ -113,9 +126,16 @@ pub fn byte_at(image: &[u8], fragments: &[u64], at: u64, position: u64, left: u6
 }
 
 // The number of the first n bytes ahead, the lowest first.
-pub fn number_at(image: &[u8], fragments: &[u64], at: u64, position: u64, left: u64, n: u64) -> Number
+pub fn number_at(
+    image: &[u8],
+    fragments: &[u64],
+    at: u64,
+    position: u64,
+    left: u64,
+    n: u64,
+) -> Number
     ensures { λ r. ⌜ numberOf r
-      ≡ numeral (leAt n (joined (now (image .entry)) (ahead (now (image .entry)) (now (fragments .entry)) at position left)) 0) ⌝ }
+        ≡ numeral (leAt n (joined (now (image .entry)) (ahead (now (image .entry)) (now (fragments .entry)) at position left)) 0) ⌝ }
 {
     let mut i = n;
     let mut x: u64 = 0;
@@ -132,7 +152,7 @@ pub fn number_at(image: &[u8], fragments: &[u64], at: u64, position: u64, left: 
 // The 32-bit number ahead.
 fn length_at(image: &[u8], fragments: &[u64], at: u64, position: u64, left: u64) -> u64
     ensures { λ r. ⌜ Bounded 4294967296
-      (leAt 4 (joined (now (image .entry)) (ahead (now (image .entry)) (now (fragments .entry)) at position left)) 0) r ⌝ }
+        (leAt 4 (joined (now (image .entry)) (ahead (now (image .entry)) (now (fragments .entry)) at position left)) 0) r ⌝ }
 {
     let a = byte_at(image, fragments, at, position, left, 0);
     let b = byte_at(image, fragments, at, position, left, 1);
@@ -160,7 +180,7 @@ pub fn with_id(image: &[u8], groups: &[u64], id: u64) -> Found
 // The bytes of a record of the group at g, past its id; of a VLSD storage group with the length that stands ahead.
 fn body_of(image: &[u8], fragments: &[u64], at: u64, position: u64, left: u64, g: u64) -> Number
     ensures { λ r. ⌜ numberOf r
-      ≡ bodyOf (now (image .entry)) (joined (now (image .entry)) (ahead (now (image .entry)) (now (fragments .entry)) at position left)) g ⌝ }
+        ≡ bodyOf (now (image .entry)) (joined (now (image .entry)) (ahead (now (image .entry)) (now (fragments .entry)) at position left)) g ⌝ }
 {
     if is_storage(image, g) {
         let to = skip_on(image, fragments, at, position, left, 4);
@@ -168,7 +188,11 @@ fn body_of(image: &[u8], fragments: &[u64], at: u64, position: u64, left: u64, g
             Moved::Past => {
                 return Number::Missing;
             }
-            Moved::To { at: _, position: _, left: _ } => {
+            Moved::To {
+                at: _,
+                position: _,
+                left: _,
+            } => {
                 return Number::Value(4 + length_at(image, fragments, at, position, left));
             }
         }
@@ -177,9 +201,17 @@ fn body_of(image: &[u8], fragments: &[u64], at: u64, position: u64, left: u64, g
 }
 
 // A record of group number k, whose CG is at g; its id was passed.
-fn body_step(image: &[u8], fragments: &[u64], at: u64, position: u64, left: u64, k: u64, g: u64) -> Step
+fn body_step(
+    image: &[u8],
+    fragments: &[u64],
+    at: u64,
+    position: u64,
+    left: u64,
+    k: u64,
+    g: u64,
+) -> Step
     ensures { λ r. ⌜ steppedOf (now (image .entry)) (now (fragments .entry)) r
-      ≡ bodyStep (now (image .entry)) k g (ahead (now (image .entry)) (now (fragments .entry)) at position left) ⌝ }
+        ≡ bodyStep (now (image .entry)) k g (ahead (now (image .entry)) (now (fragments .entry)) at position left) ⌝ }
 {
     let size = body_of(image, fragments, at, position, left, g);
     match size {
@@ -188,8 +220,18 @@ fn body_step(image: &[u8], fragments: &[u64], at: u64, position: u64, left: u64,
             let to = skip_on(image, fragments, at, position, left, bytes);
             match to {
                 Moved::Past => Step::Broken,
-                Moved::To { at: i, position: p, left: l } => {
-                    Step::Record { group: k, bytes, next: Framing { at: i }, position: p, left: l }
+                Moved::To {
+                    at: i,
+                    position: p,
+                    left: l,
+                } => {
+                    Step::Record {
+                        group: k,
+                        bytes,
+                        next: Framing { at: i },
+                        position: p,
+                        left: l,
+                    }
                 }
             }
         }
@@ -198,14 +240,26 @@ fn body_step(image: &[u8], fragments: &[u64], at: u64, position: u64, left: u64,
 
 impl Framing {
     // The record that begins at a position of the image, with so many bytes left of its fragment; ids have n bytes.
-    pub fn step(self, image: &[u8], n: u64, groups: &[u64], fragments: &[u64], position: u64, left: u64) -> Step
+    pub fn step(
+        self,
+        image: &[u8],
+        n: u64,
+        groups: &[u64],
+        fragments: &[u64],
+        position: u64,
+        left: u64,
+    ) -> Step
         ensures { λ r. ⌜ steppedOf (now (image .entry)) (now (fragments .entry)) r
-          ≡ stepAt (now (image .entry)) n (now (groups .entry)) (ahead (now (image .entry)) (now (fragments .entry)) (self .at) position left) ⌝ }
+            ≡ stepAt (now (image .entry)) n (now (groups .entry)) (ahead (now (image .entry)) (now (fragments .entry)) (self .at) position left) ⌝ }
     {
         let to = skip_on(image, fragments, self.at, position, left, n);
         match to {
             Moved::Past => Step::Broken,
-            Moved::To { at: i, position: p, left: l } => {
+            Moved::To {
+                at: i,
+                position: p,
+                left: l,
+            } => {
                 let id = number_at(image, fragments, self.at, position, left, n);
                 match id {
                     Number::Missing => Step::Broken,
@@ -213,7 +267,15 @@ impl Framing {
                         let found = with_id(image, groups, x);
                         match found {
                             Found::Unknown => Step::Broken,
-                            Found::Group { number, cg } => body_step(image, fragments, i, p, l, number, cg),
+                            Found::Group { number, cg } => body_step(
+                                image,
+                                fragments,
+                                i,
+                                p,
+                                l,
+                                number,
+                                cg,
+                            ),
                         }
                     }
                 }

@@ -1,5 +1,8 @@
 // The fields of a CG and of a DG that framing and counting need.
-use blocks::block::{data_u8, data_u16, data_u32, data_u64};
+use blocks::block::data_u8;
+use blocks::block::data_u16;
+use blocks::block::data_u32;
+use blocks::block::data_u64;
 ghost use mathlib.Core.Path.{_≡_};
 ghost use Prim.Native.Nat.{_<_};
 ghost use Rattle.base.specs.Field.{Field};

@@ -1,9 +1,15 @@
 // A DG with several groups: its checks, and the counts of its groups.
+use crate::fragment::any_dv;
+use crate::fragment::ranges_in;
+use crate::fragment::word_at;
+use crate::framing::Framing;
+use crate::framing::Step;
+use crate::framing::inside;
+use crate::group::id_size;
+use crate::group::record_id;
+use crate::sorted::Counted;
+use crate::sorted::count_one;
 use fields::Check;
-use crate::fragment::{word_at, ranges_in, any_dv};
-use crate::group::{id_size, record_id};
-use crate::sorted::{Counted, count_one};
-use crate::framing::{Framing, Step, inside};
 ghost use mathlib.Core.Path.{_≡_};
 ghost use mathlib.Core.List.{[], _∷_};
 ghost use Prim.Native.Nat.{_+_, _<_, _≤_};
@@ -56,7 +62,10 @@ fn size_in(d: u64, fragments: &[u64]) -> Check
     while 2 < n - i {
         let more = word_at(fragments, i + 1);
         if 18446744073709551615 - sum < more {
-            return Check::Refused { number: 19, place: d };
+            return Check::Refused {
+                number: 19,
+                place: d,
+            };
         }
         sum += more;
         i += 3;
@@ -69,13 +78,22 @@ pub fn several_in(image: &[u8], d: u64, groups: &[u64], fragments: &[u64]) -> Ch
     ensures { λ r. ⌜ verdictOf r ≡ severalIn (now (image .entry)) d (now (groups .entry)) (fragmentsOf (now (fragments .entry))) ⌝ }
 {
     if equal_ids(image, groups) {
-        return Check::Refused { number: 14, place: d };
+        return Check::Refused {
+            number: 14,
+            place: d,
+        };
     }
     if id_size(image, d) == 0 {
-        return Check::Refused { number: 14, place: d };
+        return Check::Refused {
+            number: 14,
+            place: d,
+        };
     }
     if any_dv(fragments) {
-        return Check::Refused { number: 14, place: d };
+        return Check::Refused {
+            number: 14,
+            place: d,
+        };
     }
     let ranges = ranges_in(image, fragments);
     match ranges {
@@ -113,12 +131,18 @@ fn count_up(words: &mut [u64], k: u64)
 }
 
 // The records of all groups, counted; ids have n bytes.
-fn count_frames(image: &[u8], n: u64, groups: &[u64], fragments: &[u64], counts: &mut [u64]) -> Check
+fn count_frames(
+    image: &[u8],
+    n: u64,
+    groups: &[u64],
+    fragments: &[u64],
+    counts: &mut [u64],
+) -> Check
     requires { ⌜ (0 < n) × (rangesIn (now image) (fragmentsOf (now fragments)) ≡ fine)
-      × (sizeOf (fragmentsOf (now fragments)) ≤ most64) ⌝ }
+        × (sizeOf (fragmentsOf (now fragments)) ≤ most64) ⌝ }
     ensures { λ r. ⌜ laid (verdictOf r) (now (counts .exit))
-      ≡ laidCounts (tallied (length (now (groups .entry)))
-          (frames (now (image .entry)) n (now (groups .entry)) (fragmentsOf (now (fragments .entry)))))
+        ≡ laidCounts (tallied (length (now (groups .entry)))
+        (frames (now (image .entry)) n (now (groups .entry)) (fragmentsOf (now (fragments .entry)))))
         (length (now (groups .entry))) (now (counts .entry)) ⌝ }
 {
     let k = groups.len() as u64;
@@ -144,9 +168,18 @@ fn count_frames(image: &[u8], n: u64, groups: &[u64], fragments: &[u64], counts:
             match step {
                 Step::Broken => {
                     clear(counts, k);
-                    break 'records Check::Refused { number: 15, place: position };
+                    break 'records Check::Refused {
+                        number: 15,
+                        place: position,
+                    };
                 }
-                Step::Record { group, bytes: _, next, position: p, left: l } => {
+                Step::Record {
+                    group,
+                    bytes: _,
+                    next,
+                    position: p,
+                    left: l,
+                } => {
                     count_up(counts, group);
                     f = next;
                     position = p;
@@ -159,10 +192,16 @@ fn count_frames(image: &[u8], n: u64, groups: &[u64], fragments: &[u64], counts:
 }
 
 // The counts of several groups: the checks, then the records to the end.
-pub fn count_several(image: &[u8], d: u64, groups: &[u64], fragments: &[u64], counts: &mut [u64]) -> Check
+pub fn count_several(
+    image: &[u8],
+    d: u64,
+    groups: &[u64],
+    fragments: &[u64],
+    counts: &mut [u64],
+) -> Check
     ensures { λ r. ⌜ laid (verdictOf r) (now (counts .exit))
-      ≡ laidCounts (tallied (length (now (groups .entry)))
-          (unsortedFrames (now (image .entry)) d (now (groups .entry)) (fragmentsOf (now (fragments .entry)))))
+        ≡ laidCounts (tallied (length (now (groups .entry)))
+        (unsortedFrames (now (image .entry)) d (now (groups .entry)) (fragmentsOf (now (fragments .entry)))))
         (length (now (groups .entry))) (now (counts .entry)) ⌝ }
 {
     let before = several_in(image, d, groups, fragments);
@@ -189,7 +228,7 @@ fn put_first(words: &mut [u64], x: u64)
 fn count_alone(image: &[u8], d: u64, groups: &[u64], fragments: &[u64], counts: &mut [u64]) -> Check
     requires { ⌜ length (now groups) ≡ 1 ⌝ }
     ensures { λ r. ⌜ laid (verdictOf r) (now (counts .exit))
-      ≡ laidCounts (countGroups (now (image .entry)) d (now (groups .entry)) (fragmentsOf (now (fragments .entry))))
+        ≡ laidCounts (countGroups (now (image .entry)) d (now (groups .entry)) (fragmentsOf (now (fragments .entry))))
         (length (now (groups .entry))) (now (counts .entry)) ⌝ }
 {
     let counted = count_one(image, d, word_at(groups, 0), fragments);
@@ -206,9 +245,15 @@ fn count_alone(image: &[u8], d: u64, groups: &[u64], fragments: &[u64], counts: 
 }
 
 // The counts of a DG's groups: of none, of one by its bytes, of several by reading to the end.
-pub fn count_groups(image: &[u8], d: u64, groups: &[u64], fragments: &[u64], counts: &mut [u64]) -> Check
+pub fn count_groups(
+    image: &[u8],
+    d: u64,
+    groups: &[u64],
+    fragments: &[u64],
+    counts: &mut [u64],
+) -> Check
     ensures { λ r. ⌜ laid (verdictOf r) (now (counts .exit))
-      ≡ laidCounts (countGroups (now (image .entry)) d (now (groups .entry)) (fragmentsOf (now (fragments .entry))))
+        ≡ laidCounts (countGroups (now (image .entry)) d (now (groups .entry)) (fragmentsOf (now (fragments .entry))))
         (length (now (groups .entry))) (now (counts .entry)) ⌝ }
 {
     if groups.len() == 0 {

@@ -1,7 +1,11 @@
 // A group that is alone in its DG: whole records, and their count.
+use crate::fragment::any_dv;
+use crate::fragment::is_dv;
+use crate::fragment::ranges_in;
+use crate::fragment::word_at;
+use crate::group::inval_bytes;
+use crate::group::record_size;
 use fields::Check;
-use crate::fragment::{word_at, is_dv, ranges_in, any_dv};
-use crate::group::{inval_bytes, record_size};
 ghost use mathlib.Core.Path.{_≡_};
 ghost use Prim.Native.Nat.{_+_, _<_, _≤_};
 ghost use lib.ListN.{getD};
@@ -72,7 +76,10 @@ fn runs_whole(image: &[u8], d: u64, g: u64, fragments: &[u64]) -> Check
     while 2 < n - i {
         let kind = is_dv(fragments, i + 2);
         if straddles_in(bytes, dv, kind) {
-            return Check::Refused { number: 15, place: start };
+            return Check::Refused {
+                number: 15,
+                place: start,
+            };
         }
         let size = word_at(fragments, i + 1);
         bytes = remaining(record_size(image, d, g, kind), bytes, size);
@@ -81,7 +88,10 @@ fn runs_whole(image: &[u8], d: u64, g: u64, fragments: &[u64]) -> Check
         i += 3;
     }
     if 0 < bytes {
-        return Check::Refused { number: 15, place: start };
+        return Check::Refused {
+            number: 15,
+            place: start,
+        };
     }
     Check::Fine
 }
@@ -92,7 +102,10 @@ fn dv_fits(image: &[u8], d: u64, g: u64, fragments: &[u64]) -> Check
 {
     if any_dv(fragments) {
         if inval_bytes(image, g) != 0 {
-            return Check::Refused { number: 14, place: d };
+            return Check::Refused {
+                number: 14,
+                place: d,
+            };
         }
         return Check::Fine;
     }
@@ -138,7 +151,10 @@ fn sum_within(d: u64, a: u64, b: u64) -> Counted
     ensures { λ r. ⌜ countedOf r ≡ within64 d (a + b) ⌝ }
 {
     if 18446744073709551615 - a < b {
-        return Counted::Refused { number: 19, place: d };
+        return Counted::Refused {
+            number: 19,
+            place: d,
+        };
     }
     Counted::Count(a + b)
 }
@@ -153,7 +169,10 @@ fn bytes_of(d: u64, fragments: &[u64], dv: bool) -> Counted
     while 2 < n - i {
         let more = own_bytes(fragments, i, dv);
         if 18446744073709551615 - sum < more {
-            return Counted::Refused { number: 19, place: d };
+            return Counted::Refused {
+                number: 19,
+                place: d,
+            };
         }
         sum += more;
         i += 3;

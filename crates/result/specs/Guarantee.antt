@@ -62,7 +62,11 @@ shownAt f dg =
     let cg = linkAt f dg 1 in
     let cn = linkAt f cg 1 in
     record {
-      dg = dg; cg = cg; nextCG = linkAt f cg 0; cn = cn; nextCN = linkAt f cn 0;
+      dg = dg;
+      cg = cg;
+      nextCG = linkAt f cg 0;
+      cn = cn;
+      nextCN = linkAt f cn 0;
       kinds = kindAt f dg ∷ kindAt f cg ∷ kindAt f cn ∷ [];
       idSize = leAt 1 f (dataAt f dg);
       records = leAt 8 f (dataAt f cg + 8);
@@ -70,7 +74,8 @@ shownAt f dg =
       invalidation = invalBytes f cg;
       payload = joinedPayload f (linkAt f dg 2);
       signalData = joinedSignal f (linkAt f cn 5);
-      master = namedMaster f cg }
+      master = namedMaster f cg;
+    }
 
 -- the DG chain from a on, at most so many
 unfoldable pub shownFrom : ℕ → List ℕ → ℕ → List Shown
@@ -95,7 +100,11 @@ dueMaster ps (some m) = cgAt m ps
 unfoldable pub due : List ℕ → List Placed → Placed → Shown
 due s ps p =
     record {
-      dg = p .dg; cg = cgOf p; nextCG = 0; cn = cnOf p; nextCN = 0;
+      dg = p .dg;
+      cg = cgOf p;
+      nextCG = 0;
+      cn = cnOf p;
+      nextCN = 0;
       kinds = kindDG ∷ kindCG ∷ kindCN ∷ [];
       idSize = 0;
       records = p .column .group .records;
@@ -103,7 +112,8 @@ due s ps p =
       invalidation = pick (keepsInval s (p .column .group .at) (p .column .channel)) 1 0;
       payload = duePayload s (p .column);
       signalData = signalBytes s (p .column .signalOf);
-      master = dueMaster ps (p .column .master) }
+      master = dueMaster ps (p .column .master);
+    }
 
 unfoldable pub dueAll : List ℕ → List Placed → List Placed → List Shown
 dueAll s all [] = []
@@ -181,10 +191,10 @@ pub record Guaranteed (x : Args) (d : Decided) (f : List ℕ) : Type 0 where
   pub apart : AllApart (blocksOf x (d .laidOut))
   -- every channel of every group that is not VLSD storage is one column or one omission, and nothing else is a column
   pub once : (g : SrcGroup) → In g (d .groups) → isStorage (x .image) (g .at) ≡ false → (c : ℕ) → In c (g .channels)
-    → columnsOf c (d .planned .columns) + omissionsOf c (d .planned .omissions) ≡ 1
+      → columnsOf c (d .planned .columns) + omissionsOf c (d .planned .omissions) ≡ 1
   pub source : (c : Column) → In c (d .planned .columns)
-    → In (c .group) (d .groups) × (isStorage (x .image) (c .group .at) ≡ false) × In (c .channel) (c .group .channels)
+      → In (c .group) (d .groups) × (isStorage (x .image) (c .group .at) ≡ false) × In (c .channel) (c .group .channels)
   -- the records of a group with a nonempty column are as many as its count
   pub counted : (c : Column) → In c (d .planned .columns) → isNonempty (x .image) c ≡ true
-    → length (recordsOf (x .image) (c .group)) ≡ c .group .records
+      → length (recordsOf (x .image) (c .group)) ≡ c .group .records
   pub masters : (c : Column) → In c (d .planned .columns) → NamesMaster (x .image) (d .groups) (d .planned .columns) c (c .isTime)

@@ -56,10 +56,13 @@ omissionLines (o ∷ os) = decimal (o .at) ++ blank ++ decimal (o .reason) ++ ne
 -- `columns` and a blank; `omitted` and a blank; `refused` and a blank; a blank, `place` and a blank
 abbrev columnsText : List ℕ
 columnsText = 99 ∷ 111 ∷ 108 ∷ 117 ∷ 109 ∷ 110 ∷ 115 ∷ 32 ∷ []
+
 abbrev omittedText : List ℕ
 omittedText = 111 ∷ 109 ∷ 105 ∷ 116 ∷ 116 ∷ 101 ∷ 100 ∷ 32 ∷ []
+
 abbrev refusedText : List ℕ
 refusedText = 114 ∷ 101 ∷ 102 ∷ 117 ∷ 115 ∷ 101 ∷ 100 ∷ 32 ∷ []
+
 abbrev placeText : List ℕ
 placeText = 32 ∷ 112 ∷ 108 ∷ 97 ∷ 99 ∷ 101 ∷ 32 ∷ []
 

@@ -41,7 +41,7 @@ memoOf l = l .attached .made .memo
 unfoldable pub hdBlock : List ℕ → Layout → Block
 hdBlock s l =
     block 64 (hdBytes s (nextDG (l .placed)) (firstFH (memoOf l) (l .past .chain) (l .fh)) (nextAttachment (l .attached .attachments))
-      (newLink (memoOf l) (linkAt s 64 5)))
+    (newLink (memoOf l) (linkAt s 64 5)))
 
 -- every block, in the order of addresses
 unfoldable pub blocksOf : Args → Layout → List Block
@@ -104,7 +104,8 @@ report x d =
       sharedTimeGroups = 0;
       dataBlocks = blocksWritten (x .image) (x .blockSize) (d .planned .columns);
       metadataSize = d .laidOut .metadataEnd;
-      fileSize = d .laidOut .fileSize }
+      fileSize = d .laidOut .fileSize;
+    }
 
 -- ---- the answer
 
@@ -176,7 +177,8 @@ outcome x out list work (ok d) =
       answered = ok (report x d);
       output = blit 0 (fileOf x (d .laidOut)) out;
       list = blit 0 (omissionWords (d .planned .omissions)) list;
-      work = work }
+      work = work;
+    }
 
 -- a whole call
 unfoldable pub convert : Args → List ℕ → List ℕ → List (List ℕ) → Outcome

@@ -74,7 +74,7 @@ after-more n r m h =
     let l : 0 < n = omega arith in
     ⊎-elim
     (λ e. let a : r + suc m ≡ n + m = omega arith in
-        rw (← after-end n r e, zero-add m, a, remainder-is n m l, remainder-is n (n + m) l) (sym (add-mod-left n m)))
+    rw (← after-end n r e, zero-add m, a, remainder-is n m l, remainder-is n (n + m) l) (sym (add-mod-left n m)))
     (λ e. let a : r + 1 + m ≡ r + suc m = omega arith in rw (← after-in n r e, a))
     (eq-or-ne (r + 1) n)
 
@@ -84,14 +84,14 @@ module _ (id n : ℕ) where
       → pastIds id n r (x ++ y) ≡ pastIds id n r x ++ pastIds id n (remainder n (r + length x)) y
   unfolding pastIds
   ids-append [] r y h =
-    let e : remainder n (r + 0) ≡ r = rw (add-zero r) (remainder-is n r (omega arith) ∙ mod-eq-of-lt h) in
-    rw e
+      let e : remainder n (r + 0) ≡ r = rw (add-zero r) (remainder-is n r (omega arith) ∙ mod-eq-of-lt h) in
+      rw e
   ids-append (b ∷ x) r y h =
-    let i = ids-append x (after n r) y (after-small n r h) in
-    rw (i, after-more n r (length x) h)
-    (⊎-elim (λ l. rw (← lt-yes r id (pastIds id n (after n r) x) (b ∷ pastIds id n (after n r) x) l refl) (sym (lt-yes _ _ _ _ l refl)))
-        (λ l. rw (← lt-no r id (pastIds id n (after n r) x) (b ∷ pastIds id n (after n r) x) l refl) (sym (lt-no _ _ _ _ l refl)))
-        (lt-or-le r id))
+      let i = ids-append x (after n r) y (after-small n r h) in
+      rw (i, after-more n r (length x) h)
+      (⊎-elim (λ l. rw (← lt-yes r id (pastIds id n (after n r) x) (b ∷ pastIds id n (after n r) x) l refl) (sym (lt-yes _ _ _ _ l refl)))
+      (λ l. rw (← lt-no r id (pastIds id n (after n r) x) (b ∷ pastIds id n (after n r) x) l refl) (sym (lt-no _ _ _ _ l refl)))
+      (lt-or-le r id))
 
   ids-none : (r : ℕ) (x : List ℕ) → length x ≡ 0 → pastIds id n r x ≡ []
   unfolding pastIds
@@ -107,29 +107,29 @@ module _ (id n : ℕ) where
   unfolding pastIds
   ids-piece [] r h = sym (drop-nil (id - r))
   ids-piece (b ∷ x) r h =
-    let later : pastIds id n (after n r) x ≡ drop (id - (r + 1)) x =
-          ⊎-elim (λ e. ids-none (after n r) x (omega arith) ∙ sym (drop-none (id - (r + 1)) x (omega arith)))
-          (λ e. let a = after-in n r e in rw (← a) (ids-piece x (r + 1) (omega arith)))
-          (eq-or-ne (r + 1) n) in
-    rw later
-    (⊎-elim (λ l. let e : id - r ≡ suc (id - (r + 1)) = omega arith in rw e (sym (lt-yes _ _ _ _ l refl)))
-        (λ l. let e : id - r ≡ 0 = omega arith in let f : id - (r + 1) ≡ 0 = omega arith in rw (e, f) (sym (lt-no _ _ _ _ l refl)))
-        (lt-or-le r id))
+      let later : pastIds id n (after n r) x ≡ drop (id - (r + 1)) x =
+      ⊎-elim (λ e. ids-none (after n r) x (omega arith) ∙ sym (drop-none (id - (r + 1)) x (omega arith)))
+      (λ e. let a = after-in n r e in rw (← a) (ids-piece x (r + 1) (omega arith)))
+      (eq-or-ne (r + 1) n) in
+      rw later
+      (⊎-elim (λ l. let e : id - r ≡ suc (id - (r + 1)) = omega arith in rw e (sym (lt-yes _ _ _ _ l refl)))
+      (λ l. let e : id - r ≡ 0 = omega arith in let f : id - (r + 1) ≡ 0 = omega arith in rw (e, f) (sym (lt-no _ _ _ _ l refl)))
+      (lt-or-le r id))
 
   pub ids-pieces : (k : ℕ) (l : List ℕ) → 0 < n → length l ≡ k * n → flatten (withoutIds id (pieces k n l)) ≡ pastIds id n 0 l
   unfolding flatten withoutIds pieces
   ids-pieces zero l h e = sym (ids-none 0 l (e ∙ zero-mul n))
   ids-pieces (suc k) l h e =
-    let m : suc k * n ≡ k * n + n = suc-mul k n in
-    let t : length (take n l) ≡ n = length-take-le n l (omega arith) in
-    let a : pastIds id n 0 (take n l ++ drop n l) ≡ pastIds id n 0 (take n l) ++ pastIds id n (remainder n (0 + length (take n l))) (drop n l) =
-          ids-append (take n l) 0 (drop n l) h in
-    let z : remainder n (0 + length (take n l)) ≡ 0 = rw (zero-add (length (take n l)), t) (remainder-is n n h ∙ mod-self n) in
-    let p : pastIds id n 0 (take n l) ≡ drop (id - 0) (take n l) = ids-piece (take n l) 0 (omega arith) in
-    let w : id - 0 ≡ id = omega arith in
-    let i : flatten (withoutIds id (pieces k n (drop n l))) ≡ pastIds id n 0 (drop n l) =
-          ids-pieces k (drop n l) h (simp length-drop (omega arith)) in
-    rw i (sym (ap (pastIds id n 0) (sym (take-append-drop n l)) ∙ a ∙ rw (z, p, w)))
+      let m : suc k * n ≡ k * n + n = suc-mul k n in
+      let t : length (take n l) ≡ n = length-take-le n l (omega arith) in
+      let a : pastIds id n 0 (take n l ++ drop n l) ≡ pastIds id n 0 (take n l) ++ pastIds id n (remainder n (0 + length (take n l))) (drop n l) =
+      ids-append (take n l) 0 (drop n l) h in
+      let z : remainder n (0 + length (take n l)) ≡ 0 = rw (zero-add (length (take n l)), t) (remainder-is n n h ∙ mod-self n) in
+      let p : pastIds id n 0 (take n l) ≡ drop (id - 0) (take n l) = ids-piece (take n l) 0 (omega arith) in
+      let w : id - 0 ≡ id = omega arith in
+      let i : flatten (withoutIds id (pieces k n (drop n l))) ≡ pastIds id n 0 (drop n l) =
+      ids-pieces k (drop n l) h (simp length-drop (omega arith)) in
+      rw i (sym (ap (pastIds id n 0) (sym (take-append-drop n l)) ∙ a ∙ rw (z, p, w)))
 
   pub part-none : (r : ℕ) (bs : List ℕ) → n ≡ 0 → ownPart id n r bs ≡ []
   unfolding ownPart
@@ -142,11 +142,11 @@ module _ (id n : ℕ) where
   part-append : (x : List ℕ) (r : ℕ) (y : List ℕ) → (0 < r → r < n)
       → ownPart id n r (x ++ y) ≡ ownPart id n r x ++ ownPart id n (remainder n (r + length x)) y
   part-append x r y h =
-    ⊎-elim (λ e. rw (part-none r (x ++ y) e, part-none r x e, part-none (remainder n (r + length x)) y e))
-    (λ l. let d : n ≡ 0 → ⊥ = λ e. omega arith in
-        let i : r < n = ⊎-elim (λ e. omega arith) h (eq-zero-or-pos r) in
-        rw (part-some r (x ++ y) d, part-some r x d, part-some (remainder n (r + length x)) y d) (ids-append x r y i))
-    (eq-zero-or-pos n)
+      ⊎-elim (λ e. rw (part-none r (x ++ y) e, part-none r x e, part-none (remainder n (r + length x)) y e))
+      (λ l. let d : n ≡ 0 → ⊥ = λ e. omega arith in
+      let i : r < n = ⊎-elim (λ e. omega arith) h (eq-zero-or-pos r) in
+      rw (part-some r (x ++ y) d, part-some r x d, part-some (remainder n (r + length x)) y d) (ids-append x r y i))
+      (eq-zero-or-pos n)
 
 -- ---- a run
 joined-length : (s : List ℕ) (fs : List Fragment) → rangesIn s fs ≡ fine → length (joined s fs) ≡ sizeOf fs
@@ -171,8 +171,8 @@ pieces-bytes : (id z n : ℕ) (l : List ℕ) → length l ≡ z → remainder n 
 pieces-bytes id z n l e v =
     ⊎-elim (λ y. pieces-none id z n l y ∙ sym (part-none id n 0 l y))
     (λ h. let m : z % n ≡ 0 = sym (remainder-is n z h) ∙ v in
-        let k : length l ≡ z / n * n = e ∙ omega (arith, div-add-mod' z n) in
-        ids-pieces id n (z / n) l h k ∙ sym (part-some id n 0 l (λ y. omega arith)))
+    let k : length l ≡ z / n * n = e ∙ omega (arith, div-add-mod' z n) in
+    ids-pieces id n (z / n) l h k ∙ sym (part-some id n 0 l (λ y. omega arith)))
     (eq-zero-or-pos n)
 
 run-bytes : (s : List ℕ) (d g : ℕ) (q : Run) → rangesIn s (q .fragments) ≡ fine
@@ -187,8 +187,8 @@ run-bytes s d g q r w =
 data Whole (s : List ℕ) (d g : ℕ) : ℕ → List Run → Type 0 where
   end : {r : ℕ} → Whole s d g r []
   more : {r : ℕ} {q : Run} {qs : List Run} → (0 < r → r < recordSize s d g (q .kind))
-    → remainder (recordSize s d g (q .kind)) (r + sizeOf (q .fragments)) ≡ 0 → rangesIn s (q .fragments) ≡ fine → Whole s d g 0 qs
-    → Whole s d g r (q ∷ qs)
+      → remainder (recordSize s d g (q .kind)) (r + sizeOf (q .fragments)) ≡ 0 → rangesIn s (q .fragments) ≡ fine → Whole s d g 0 qs
+      → Whole s d g r (q ∷ qs)
 
 record First (s : List ℕ) (d g r : ℕ) (q : Run) (qs : List Run) : Type 0 where
   small : 0 < r → r < recordSize s d g (q .kind)
@@ -254,11 +254,12 @@ ranged-runs s (f ∷ fs) e = go (front-of f (runs fs)) (ranged-runs s fs (ranges
   where
     h : f .offset + f .size ≤ length s
     h = ranges-head s f fs e
+
     go : Front f (runs fs) → Ranged s (runs fs) → Ranged s (inFront f (runs fs))
     go (alone i) r = subst (Ranged s) (sym i) (next {q = run (f .kind) (f ∷ [])} (ranges-cons s f [] h (ranges-none s)) r)
     go (joins xs rs j i) r =
-      let a = ranged-first (subst (Ranged s) j r) in
-      subst (Ranged s) (sym i) (next {q = run (f .kind) (f ∷ xs)} (ranges-cons s f xs h (a .0)) (a .1))
+        let a = ranged-first (subst (Ranged s) j r) in
+        subst (Ranged s) (sym i) (next {q = run (f .kind) (f ∷ xs)} (ranges-cons s f xs h (a .0)) (a .1))
 
 whole-runs : (s : List ℕ) (d g : ℕ) (qs : List Run) → Ranged s qs → runsWhole s d g qs ≡ fine → Whole s d g 0 qs
 unfolding runsWhole
@@ -267,7 +268,7 @@ whole-runs s d g (q ∷ qs) r e =
     let a = ranged-first r in
     let b = then-fine (runWhole (recordSize s d g (q .kind)) (q .fragments)) (λ _. runsWhole s d g qs) e in
     let w : remainder (recordSize s d g (q .kind)) (0 + sizeOf (q .fragments)) ≡ 0 =
-          rw (zero-add (sizeOf (q .fragments))) (run-divides (recordSize s d g (q .kind)) (q .fragments) (b .0)) in
+    rw (zero-add (sizeOf (q .fragments))) (run-divides (recordSize s d g (q .kind)) (q .fragments) (b .0)) in
     more {r = 0} {q = q} (λ z. absurd (omega arith)) w (a .0) (whole-runs s d g qs (a .1) (b .1))
 
 -- ---- fragment by fragment
@@ -307,32 +308,36 @@ module _ (s : List ℕ) (d g : ℕ) where
     where
       k : Kind
       k = f .kind
+
       x : List ℕ
       x = part (f .offset) (f .size) s
+
       lx : length x ≡ f .size
       lx = let h = ranges-head s f fs e in part-all (f .offset) (f .size) s (omega arith)
+
       r' : ℕ
       r' = remainder (size-of k) (r + f .size)
+
       go : Front f (runs fs) → ((m : ℕ) → Whole s d g m (runs fs) → ownFrom s d g m fs ≡ ownRuns s d g m (runs fs))
-        → ownPart (id-of k) (size-of k) r x ++ ownFrom s d g r' fs ≡ ownRuns s d g r (inFront f (runs fs))
+          → ownPart (id-of k) (size-of k) r x ++ ownFrom s d g r' fs ≡ ownRuns s d g r (inFront f (runs fs))
       go (alone i) ih =
-        let v : First s d g r (run k (f ∷ [])) (runs fs) = first (subst (Whole s d g r) i w) in
-        let z : r' ≡ 0 = rw (size-one f) at (v .divides) in
-        let a : ownFrom s d g r' fs ≡ ownRuns s d g 0 (runs fs) = rw z (ih 0 (v .later)) in
-        rw (a, i, runs-cons (run k (f ∷ [])) (runs fs) r, joined-one f)
+          let v : First s d g r (run k (f ∷ [])) (runs fs) = first (subst (Whole s d g r) i w) in
+          let z : r' ≡ 0 = rw (size-one f) at (v .divides) in
+          let a : ownFrom s d g r' fs ≡ ownRuns s d g 0 (runs fs) = rw z (ih 0 (v .later)) in
+          rw (a, i, runs-cons (run k (f ∷ [])) (runs fs) r, joined-one f)
       go (joins xs rs j i) ih =
-        let v : First s d g r (run k (f ∷ xs)) rs = first (subst (Whole s d g r) i w) in
-        let n : ℕ = size-of k in
-        let p : r + f .size + sizeOf xs ≡ r + (f .size + sizeOf xs) = omega arith in
-        let c : remainder n (r' + sizeOf xs) ≡ 0 =
-              remainder-add n (r + f .size) (sizeOf xs) ∙ rw p (rw (size-cons f xs) at (v .divides)) in
-        let y : rangesIn s xs ≡ fine = ranges-tail s f xs (v .ranges) in
-        let u : Whole s d g r' (run k xs ∷ rs) = more {q = run k xs} (remainder-low n (r + f .size)) c y (v .later) in
-        let a : ownFrom s d g r' fs ≡ ownRuns s d g r' (run k xs ∷ rs) = ih r' (subst (Whole s d g r') (sym j) u) ∙ ap (ownRuns s d g r') j in
-        let b : ownPart (id-of k) n r (x ++ joined s xs) ≡ ownPart (id-of k) n r x ++ ownPart (id-of k) n r' (joined s xs) =
-              part-append (id-of k) n x r (joined s xs) (v .small) ∙ rw lx in
-        rw (a, i, runs-cons (run k (f ∷ xs)) rs r, runs-cons (run k xs) rs r', joined-cons f xs, b)
-        (sym (append-assoc (ownPart (id-of k) n r x) (ownPart (id-of k) n r' (joined s xs)) (ownRuns s d g 0 rs)))
+          let v : First s d g r (run k (f ∷ xs)) rs = first (subst (Whole s d g r) i w) in
+          let n : ℕ = size-of k in
+          let p : r + f .size + sizeOf xs ≡ r + (f .size + sizeOf xs) = omega arith in
+          let c : remainder n (r' + sizeOf xs) ≡ 0 =
+          remainder-add n (r + f .size) (sizeOf xs) ∙ rw p (rw (size-cons f xs) at (v .divides)) in
+          let y : rangesIn s xs ≡ fine = ranges-tail s f xs (v .ranges) in
+          let u : Whole s d g r' (run k xs ∷ rs) = more {q = run k xs} (remainder-low n (r + f .size)) c y (v .later) in
+          let a : ownFrom s d g r' fs ≡ ownRuns s d g r' (run k xs ∷ rs) = ih r' (subst (Whole s d g r') (sym j) u) ∙ ap (ownRuns s d g r') j in
+          let b : ownPart (id-of k) n r (x ++ joined s xs) ≡ ownPart (id-of k) n r x ++ ownPart (id-of k) n r' (joined s xs) =
+          part-append (id-of k) n x r (joined s xs) (v .small) ∙ rw lx in
+          rw (a, i, runs-cons (run k (f ∷ xs)) rs r, runs-cons (run k xs) rs r', joined-cons f xs, b)
+          (sym (append-assoc (ownPart (id-of k) n r x) (ownPart (id-of k) n r' (joined s xs)) (ownRuns s d g 0 rs)))
 
   pub sorted-ranges : (fs : List Fragment) → sortedIn s d g fs ≡ fine → rangesIn s fs ≡ fine
   unfolding sortedIn
@@ -369,14 +374,14 @@ module _ (s : List ℕ) (id n p left r to : ℕ) (out : List ℕ) {g : Filled} (
     unfolding pastIds
     byte-id l =
         let a : pastIds id n r (part p left s) ≡ pastIds id n q (part (p + 1) (left - 1) s) =
-              ap (pastIds id n r) (part-cons p left s h k) ∙ sym (lt-yes _ _ _ _ l (rw e)) in
+        ap (pastIds id n r) (part-cons p left s h k) ∙ sym (lt-yes _ _ _ _ l (rw e)) in
         rw a at rest
 
     pub byte-own : id ≤ r → laidFrom (to + 1) (pastIds id n q (part (p + 1) (left - 1) s)) (set out to (getD s p 0)) ≡ g
     unfolding pastIds
     byte-own l =
         let a : pastIds id n r (part p left s) ≡ getD s p 0 ∷ pastIds id n q (part (p + 1) (left - 1) s) =
-              ap (pastIds id n r) (part-cons p left s h k) ∙ sym (lt-no _ _ _ _ l (rw e)) in
+        ap (pastIds id n r) (part-cons p left s h k) ∙ sym (lt-no _ _ _ _ l (rw e)) in
         laid-more to (getD s p 0) (pastIds id n q (part (p + 1) (left - 1) s)) out ∙ (rw a at rest)
 
 pub bytes-none : (id n r to : ℕ) (bs out : List ℕ) → to ≤ length out → n ≡ 0 → filled (ok to) out ≡ laidFrom to (ownPart id n r bs) out
@@ -418,11 +423,12 @@ module _ {s : List ℕ} {d g : ℕ} {ws : List ℕ} {i begun to : ℕ} {out : Li
       let m' : n ≡ recordSize s d g k = rw kb m in
       let j' : id ≡ idBytes s d k = rw kb j in
       let a : ownFrom s d g begun (fragmentsFrom ws i) ≡ ownPart id n begun (part o z s) ++ ownFrom s d g begun' (fragmentsFrom ws (i + 3)) =
-            ap (ownFrom s d g begun) w ∙ rw (← m', ← j', ← x, ← y, c) in
+      ap (ownFrom s d g begun) w ∙ rw (← m', ← j', ← x, ← y, c) in
       record {
         ranges = ranges-tail s f (fragmentsFrom ws (i + 3)) (rw w at (t .ranges));
         rest = laid-then to (ownPart id n begun (part o z s)) out e (ownFrom s d g begun' (fragmentsFrom ws (i + 3))) ∙ (rw a at (t .rest));
-        low = laid-low to (ownPart id n begun (part o z s)) out e }
+        low = laid-low to (ownPart id n begun (part o z s)) out e;
+      }
 
 -- ---- the checks, then the bytes
 pub alone-laid : (s : List ℕ) (d g : ℕ) (fs : List Fragment) (out : List ℕ) {x : Filled} → sortedIn s d g fs ≡ fine

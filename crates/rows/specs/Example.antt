@@ -35,7 +35,7 @@ pub own :
     × (ownRecords image 0 0 (32 ∷ []) (bytes 144 8 dt ∷ []) ≡ refused 15 150)
     × (givenBytes (ownRecords image 0 0 (32 ∷ 88 ∷ []) (bytes 144 8 dt ∷ [])) (9 ∷ 9 ∷ 9 ∷ []) ≡ filled (ok 3) (1 ∷ 2 ∷ 3 ∷ []))
 unfolding
-  ownRecords flatten laidFrom blit part ifLt ifLe ifEq leAt linksAt dataAt idSize recordId groupFlags samples invalBytes isStorage
-  rangesIn joined placeOf anyDV inFront runs sizeOf runWhole runsWhole pieces withoutIds runRecords sortedRecords sortedIn
-  withId ofBytes frameOf frameAt framesFrom frames isIdOf equalIds unsortedFrames unsortedRecords
+    ownRecords flatten laidFrom blit part ifLt ifLe ifEq leAt linksAt dataAt idSize recordId groupFlags samples invalBytes isStorage
+    rangesIn joined placeOf anyDV inFront runs sizeOf runWhole runsWhole pieces withoutIds runRecords sortedRecords sortedIn
+    withId ofBytes frameOf frameAt framesFrom frames isIdOf equalIds unsortedFrames unsortedRecords
 own = (refl, refl, refl, refl, refl)

@@ -44,9 +44,9 @@ module _ (to : ℕ) (out : List ℕ) (h : to ≤ length out) where
   pub laid-full : (bs : List ℕ) → length out ≤ to → filled (ok to) out ≡ laidFrom to bs out
   unfolding laidFrom
   laid-full bs k =
-    let e : length out ≡ to = omega arith in
-    let m : min (to + length bs) (length out) ≡ length out = min-eq-right (omega arith) in
-    rw (m, blit-out bs to out k, e)
+      let e : length out ≡ to = omega arith in
+      let m : min (to + length bs) (length out) ≡ length out = min-eq-right (omega arith) in
+      rw (m, blit-out bs to out k, e)
 
 pub laid-more : (to b : ℕ) (bs out : List ℕ) → laidFrom (to + 1) bs (set out to b) ≡ laidFrom to (b ∷ bs) out
 unfolding laidFrom blit
@@ -68,30 +68,30 @@ module _ (to : ℕ) (xs out : List ℕ) {r : ℕ} {v : List ℕ} (e : filled (ok
 
   pub laid-low : r ≤ length v
   laid-low =
-    let a = laid-same in
-    let i = index-is in
-    ⊎-elim (λ h. let m : min (to + length xs) (length out) ≡ to + length xs = min-eq-left (omega arith) in omega arith)
-    (λ h. let m : min (to + length xs) (length out) ≡ length out = min-eq-right h in omega arith)
-    (lt-or-le (to + length xs) (length out))
+      let a = laid-same in
+      let i = index-is in
+      ⊎-elim (λ h. let m : min (to + length xs) (length out) ≡ to + length xs = min-eq-left (omega arith) in omega arith)
+      (λ h. let m : min (to + length xs) (length out) ≡ length out = min-eq-right h in omega arith)
+      (lt-or-le (to + length xs) (length out))
 
   -- more past what was laid
   pub laid-then : (ys : List ℕ) → laidFrom r ys v ≡ laidFrom to (xs ++ ys) out
   unfolding laidFrom
   laid-then ys =
-    let a = laid-same in
-    let i = index-is in
-    let j : length (xs ++ ys) ≡ length xs + length ys = length-append xs ys in
-    ⊎-elim
-    (λ h.
+      let a = laid-same in
+      let i = index-is in
+      let j : length (xs ++ ys) ≡ length xs + length ys = length-append xs ys in
+      ⊎-elim
+      (λ h.
       let m : r ≡ to + length xs = i ∙ min-eq-left (omega arith) in
       let k : to + length xs + length ys ≡ to + (length xs + length ys) = add-assoc to (length xs) (length ys) in
       rw (j, blit-append xs to ys out, ← bytes-are, a, m, k))
-    (λ h.
+      (λ h.
       let m : r ≡ length out = i ∙ min-eq-right h in
       let p : min (r + length ys) (length out) ≡ length out = min-eq-right (omega arith) in
       let q : min (to + (length xs + length ys)) (length out) ≡ length out = min-eq-right (omega arith) in
       rw (j, blit-append xs to ys out, ← bytes-are, a, blit-out ys r v (omega arith), blit-out ys (to + length xs) v (omega arith), p, q))
-    (lt-or-le (to + length xs) (length out))
+      (lt-or-le (to + length xs) (length out))
 
 -- ---- by the checks
 pub own-refused : (v : Verdict) (rs : List (List ℕ)) (out : List ℕ) {n p : ℕ} → v ≡ refused n p

@@ -58,8 +58,8 @@ module _ (s ws : List ℕ) (at p l : ℕ) {here : ℕ} (is : here ≡ length (pa
 
   joined-here : (here ≡ 0 → ⊥) → joined s (ahead s ws at p l) ≡ getD s p 0 ∷ joined s (ahead s ws at (p + 1) (l - 1))
   joined-here q =
-    let a = here-in q in
-    joined-ahead s ws at p l ∙ rw (part-cons p l s (a .0) (a .1), joined-ahead s ws at (p + 1) (l - 1))
+      let a = here-in q in
+      joined-ahead s ws at p l ∙ rw (part-cons p l s (a .0) (a .1), joined-ahead s ws at (p + 1) (l - 1))
 
 take-more : (more b : ℕ) (bs : List ℕ) → 0 < more → take more (b ∷ bs) ≡ b ∷ take (more - 1) bs
 take-more zero b bs h = absurd (omega arith)
@@ -88,11 +88,12 @@ module _ {s ws : List ℕ} {at p l more to : ℕ} {out : List ℕ} {all : Filled
     pub ahead-byte : (here ≡ 0 → ⊥) → 0 < more → to < length out
         → Laying s ws at (p + 1) (l - 1) (more - 1) (to + 1) (set out to (getD s p 0)) all
     ahead-byte q h k =
-      let bs : List ℕ = joined s (ahead s ws at (p + 1) (l - 1)) in
-      record {
-        rest = laid-more to (getD s p 0) (take (more - 1) bs) out
-          ∙ (rw (joined-here s ws at p l is q, take-more more (getD s p 0) bs h) at (t .rest));
-        low = simp length-set (omega arith) }
+        let bs : List ℕ = joined s (ahead s ws at (p + 1) (l - 1)) in
+        record {
+          rest = laid-more to (getD s p 0) (take (more - 1) bs) out
+              ∙ (rw (joined-here s ws at p l is q, take-more more (getD s p 0) bs h) at (t .rest));
+          low = simp length-set (omega arith);
+        }
 
 -- ---- past the id
 module _ (s ws : List ℕ) (at p l n m to : ℕ) (out : List ℕ) where
@@ -100,9 +101,9 @@ module _ (s ws : List ℕ) (at p l n m to : ℕ) (out : List ℕ) where
       → filled (ok to) out ≡ laidFrom to (part n m (joined s (ahead s ws at p l))) out
   unfolding part
   record-past e h =
-    let a = ahead-counts s ws at p l .few n e in
-    let b : drop n (joined s (ahead s ws at p l)) ≡ [] = drop-of-length-le (joined s (ahead s ws at p l)) {i = n} (omega arith) in
-    rw (b, take-nil {A = ℕ} m) (laid-none to out h)
+      let a = ahead-counts s ws at p l .few n e in
+      let b : drop n (joined s (ahead s ws at p l)) ≡ [] = drop-of-length-le (joined s (ahead s ws at p l)) {i = n} (omega arith) in
+      rw (b, take-nil {A = ℕ} m) (laid-none to out h)
 
   pub record-on : (i q k : ℕ) {x : Filled} → skip n (ahead s ws at p l) ≡ onto (ahead s ws i q k)
       → x ≡ laidFrom to (take m (joined s (ahead s ws i q k))) out → x ≡ laidFrom to (part n m (joined s (ahead s ws at p l))) out
@@ -120,9 +121,9 @@ module _ (s : List ℕ) (n : ℕ) (gs d : List ℕ) where
   sized-bytes : (k m : ℕ) {r : Frame} → ofBytes d n k m ≡ framed r → r .bytes ≡ part n (r .size - n) d
   unfolding ofBytes
   sized-bytes k m e =
-    let q = le-first _ _ _ _ e broken≢framed in
-    let z : n + m - n ≡ m = omega arith in
-    rw (← same-frame (q .1), z)
+      let q = le-first _ _ _ _ e broken≢framed in
+      let z : n + m - n ≡ m = omega arith in
+      rw (← same-frame (q .1), z)
 
   kind-bytes : (k g : ℕ) (b : Bool) {r : Frame}
       → pick b (ifLe (n + 4) (length d) (ofBytes d n k (4 + leAt 4 d n)) broken) (ofBytes d n k (samples s g + invalBytes s g)) ≡ framed r
@@ -175,8 +176,8 @@ bytes-more k rs r e = rw (own-more k rs r e, flatten-append (unsortedRecords k r
 -- ---- the frames, one at a time
 frames-open : (fuel : ℕ) (s : List ℕ) (n : ℕ) (gs : List ℕ) (fs : List Fragment) (d : List ℕ) (p : ℕ) (done : List Frame) → 0 < fuel
     → framesFrom fuel s n gs fs d p done ≡ ifEq (length d) 0 (ok done)
-      (onFramed (frameAt s n gs d) (refused 15 (placeOf fs p))
-          (λ r. framesFrom (fuel - 1) s n gs fs (drop (r .size) d) (p + r .size) (done ++ (r ∷ []))))
+    (onFramed (frameAt s n gs d) (refused 15 (placeOf fs p))
+    (λ r. framesFrom (fuel - 1) s n gs fs (drop (r .size) d) (p + r .size) (done ++ (r ∷ []))))
 unfolding framesFrom
 frames-open zero s n gs fs d p done h = absurd (omega arith)
 frames-open (suc fuel) s n gs fs d p done h = simp sub-one
@@ -211,7 +212,8 @@ take-begin {s} {n} {gs} {ws} {k} {out} =
       rest = rw j;
       taken = rw (none-own k) (laid-none 0 out (omega arith));
       low = omega arith;
-      same = refl }
+      same = refl;
+    }
 
 next-length : (s ws : List ℕ) (at p l : ℕ) {o z : ℕ} → at + 3 ≤ length ws → o ≡ getD ws at 0 → z ≡ getD ws (at + 1) 0
     → length (ahead s ws at p l) ≡ suc (length (ahead s ws (at + 3) o z))
@@ -219,126 +221,129 @@ unfolding ahead clipped
 next-length s ws at p l h x y = rw (from-more ws at h)
 
 module _ {s : List ℕ} {n : ℕ} {gs ws : List ℕ} {k : ℕ} {out₀ : List ℕ} {at p l to : ℕ} {out : List ℕ} (t : Taking s n gs ws k out₀ at p l to out)
-    where
-  module _ {here : ℕ} (is : here ≡ length (part p l s)) where
-    -- a position without bytes: the next fragment, or the end
-    pub take-move : {o z : ℕ} → here ≡ 0 → at + 3 ≤ length ws → o ≡ getD ws at 0 → z ≡ getD ws (at + 1) 0
-        → Taking s n gs ws k out₀ (at + 3) o z to out
-    take-move {o} {z} q h x y =
-      let j : joined s (ahead s ws at p l) ≡ joined s (ahead s ws (at + 3) o z) = joined-next s ws at p l is q h x y in
-      record {
-        done = t .done;
-        passed = t .passed;
-        fuel = t .fuel;
-        enough = rw j at (t .enough);
-        rest = rw j at (t .rest);
-        taken = t .taken;
-        low = t .low;
-        same = t .same }
+  where
+    module _ {here : ℕ} (is : here ≡ length (part p l s)) where
+      -- a position without bytes: the next fragment, or the end
+      pub take-move : {o z : ℕ} → here ≡ 0 → at + 3 ≤ length ws → o ≡ getD ws at 0 → z ≡ getD ws (at + 1) 0
+          → Taking s n gs ws k out₀ (at + 3) o z to out
+      take-move {o} {z} q h x y =
+          let j : joined s (ahead s ws at p l) ≡ joined s (ahead s ws (at + 3) o z) = joined-next s ws at p l is q h x y in
+          record {
+            done = t .done;
+            passed = t .passed;
+            fuel = t .fuel;
+            enough = rw j at (t .enough);
+            rest = rw j at (t .rest);
+            taken = t .taken;
+            low = t .low;
+            same = t .same;
+          }
 
-    pub move-less : {o z : ℕ} → here ≡ 0 → at + 3 ≤ length ws → o ≡ getD ws at 0 → z ≡ getD ws (at + 1) 0
-        → length (joined s (ahead s ws (at + 3) o z)) + length (ahead s ws (at + 3) o z)
-        < length (joined s (ahead s ws at p l)) + length (ahead s ws at p l)
-    move-less {o} {z} q h x y =
-      let j : length (joined s (ahead s ws at p l)) ≡ length (joined s (ahead s ws (at + 3) o z)) =
-            ap length (joined-next s ws at p l is q h x y) in
-      let c = next-length s ws at p l h x y in
-      omega arith
+      pub move-less : {o z : ℕ} → here ≡ 0 → at + 3 ≤ length ws → o ≡ getD ws at 0 → z ≡ getD ws (at + 1) 0
+          → length (joined s (ahead s ws (at + 3) o z)) + length (ahead s ws (at + 3) o z)
+          < length (joined s (ahead s ws at p l)) + length (ahead s ws at p l)
+      move-less {o} {z} q h x y =
+          let j : length (joined s (ahead s ws at p l)) ≡ length (joined s (ahead s ws (at + 3) o z)) =
+          ap length (joined-next s ws at p l is q h x y) in
+          let c = next-length s ws at p l h x y in
+          omega arith
 
-    pub take-end : here ≡ 0 → length ws < at + 3
-        → filled (ok to) out ≡ laidFrom 0 (flatten (framedRecords k (frames s n gs (fragmentsOf ws)))) out₀
-    take-end q h =
-      let j : length (joined s (ahead s ws at p l)) ≡ 0 = ap length (joined-end s ws at p l is q h) in
-      let u = t .enough in
-      let o : frames s n gs (fragmentsOf ws) ≡ ok (t .done) =
-            sym (t .rest) ∙ frames-open (t .fuel) s n gs (fragmentsOf ws) (joined s (ahead s ws at p l)) (t .passed) (t .done) (omega arith)
-            ∙ sym (eq-yes _ _ _ _ j refl) in
-      rw o (t .taken)
+      pub take-end : here ≡ 0 → length ws < at + 3
+          → filled (ok to) out ≡ laidFrom 0 (flatten (framedRecords k (frames s n gs (fragmentsOf ws)))) out₀
+      take-end q h =
+          let j : length (joined s (ahead s ws at p l)) ≡ 0 = ap length (joined-end s ws at p l is q h) in
+          let u = t .enough in
+          let o : frames s n gs (fragmentsOf ws) ≡ ok (t .done) =
+          sym (t .rest) ∙ frames-open (t .fuel) s n gs (fragmentsOf ws) (joined s (ahead s ws at p l)) (t .passed) (t .done) (omega arith)
+          ∙ sym (eq-yes _ _ _ _ j refl) in
+          rw o (t .taken)
 
-    -- no record, where all were framed
-    pub take-broken : andThen (frames s n gs (fragmentsOf ws)) (λ _. fine) ≡ fine → (here ≡ 0 → ⊥)
-        → stepAt s n gs (ahead s ws at p l) ≡ stuck → ⊥
-    take-broken f q e =
-      let a = ap length (joined-here s ws at p l is q) in
-      let u = t .enough in
-      let b : frameAt s n gs (joined s (ahead s ws at p l)) ≡ broken = stuck-broken s n gs (ahead s ws at p l) (ahead-counts s ws at p l) e in
-      let o : frames s n gs (fragmentsOf ws) ≡ refused 15 (placeOf (fragmentsOf ws) (t .passed)) =
-            sym (t .rest) ∙ frames-open (t .fuel) s n gs (fragmentsOf ws) (joined s (ahead s ws at p l)) (t .passed) (t .done) (omega arith)
-            ∙ sym (eq-no _ _ _ _ (λ z. omega arith) refl) ∙ rw b in
-      refused≢ok (rw o at f)
+      -- no record, where all were framed
+      pub take-broken : andThen (frames s n gs (fragmentsOf ws)) (λ _. fine) ≡ fine → (here ≡ 0 → ⊥)
+          → stepAt s n gs (ahead s ws at p l) ≡ stuck → ⊥
+      take-broken f q e =
+          let a = ap length (joined-here s ws at p l is q) in
+          let u = t .enough in
+          let b : frameAt s n gs (joined s (ahead s ws at p l)) ≡ broken = stuck-broken s n gs (ahead s ws at p l) (ahead-counts s ws at p l) e in
+          let o : frames s n gs (fragmentsOf ws) ≡ refused 15 (placeOf (fragmentsOf ws) (t .passed)) =
+          sym (t .rest) ∙ frames-open (t .fuel) s n gs (fragmentsOf ws) (joined s (ahead s ws at p l)) (t .passed) (t .done) (omega arith)
+          ∙ sym (eq-no _ _ _ _ (λ z. omega arith) refl) ∙ rw b in
+          refused≢ok (rw o at f)
 
-  -- a record
-  module _ (at' p' l' : ℕ) {j m : ℕ} (id : 0 < n) (e : stepAt s n gs (ahead s ws at p l) ≡ stepped j m (ahead s ws at' p' l')) where
-    step : Stepping s n gs (ahead s ws at p l) j (ahead s ws at' p' l')
-    step = stepping s n gs (ahead s ws at p l) e
+    -- a record
+    module _ (at' p' l' : ℕ) {j m : ℕ} (id : 0 < n) (e : stepAt s n gs (ahead s ws at p l) ≡ stepped j m (ahead s ws at' p' l')) where
+      step : Stepping s n gs (ahead s ws at p l) j (ahead s ws at' p' l')
+      step = stepping s n gs (ahead s ws at p l) e
 
-    past-is : joined s (ahead s ws at' p' l') ≡ drop (step .frame .size) (joined s (ahead s ws at p l))
-    past-is = ahead-counts s ws at p l .drops (step .frame .size) (step .on)
+      past-is : joined s (ahead s ws at' p' l') ≡ drop (step .frame .size) (joined s (ahead s ws at p l))
+      past-is = ahead-counts s ws at p l .drops (step .frame .size) (step .on)
 
-    past-length : length (joined s (ahead s ws at' p' l')) ≡ length (joined s (ahead s ws at p l)) - step .frame .size
-    past-length = ap length past-is ∙ length-drop (step .frame .size) (joined s (ahead s ws at p l))
+      past-length : length (joined s (ahead s ws at' p' l')) ≡ length (joined s (ahead s ws at p l)) - step .frame .size
+      past-length = ap length past-is ∙ length-drop (step .frame .size) (joined s (ahead s ws at p l))
 
-    pub record-less : length (joined s (ahead s ws at' p' l')) + length (ahead s ws at' p' l')
-        < length (joined s (ahead s ws at p l)) + length (ahead s ws at p l)
-    record-less =
-      let a = past-length in
-      let b = skip-fewer (ahead s ws at p l) (step .frame .size) (step .on) in
-      let g = step .fits .id-in in
-      let h = step .fits .size-in in
-      omega arith
+      pub record-less : length (joined s (ahead s ws at' p' l')) + length (ahead s ws at' p' l')
+          < length (joined s (ahead s ws at p l)) + length (ahead s ws at p l)
+      record-less =
+          let a = past-length in
+          let b = skip-fewer (ahead s ws at p l) (step .frame .size) (step .on) in
+          let g = step .fits .id-in in
+          let h = step .fits .size-in in
+          omega arith
 
-    past-enough : length (joined s (ahead s ws at' p' l')) < t .fuel - 1
-    past-enough =
-      let a = past-length in
-      let g = step .fits .id-in in
-      let h = step .fits .size-in in
-      let u = t .enough in
-      omega arith
+      past-enough : length (joined s (ahead s ws at' p' l')) < t .fuel - 1
+      past-enough =
+          let a = past-length in
+          let g = step .fits .id-in in
+          let h = step .fits .size-in in
+          let u = t .enough in
+          omega arith
 
-    past-rest : framesFrom (t .fuel - 1) s n gs (fragmentsOf ws) (joined s (ahead s ws at' p' l')) (t .passed + step .frame .size)
-        (t .done ++ (step .frame ∷ [])) ≡ frames s n gs (fragmentsOf ws)
-    past-rest =
-      let d : List ℕ = joined s (ahead s ws at p l) in
-      let g = step .fits .id-in in
-      let h = step .fits .size-in in
-      let u = t .enough in
-      let some : length d ≡ 0 → ⊥ = λ y. omega arith in
-      let o : framesFrom (t .fuel - 1) s n gs (fragmentsOf ws) (drop (step .frame .size) d) (t .passed + step .frame .size)
-            (t .done ++ (step .frame ∷ [])) ≡ frames s n gs (fragmentsOf ws) =
-            rw (step .is) at (eq-no _ _ _ _ some refl
-            ∙ sym (frames-open (t .fuel) s n gs (fragmentsOf ws) d (t .passed) (t .done) (omega arith)) ∙ t .rest) in
-      rw past-is o
+      past-rest : framesFrom (t .fuel - 1) s n gs (fragmentsOf ws) (joined s (ahead s ws at' p' l')) (t .passed + step .frame .size)
+          (t .done ++ (step .frame ∷ [])) ≡ frames s n gs (fragmentsOf ws)
+      past-rest =
+          let d : List ℕ = joined s (ahead s ws at p l) in
+          let g = step .fits .id-in in
+          let h = step .fits .size-in in
+          let u = t .enough in
+          let some : length d ≡ 0 → ⊥ = λ y. omega arith in
+          let o : framesFrom (t .fuel - 1) s n gs (fragmentsOf ws) (drop (step .frame .size) d) (t .passed + step .frame .size)
+          (t .done ++ (step .frame ∷ [])) ≡ frames s n gs (fragmentsOf ws) =
+          rw (step .is) at (eq-no _ _ _ _ some refl
+          ∙ sym (frames-open (t .fuel) s n gs (fragmentsOf ws) d (t .passed) (t .done) (omega arith)) ∙ t .rest) in
+          rw past-is o
 
-    pub take-own : {to' : ℕ} {out' : List ℕ} → j ≡ k → filled (ok to') out' ≡ laidFrom to (part n m (joined s (ahead s ws at p l))) out
-        → Taking s n gs ws k out₀ at' p' l' to' out'
-    take-own {to'} {out'} q x =
-      let r : Frame = step .frame in
-      let b : r .bytes ≡ part n m (joined s (ahead s ws at p l)) = step-bytes s n gs (ahead s ws at p l) e step in
-      let f : List ℕ = flatten (unsortedRecords k (t .done)) in
-      let bs : List ℕ = part n m (joined s (ahead s ws at p l)) in
-      let y : filled (ok to') out' ≡ laidFrom 0 (f ++ bs) out₀ = x ∙ laid-then 0 f out₀ (t .taken) bs in
-      record {
-        done = t .done ++ (r ∷ []);
-        passed = t .passed + r .size;
-        fuel = t .fuel - 1;
-        enough = past-enough;
-        rest = past-rest;
-        taken = rw (bytes-more k (t .done) r (step .group-is ∙ q), b) y;
-        low = laid-low to bs out x;
-        same = laid-same to bs out x ∙ t .same }
+      pub take-own : {to' : ℕ} {out' : List ℕ} → j ≡ k → filled (ok to') out' ≡ laidFrom to (part n m (joined s (ahead s ws at p l))) out
+          → Taking s n gs ws k out₀ at' p' l' to' out'
+      take-own {to'} {out'} q x =
+          let r : Frame = step .frame in
+          let b : r .bytes ≡ part n m (joined s (ahead s ws at p l)) = step-bytes s n gs (ahead s ws at p l) e step in
+          let f : List ℕ = flatten (unsortedRecords k (t .done)) in
+          let bs : List ℕ = part n m (joined s (ahead s ws at p l)) in
+          let y : filled (ok to') out' ≡ laidFrom 0 (f ++ bs) out₀ = x ∙ laid-then 0 f out₀ (t .taken) bs in
+          record {
+            done = t .done ++ (r ∷ []);
+            passed = t .passed + r .size;
+            fuel = t .fuel - 1;
+            enough = past-enough;
+            rest = past-rest;
+            taken = rw (bytes-more k (t .done) r (step .group-is ∙ q), b) y;
+            low = laid-low to bs out x;
+            same = laid-same to bs out x ∙ t .same;
+          }
 
-    pub take-other : (j ≡ k → ⊥) → Taking s n gs ws k out₀ at' p' l' to out
-    take-other q =
-      let r : Frame = step .frame in
-      record {
-        done = t .done ++ (r ∷ []);
-        passed = t .passed + r .size;
-        fuel = t .fuel - 1;
-        enough = past-enough;
-        rest = past-rest;
-        taken = rw (own-other k (t .done) r (λ z. q (sym (step .group-is) ∙ z))) (t .taken);
-        low = t .low;
-        same = t .same }
+      pub take-other : (j ≡ k → ⊥) → Taking s n gs ws k out₀ at' p' l' to out
+      take-other q =
+          let r : Frame = step .frame in
+          record {
+            done = t .done ++ (r ∷ []);
+            passed = t .passed + r .size;
+            fuel = t .fuel - 1;
+            enough = past-enough;
+            rest = past-rest;
+            taken = rw (own-other k (t .done) r (λ z. q (sym (step .group-is) ∙ z))) (t .taken);
+            low = t .low;
+            same = t .same;
+          }
 
 -- ---- the checks
 same-verdict : {x y : Verdict} {u w : List ℕ} → laid x u ≡ laid y w → x ≡ y
@@ -358,8 +363,8 @@ module _ (s : List ℕ) (d : ℕ) (gs : List ℕ) (fs : List Fragment) (w : List
       → filled (refused n p) out
       ≡ givenBytes (ownOf (andThen (unsortedFrames s d gs fs) (λ _. fine)) (framedRecords k (unsortedFrames s d gs fs))) out
   several-refused k out q =
-    own-refused (andThen (unsortedFrames s d gs fs) (λ _. fine)) (framedRecords k (unsortedFrames s d gs fs)) out
-    (so-refused (sym (counted-verdict (length gs) (unsortedFrames s d gs fs) w e)) q)
+      own-refused (andThen (unsortedFrames s d gs fs) (λ _. fine)) (framedRecords k (unsortedFrames s d gs fs)) out
+      (so-refused (sym (counted-verdict (length gs) (unsortedFrames s d gs fs) w e)) q)
 
 record AllFramed (s : List ℕ) (d : ℕ) (gs : List ℕ) (fs : List Fragment) : Type 0 where
   id : 0 < idSize s d
@@ -372,11 +377,11 @@ all-framed s d gs fs e = go (severalIn s d gs fs) refl
   where
     go : (v : Verdict) → severalIn s d gs fs ≡ v → AllFramed s d gs fs
     go (ok u) q =
-      let i : unsortedFrames s d gs fs ≡ frames s (idSize s d) gs fs = several-is s d gs fs ∙ rw q in
-      record { id = several-passed s d gs fs q .id; is = i; whole = rw i at e }
+        let i : unsortedFrames s d gs fs ≡ frames s (idSize s d) gs fs = several-is s d gs fs ∙ rw q in
+        record { id = several-passed s d gs fs q .id; is = i; whole = rw i at e }
     go (refused n p) q =
-      let i : unsortedFrames s d gs fs ≡ refused n p = several-is s d gs fs ∙ rw q in
-      absurd (refused≢ok (rw i at e))
+        let i : unsortedFrames s d gs fs ≡ refused n p = several-is s d gs fs ∙ rw q in
+        absurd (refused≢ok (rw i at e))
 
 module _ (s : List ℕ) (d : ℕ) (gs : List ℕ) (fs : List Fragment) (e : andThen (unsortedFrames s d gs fs) (λ _. fine) ≡ fine) {n : ℕ}
     (i : n ≡ idSize s d) where
@@ -386,5 +391,5 @@ module _ (s : List ℕ) (d : ℕ) (gs : List ℕ) (fs : List Fragment) (e : andT
   pub several-laid : (k : ℕ) (out : List ℕ) {x : Filled} → x ≡ laidFrom 0 (flatten (framedRecords k (frames s n gs fs))) out
       → x ≡ givenBytes (ownOf (andThen (unsortedFrames s d gs fs) (λ _. fine)) (framedRecords k (unsortedFrames s d gs fs))) out
   several-laid k out q =
-    own-fine (andThen (unsortedFrames s d gs fs) (λ _. fine)) (framedRecords k (unsortedFrames s d gs fs)) out e
-    (rw (all-framed s d gs fs e .is, ← i) q)
+      own-fine (andThen (unsortedFrames s d gs fs) (λ _. fine)) (framedRecords k (unsortedFrames s d gs fs)) out e
+      (rw (all-framed s d gs fs e .is, ← i) q)

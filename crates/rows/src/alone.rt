@@ -1,9 +1,11 @@
 // The records of a group that is alone in its DG: its fragments without the id bytes.
-use fields::Check;
-use records::fragment::{word_at, is_dv};
-use records::group::{id_size, record_size};
-use records::sorted::sorted_in;
 use crate::Rows;
+use fields::Check;
+use records::fragment::is_dv;
+use records::fragment::word_at;
+use records::group::id_size;
+use records::group::record_size;
+use records::sorted::sorted_in;
 ghost use mathlib.Core.Path.{_≡_};
 ghost use Prim.Native.Nat.{_+_, _<_, _≤_};
 ghost use lib.ListN.{length};
@@ -50,10 +52,19 @@ fn passed_by(n: u64, begun: u64, size: u64) -> u64
 }
 
 // Size bytes of the image from a position on, without id bytes, at index at; of the first record so many have passed.
-fn put_part(out: &mut [u8], at: usize, image: &[u8], position: u64, size: u64, id: u64, n: u64, begun: u64) -> usize
+fn put_part(
+    out: &mut [u8],
+    at: usize,
+    image: &[u8],
+    position: u64,
+    size: u64,
+    id: u64,
+    n: u64,
+    begun: u64,
+) -> usize
     requires { ⌜ (at ≤ length (now out)) × (position + size ≤ length (now image)) × (begun < 8589934848) ⌝ }
     ensures { λ r. ⌜ filled (ok r) (now (out .exit))
-      ≡ laidFrom at (ownPart id n begun (part position size (now (image .entry)))) (now (out .entry)) ⌝ }
+        ≡ laidFrom at (ownPart id n begun (part position size (now (image .entry)))) (now (out .entry)) ⌝ }
 {
     if n == 0 {
         return at;
@@ -85,7 +96,7 @@ fn put_part(out: &mut [u8], at: usize, image: &[u8], position: u64, size: u64, i
 fn put_alone(out: &mut [u8], image: &[u8], d: u64, g: u64, fragments: &[u64]) -> usize
     requires { ⌜ rangesIn (now image) (fragmentsOf (now fragments)) ≡ fine ⌝ }
     ensures { λ r. ⌜ filled (ok r) (now (out .exit))
-      ≡ laidFrom 0 (ownFrom (now (image .entry)) d g 0 (fragmentsOf (now (fragments .entry)))) (now (out .entry)) ⌝ }
+        ≡ laidFrom 0 (ownFrom (now (image .entry)) d g 0 (fragmentsOf (now (fragments .entry)))) (now (out .entry)) ⌝ }
 {
     let words = fragments.len() as u64;
     let mut i: u64 = 0;
@@ -107,8 +118,8 @@ fn put_alone(out: &mut [u8], image: &[u8], d: u64, g: u64, fragments: &[u64]) ->
 // The checks, then the records.
 pub(crate) fn own_alone(out: &mut [u8], image: &[u8], d: u64, g: u64, fragments: &[u64]) -> Rows
     ensures { λ r. ⌜ filled (rowsOf r) (now (out .exit))
-      ≡ givenBytes (ownOf (sortedIn (now (image .entry)) d g (fragmentsOf (now (fragments .entry))))
-          (sortedRecords (now (image .entry)) d g (runs (fragmentsOf (now (fragments .entry)))))) (now (out .entry)) ⌝ }
+        ≡ givenBytes (ownOf (sortedIn (now (image .entry)) d g (fragmentsOf (now (fragments .entry))))
+        (sortedRecords (now (image .entry)) d g (runs (fragmentsOf (now (fragments .entry)))))) (now (out .entry)) ⌝ }
 {
     let checked = sorted_in(image, d, g, fragments);
     match checked {

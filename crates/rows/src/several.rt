@@ -1,10 +1,14 @@
 // The records of one of several groups: the DG's data framed to the end, and the bytes of the group's own records.
+use crate::Rows;
 use fields::Check;
 use records::fragment::word_at;
+use records::framing::Framing;
+use records::framing::Moved;
+use records::framing::Step;
+use records::framing::inside;
+use records::framing::skip_on;
 use records::group::id_size;
-use records::framing::{Framing, Step, Moved, inside, skip_on};
 use records::several::count_several;
-use crate::Rows;
 ghost use mathlib.Core.Path.{_≡_};
 ghost use mathlib.Core.List.{flatten};
 ghost use Prim.Native.Nat.{_<_, _≤_};
@@ -19,10 +23,19 @@ ghost use Rattle.rows.specs.Rows.{ownOf, filled, laidFrom, givenBytes};
 ghost use Rattle.rows.specs.Answer.{rowsOf};
 
 // The next m bytes ahead, as many as there are, at index at.
-fn put_ahead(out: &mut [u8], at: usize, image: &[u8], fragments: &[u64], from: u64, position: u64, left: u64, m: u64) -> usize
+fn put_ahead(
+    out: &mut [u8],
+    at: usize,
+    image: &[u8],
+    fragments: &[u64],
+    from: u64,
+    position: u64,
+    left: u64,
+    m: u64,
+) -> usize
     requires { ⌜ at ≤ length (now out) ⌝ }
     ensures { λ r. ⌜ filled (ok r) (now (out .exit))
-      ≡ laidFrom at (take m (joined (now (image .entry)) (ahead (now (image .entry)) (now (fragments .entry)) from position left)))
+        ≡ laidFrom at (take m (joined (now (image .entry)) (ahead (now (image .entry)) (now (fragments .entry)) from position left)))
         (now (out .entry)) ⌝ }
 {
     let words = fragments.len() as u64;
@@ -57,24 +70,45 @@ fn put_ahead(out: &mut [u8], at: usize, image: &[u8], fragments: &[u64], from: u
 }
 
 // The m bytes of a record past its id of n bytes.
-fn put_record(out: &mut [u8], at: usize, image: &[u8], fragments: &[u64], from: u64, position: u64, left: u64, n: u64, m: u64) -> usize
+fn put_record(
+    out: &mut [u8],
+    at: usize,
+    image: &[u8],
+    fragments: &[u64],
+    from: u64,
+    position: u64,
+    left: u64,
+    n: u64,
+    m: u64,
+) -> usize
     requires { ⌜ at ≤ length (now out) ⌝ }
     ensures { λ r. ⌜ filled (ok r) (now (out .exit))
-      ≡ laidFrom at (part n m (joined (now (image .entry)) (ahead (now (image .entry)) (now (fragments .entry)) from position left)))
+        ≡ laidFrom at (part n m (joined (now (image .entry)) (ahead (now (image .entry)) (now (fragments .entry)) from position left)))
         (now (out .entry)) ⌝ }
 {
     let body = skip_on(image, fragments, from, position, left, n);
     match body {
         Moved::Past => at,
-        Moved::To { at: i, position: p, left: l } => put_ahead(out, at, image, fragments, i, p, l, m),
+        Moved::To {
+            at: i,
+            position: p,
+            left: l,
+        } => put_ahead(out, at, image, fragments, i, p, l, m),
     }
 }
 
 // The records of group number k, at the front of out; ids have n bytes.
-fn put_several(out: &mut [u8], image: &[u8], n: u64, groups: &[u64], k: u64, fragments: &[u64]) -> usize
+fn put_several(
+    out: &mut [u8],
+    image: &[u8],
+    n: u64,
+    groups: &[u64],
+    k: u64,
+    fragments: &[u64],
+) -> usize
     requires { ⌜ (0 < n) × (andThen (frames (now image) n (now groups) (fragmentsOf (now fragments))) (λ _. fine) ≡ fine) ⌝ }
     ensures { λ r. ⌜ filled (ok r) (now (out .exit))
-      ≡ laidFrom 0 (flatten (framedRecords k (frames (now (image .entry)) n (now (groups .entry)) (fragmentsOf (now (fragments .entry))))))
+        ≡ laidFrom 0 (flatten (framedRecords k (frames (now (image .entry)) n (now (groups .entry)) (fragmentsOf (now (fragments .entry))))))
         (now (out .entry)) ⌝ }
 {
     let words = fragments.len() as u64;
@@ -100,7 +134,13 @@ fn put_several(out: &mut [u8], image: &[u8], n: u64, groups: &[u64], k: u64, fra
                 Step::Broken => {
                     return to;
                 }
-                Step::Record { group, bytes, next, position: p, left: l } => {
+                Step::Record {
+                    group,
+                    bytes,
+                    next,
+                    position: p,
+                    left: l,
+                } => {
                     if group == k {
                         to = put_record(out, to, image, fragments, at, position, left, n, bytes);
                         f = next;
@@ -118,11 +158,18 @@ fn put_several(out: &mut [u8], image: &[u8], n: u64, groups: &[u64], k: u64, fra
 }
 
 // The checks, for which the data is read to the end, then the records.
-pub(crate) fn own_several(out: &mut [u8], image: &[u8], d: u64, groups: &[u64], k: u64, fragments: &[u64]) -> Rows
+pub(crate) fn own_several(
+    out: &mut [u8],
+    image: &[u8],
+    d: u64,
+    groups: &[u64],
+    k: u64,
+    fragments: &[u64],
+) -> Rows
     ensures { λ r. ⌜ filled (rowsOf r) (now (out .exit))
-      ≡ givenBytes (ownOf
-          (andThen (unsortedFrames (now (image .entry)) d (now (groups .entry)) (fragmentsOf (now (fragments .entry)))) (λ _. fine))
-          (framedRecords k (unsortedFrames (now (image .entry)) d (now (groups .entry)) (fragmentsOf (now (fragments .entry))))))
+        ≡ givenBytes (ownOf
+        (andThen (unsortedFrames (now (image .entry)) d (now (groups .entry)) (fragmentsOf (now (fragments .entry)))) (λ _. fine))
+        (framedRecords k (unsortedFrames (now (image .entry)) d (now (groups .entry)) (fragmentsOf (now (fragments .entry))))))
         (now (out .entry)) ⌝ }
 {
     let mut counts = [0u64; 1];

@@ -101,10 +101,10 @@ next-below s size (p ∷ ps) h = let e = h p here .structureEnds in omega arith
 
 -- from a column's DG on, the columns from there on
 pub chain-shown : {f : List ℕ} (s : List ℕ) (size : ℕ) (memo : List Copy) (all ps : List Placed) (k : ℕ) → length ps ≤ k
-  → ((p : Placed) → In p ps → ColumnSound s size p) → ((m : ℕ) → cgAt m all < 256 ^ 8)
-  → ((b : Block) → In b (structureBlocks s size memo all ps) → Stands f (b .at) (b .bytes))
-  → ((b : Block) → In b (dataBlocks s size ps) → Stands f (b .at) (b .bytes))
-  → shownFrom k f (nextDG ps) ≡ dueAll s all ps
+    → ((p : Placed) → In p ps → ColumnSound s size p) → ((m : ℕ) → cgAt m all < 256 ^ 8)
+    → ((b : Block) → In b (structureBlocks s size memo all ps) → Stands f (b .at) (b .bytes))
+    → ((b : Block) → In b (dataBlocks s size ps) → Stands f (b .at) (b .bytes))
+    → shownFrom k f (nextDG ps) ≡ dueAll s all ps
 unfolding shownFrom dueAll structureBlocks dataBlocks
 chain-shown s size memo all [] zero h sound below made filled = refl
 chain-shown s size memo all [] (suc k) h sound below made filled = sym (eq-yes _ _ _ _ refl refl)
@@ -113,19 +113,19 @@ chain-shown {f} s size memo all (p ∷ ps) (suc k) h sound below made filled =
     let c : ColumnSound s size p = sound p here in
     let kind : ℕ = dataKind (keepsInval s (p .column .group .at) (p .column .channel)) in
     let one : shownAt f (p .dg) ≡ due s all p =
-        column-shown s size kind memo all p (nextDG ps) c below (made _ here) (made _ (there here)) (made _ (there (there here)))
-          (λ b i. made b (in-list s size memo all p ps i)) (λ b i. filled b (in-payload s size p ps i))
-          (λ b i. filled b (in-signal s size p ps i)) in
+    column-shown s size kind memo all p (nextDG ps) c below (made _ here) (made _ (there here)) (made _ (there (there here)))
+    (λ b i. made b (in-list s size memo all p ps i)) (λ b i. filled b (in-payload s size p ps i))
+    (λ b i. filled b (in-signal s size p ps i)) in
     let next : linkAt f (p .dg) 0 ≡ nextDG ps =
-        dg-next s size memo all p (nextDG ps) c (made _ here) (next-below s size ps (λ q i. sound q (there i))) in
+    dg-next s size memo all p (nextDG ps) c (made _ here) (next-below s size ps (λ q i. sound q (there i))) in
     let more = chain-shown s size memo all ps k (omega arith) (λ q i. sound q (there i)) below
-        (λ b i. made b (in-later s size memo all p ps i)) (λ b i. filled b (in-data-later s size p ps i)) in
+    (λ b i. made b (in-later s size memo all p ps i)) (λ b i. filled b (in-data-later s size p ps i)) in
     let a : 0 < p .dg = c .dgAbove in
     sym (eq-no _ _ _ _ (λ e. omega arith) (sym (rw (next, one, more))))
 
 -- HD leads to the first DG
 pub hd-first : {f : List ℕ} (s : List ℕ) (l : Layout) → Stands f 64 (hdBlock s l .bytes) → nextDG (l .placed) < 256 ^ 8
-  → linkAt f 64 0 ≡ nextDG (l .placed)
+    → linkAt f 64 0 ≡ nextDG (l .placed)
 unfolding hdBlock hdLinks
 hd-first {f} s l st h =
     block-link kindHD 104 (hdLinks (nextDG (l .placed)) _ _ _) (hdData s) (rw (hd-shape s (nextDG (l .placed)) _ _ _) at st) 0 (lit< tt) h
@@ -133,12 +133,12 @@ hd-first {f} s l st h =
 -- "Shown: from HD, in planning's order .. one DG per planned column, each with one CG and its one CN":
 -- a sound file shows exactly what is due, however far one looks
 pub shows-due : {f : List ℕ} (x : Args) (l : Layout) → Sound x l f → (k : ℕ) → length (l .placed) ≤ k
-  → shown f k ≡ dueAll (x .image) (l .placed) (l .placed)
+    → shown f k ≡ dueAll (x .image) (l .placed) (l .placed)
 unfolding shown hdBlock
 shows-due {f} x l sound k h =
     let first : linkAt f 64 0 ≡ nextDG (l .placed) =
-        hd-first (x .image) l (sound .stands (hdBlock (x .image) l) (in-hd x l))
-          (next-below (x .image) (x .blockSize) (l .placed) (sound .columns)) in
+    hd-first (x .image) l (sound .stands (hdBlock (x .image) l) (in-hd x l))
+    (next-below (x .image) (x .blockSize) (l .placed) (sound .columns)) in
     rw first (chain-shown (x .image) (x .blockSize) (memoOf l) (l .placed) (l .placed) k h (sound .columns)
-      (cg-below (l .placed) (λ p i. sound .columns p i .structureEnds))
-      (λ b i. sound .stands b (in-structure x l i)) (λ b i. sound .stands b (in-data x l i)))
+    (cg-below (l .placed) (λ p i. sound .columns p i .structureEnds))
+    (λ b i. sound .stands b (in-structure x l i)) (λ b i. sound .stands b (in-data x l i)))

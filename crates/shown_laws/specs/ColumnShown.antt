@@ -76,27 +76,30 @@ choice-small m n a b k h i = go (eqb m n)
 
 -- with blocks there is a DL
 dl-in : (s : List ℕ) (size : ℕ) (p : Placed) → (columnBlocks s size (p .column) ≡ 0 → ⊥)
-  → In (block (dlOf p) (dlBytes s size p)) (dlBlocks s size p)
+    → In (block (dlOf p) (dlBytes s size p)) (dlBlocks s size p)
 unfolding dlBlocks
 dl-in s size p z =
     let e : block (dlOf p) (dlBytes s size p) ∷ [] ≡ ifEq (columnBlocks s size (p .column)) 0 [] (block (dlOf p) (dlBytes s size p) ∷ []) =
-        eq-no _ _ _ _ z refl in
+    eq-no _ _ _ _ z refl in
     let i : In (block (dlOf p) (dlBytes s size p)) (block (dlOf p) (dlBytes s size p) ∷ []) = here in
     rw e at i
 
 -- its data: nothing at link 0, else by the DL
 pub payload-shown : {f : List ℕ} (s : List ℕ) (size kind : ℕ) (p : Placed) → ColumnSound s size p
-  → ((b : Block) → In b (dlBlocks s size p) → Stands f (b .at) (b .bytes))
-  → ((b : Block) → In b (payloadBlocks kind (p .first) (columnPayloads s size (p .column))) → Stands f (b .at) (b .bytes))
-  → joinedPayload f (dlLink s size p) ≡ duePayload s (p .column)
+    → ((b : Block) → In b (dlBlocks s size p) → Stands f (b .at) (b .bytes))
+    → ((b : Block) → In b (payloadBlocks kind (p .first) (columnPayloads s size (p .column))) → Stands f (b .at) (b .bytes))
+    → joinedPayload f (dlLink s size p) ≡ duePayload s (p .column)
 payload-shown {f} s size kind p k list blocks = go (eqb n 0) refl
   where
     n : ℕ
     n = columnBlocks s size (p .column)
+
     ps : List (List ℕ)
     ps = columnPayloads s size (p .column)
+
     count : length ps ≡ n
     count = length-column-payloads s size (p .column)
+
     go : (t : Bool) → eqb n 0 ≡ t → joinedPayload f (dlLink s size p) ≡ duePayload s (p .column)
     go true q =
         let z : n ≡ 0 = eqb-true n 0 q in
@@ -110,7 +113,7 @@ payload-shown {f} s size kind p k list blocks = go (eqb n 0) refl
 
 -- ---- the SD that a CN leads to
 pub signal-shown : {f : List ℕ} (s : List ℕ) (g : Signal) (a : ℕ) → 0 < a → a + 24 + length (signalBytes s g) < 256 ^ 8
-  → ((b : Block) → In b (sdBlocks s g a) → Stands f (b .at) (b .bytes)) → joinedSignal f (sdLink g a) ≡ signalBytes s g
+    → ((b : Block) → In b (sdBlocks s g a) → Stands f (b .at) (b .bytes)) → joinedSignal f (sdLink g a) ≡ signalBytes s g
 signal-shown {f} s unsigned a z h blocks = no-signal f
 signal-shown s (signalData fs) a z h blocks =
     sd-data kindSD a (signalBytes s (signalData fs)) (blocks _ here) (omega arith) (λ e. omega arith)
@@ -121,8 +124,8 @@ sd-small (signalData fs) a k h = h
 
 -- ---- the master that a CG names, by its flags and links
 pub master-shown : (f : List ℕ) (all : List Placed) (cg g : ℕ) (m : Option ℕ) → groupFlags f cg ≡ cgFlags g m
-  → linksAt f cg ≡ 6 + length (masterWord all m) → (0 < length (masterWord all m) → linkAt f cg 6 ≡ getD (masterWord all m) 0 0)
-  → namedMaster f cg ≡ dueMaster all m
+    → linksAt f cg ≡ 6 + length (masterWord all m) → (0 < length (masterWord all m) → linkAt f cg 6 ≡ getD (masterWord all m) 0 0)
+    → namedMaster f cg ≡ dueMaster all m
 unfolding namedMaster
 master-shown f all cg g none e l w = rw e (sym (eq-no _ _ _ _ (λ q. omega (arith, flags-none g)) refl))
 master-shown f all cg g (some m) e l w =
@@ -167,12 +170,12 @@ module _ {f : List ℕ} (s : List ℕ) (size : ℕ) (memo : List Copy) (all : Li
     unfolding dgLinks le
     dg-ids =
         let d : Stands f (dataAt f (p .dg)) (le 1 0 ++ le 7 0) =
-            block-data kindDG 64 (dgLinks s size memo p next) (le 8 0) dg-stands (lit< tt) in
+        block-data kindDG 64 (dgLinks s size memo p next) (le 8 0) dg-stands (lit< tt) in
         read 1 0 (stands-front (le 1 0) (le 7 0) d) (lit< tt)
 
   module _ (st : Stands f (cgOf p) (cgBytes s memo all p)) where
     cg-stands : Stands f (cgOf p)
-      (header kindCG (cgSize (p .column .master)) (length (cgWords s memo all p)) ++ words (cgWords s memo all p) ++ cgData s (p .column))
+        (header kindCG (cgSize (p .column .master)) (length (cgWords s memo all p)) ++ words (cgWords s memo all p) ++ cgData s (p .column))
     cg-stands = rw (cg-shape s memo all p) at st
 
     cg-few : length (cgWords s memo all p) < 256 ^ 8
@@ -216,12 +219,12 @@ module _ {f : List ℕ} (s : List ℕ) (size : ℕ) (memo : List Copy) (all : Li
     cg-master h =
         let links = block-links kindCG (cgSize (p .column .master)) (cgWords s memo all p) _ cg-stands cg-few in
         master-shown f all (cgOf p) (groupFlags s (p .column .group .at)) (p .column .master) cg-flags (omega arith)
-          (λ z. block-link kindCG (cgSize (p .column .master)) (cgWords s memo all p) _ cg-stands 6 (omega arith)
-            (word-small all (p .column .master) h))
+        (λ z. block-link kindCG (cgSize (p .column .master)) (cgWords s memo all p) _ cg-stands 6 (omega arith)
+        (word-small all (p .column .master) h))
 
   module _ (st : Stands f (cnOf p) (cnBytes s memo p)) where
     cn-stands : Stands f (cnOf p)
-      (header kindCN 160 (length (cnLinks s memo p)) ++ words (cnLinks s memo p) ++ cnData s (p .column .group .at) (p .column .channel))
+        (header kindCN 160 (length (cnLinks s memo p)) ++ words (cnLinks s memo p) ++ cnData s (p .column .group .at) (p .column .channel))
     cn-stands = rw (cn-shape s memo p) at st
 
     pub cn-kind : kindAt f (cnOf p) ≡ kindCN
@@ -238,18 +241,29 @@ module _ {f : List ℕ} (s : List ℕ) (size : ℕ) (memo : List Copy) (all : Li
 
 -- what links show of a column whose blocks stand is what is due
 pub column-shown : {f : List ℕ} (s : List ℕ) (size kind : ℕ) (memo : List Copy) (all : List Placed) (p : Placed) (next : ℕ)
-  → ColumnSound s size p → ((m : ℕ) → cgAt m all < 256 ^ 8)
-  → Stands f (p .dg) (dgBytes s size memo p next) → Stands f (cgOf p) (cgBytes s memo all p) → Stands f (cnOf p) (cnBytes s memo p)
-  → ((b : Block) → In b (dlBlocks s size p) → Stands f (b .at) (b .bytes))
-  → ((b : Block) → In b (payloadBlocks kind (p .first) (columnPayloads s size (p .column))) → Stands f (b .at) (b .bytes))
-  → ((b : Block) → In b (sdBlocks s (p .column .signalOf) (p .sd)) → Stands f (b .at) (b .bytes))
-  → shownAt f (p .dg) ≡ due s all p
+    → ColumnSound s size p → ((m : ℕ) → cgAt m all < 256 ^ 8)
+    → Stands f (p .dg) (dgBytes s size memo p next) → Stands f (cgOf p) (cgBytes s memo all p) → Stands f (cnOf p) (cnBytes s memo p)
+    → ((b : Block) → In b (dlBlocks s size p) → Stands f (b .at) (b .bytes))
+    → ((b : Block) → In b (payloadBlocks kind (p .first) (columnPayloads s size (p .column))) → Stands f (b .at) (b .bytes))
+    → ((b : Block) → In b (sdBlocks s (p .column .signalOf) (p .sd)) → Stands f (b .at) (b .bytes))
+    → shownAt f (p .dg) ≡ due s all p
 unfolding shownAt due
 column-shown {f} s size kind memo all p next k h dg cg cn list blocks sd =
-    rw (dg-cg s size memo all p next k dg, cg-cn s size memo all p next k cg,
-      dg-kind s size memo all p next k dg, cg-kind s size memo all p next k cg, cn-kind s size memo all p next k cn,
-      cg-next s size memo all p next k cg, cn-next s size memo all p next k cn, dg-ids s size memo all p next k dg,
-      cg-records s size memo all p next k cg, cg-bytes s size memo all p next k cg, cg-inval s size memo all p next k cg,
-      dg-dl s size memo all p next k dg, payload-shown s size kind p k list blocks,
-      cn-sd s size memo all p next k cn, signal-shown s (p .column .signalOf) (p .sd) (k .sdAbove) (k .sdEnds) sd,
-      cg-master s size memo all p next k cg h)
+    rw (
+      dg-cg s size memo all p next k dg,
+      cg-cn s size memo all p next k cg,
+      dg-kind s size memo all p next k dg,
+      cg-kind s size memo all p next k cg,
+      cn-kind s size memo all p next k cn,
+      cg-next s size memo all p next k cg,
+      cn-next s size memo all p next k cn,
+      dg-ids s size memo all p next k dg,
+      cg-records s size memo all p next k cg,
+      cg-bytes s size memo all p next k cg,
+      cg-inval s size memo all p next k cg,
+      dg-dl s size memo all p next k dg,
+      payload-shown s size kind p k list blocks,
+      cn-sd s size memo all p next k cn,
+      signal-shown s (p .column .signalOf) (p .sd) (k .sdAbove) (k .sdEnds) sd,
+      cg-master s size memo all p next k cg h,
+    )

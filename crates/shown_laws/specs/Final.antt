@@ -36,5 +36,5 @@ module _ (x : Args) (l : Layout) (out : List ℕ) (order : Ordered 0 (blocksOf x
 
     -- read by links it shows exactly what is due
     pub file-shows : ((p : Placed) → In p (l .placed) → ColumnSound (x .image) (x .blockSize) p) → (k : ℕ) → length (l .placed) ≤ k
-      → shown (blit 0 (fileOf x l) out) k ≡ dueAll (x .image) (l .placed) (l .placed)
+        → shown (blit 0 (fileOf x l) out) k ≡ dueAll (x .image) (l .placed) (l .placed)
     file-shows columns k h = shows-due x l (record { stands = file-filled; columns = columns }) k h

@@ -38,27 +38,27 @@ length-flat bs e o = flat-length bs 0 e o ∙ sub-zero e
 
 -- where the whole stands, each block stands at its address
 flat-stands : {b : Block} {l : List ℕ} (bs : List Block) (a e : ℕ) → Ordered a bs e → Stands l a (flat a bs e) → In b bs
-  → Stands l (b .at) (b .bytes)
+    → Stands l (b .at) (b .bytes)
 unfolding flat Ordered
 flat-stands {b} {l} (c ∷ bs) a e o s here =
     let g : a ≤ b .at = o .0 in
     stands-to (stands-back (replicate (b .at - a) 0) (b .bytes) (stands-front _ (flat (b .at + length (b .bytes)) bs e) s))
-      (simp length-replicate (omega arith))
+    (simp length-replicate (omega arith))
 flat-stands {b} {l} (c ∷ bs) a e o s (there i) =
     let g : a ≤ c .at = o .0 in
     let t : Stands l (c .at + length (c .bytes)) (flat (c .at + length (c .bytes)) bs e) =
-        stands-to (stands-back (replicate (c .at - a) 0 ++ c .bytes) (flat (c .at + length (c .bytes)) bs e) s)
-          (simp (length-append, length-replicate) (omega arith)) in
+    stands-to (stands-back (replicate (c .at - a) 0 ++ c .bytes) (flat (c .at + length (c .bytes)) bs e) s)
+    (simp (length-append, length-replicate) (omega arith)) in
     flat-stands bs (c .at + length (c .bytes)) e (o .1) t i
 
 -- each block stands in the final bytes: the file over what the output held
 pub final-stands : {b : Block} (bs : List Block) (e : ℕ) (out : List ℕ) → Ordered 0 bs e → e ≤ length out → In b bs
-  → Stands (blit 0 (flat 0 bs e) out) (b .at) (b .bytes)
+    → Stands (blit 0 (flat 0 bs e) out) (b .at) (b .bytes)
 final-stands bs e out o h i = flat-stands bs 0 e o (record { is = part-blit 0 (flat 0 bs e) out (rw length-flat (omega arith)) }) i
 
 -- what lies past the file is kept
 pub final-keeps : (bs : List Block) (e j n : ℕ) (out : List ℕ) → Ordered 0 bs e → e ≤ j
-  → part j n (blit 0 (flat 0 bs e) out) ≡ part j n out
+    → part j n (blit 0 (flat 0 bs e) out) ≡ part j n out
 final-keeps bs e j n out o h = part-blit-after (flat 0 bs e) 0 j n out (rw length-flat (omega arith))
 
 -- a block of ordered ones begins at or past their beginning

@@ -34,7 +34,7 @@ length-words (w ∷ ws) = simp (length-append, length-le, length-words ws) (omeg
 
 -- word number i
 pub read-word : {f : List ℕ} (ws : List ℕ) (i a : ℕ) → Stands f a (words ws) → i < length ws → getD ws i 0 < 256 ^ 8
-  → leAt 8 f (a + 8 * i) ≡ getD ws i 0
+    → leAt 8 f (a + 8 * i) ≡ getD ws i 0
 unfolding words
 read-word [] i a s h b = absurd (omega arith)
 read-word (w ∷ ws) zero a s h b = read 8 w (stands-to (stands-front (le 8 w) (words ws) s) (omega arith)) b
@@ -71,4 +71,4 @@ module _ {f : List ℕ} {a : ℕ} (k n : ℕ) (ws d : List ℕ) (s : Stands f a 
   pub block-data : length ws < 256 ^ 8 → Stands f (dataAt f a) d
   block-data h =
       stands-at (header k n (length ws) ++ words ws) d s
-        (rw (block-data-at h) (simp (length-append, length-header, length-words) (omega arith)))
+      (rw (block-data-at h) (simp (length-append, length-header, length-words) (omega arith)))

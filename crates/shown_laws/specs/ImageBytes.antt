@@ -43,14 +43,23 @@ module _ (s : List ℕ) (bytes : (i : ℕ) → getD s i 0 < 256) where
 
   -- so of a column there is left to show: its group's CG lies in the image, its count, its payloads, its addresses
   pub column-sound : (size : ℕ) (p : Placed) → dataAt s (p .column .group .at) + 32 ≤ length s → p .column .group .records < 256 ^ 8
-    → EqualBut (columnPayload s size (p .column)) (columnPayloads s size (p .column))
-    → flatten (columnPayloads s size (p .column)) ≡ duePayload s (p .column)
-    → 0 < p .dg → dlOf p < 256 ^ 8
-    → p .first + 24 * columnBlocks s size (p .column) + length (duePayload s (p .column)) < 256 ^ 8
-    → 0 < p .sd → p .sd + 24 + length (signalBytes s (p .column .signalOf)) < 256 ^ 8
-    → ColumnSound s size p
+      → EqualBut (columnPayload s size (p .column)) (columnPayloads s size (p .column))
+      → flatten (columnPayloads s size (p .column)) ≡ duePayload s (p .column)
+      → 0 < p .dg → dlOf p < 256 ^ 8
+      → p .first + 24 * columnBlocks s size (p .column) + length (duePayload s (p .column)) < 256 ^ 8
+      → 0 < p .sd → p .sd + 24 + length (signalBytes s (p .column .signalOf)) < 256 ^ 8
+      → ColumnSound s size p
   column-sound size p inside count equal whole dg structure payload sd signal =
       record {
-        records = count; bytes = bytes-below (p .column .channel); flags = flags-below (p .column .group .at);
+        records = count;
+        bytes = bytes-below (p .column .channel);
+        flags = flags-below (p .column .group .at);
         kept = length-part (dataAt s (p .column .group .at) + 18) 2 s (omega arith);
-        equal = equal; whole = whole; dgAbove = dg; structureEnds = structure; payloadEnds = payload; sdAbove = sd; sdEnds = signal }
+        equal = equal;
+        whole = whole;
+        dgAbove = dg;
+        structureEnds = structure;
+        payloadEnds = payload;
+        sdAbove = sd;
+        sdEnds = signal;
+      }

@@ -32,9 +32,9 @@ framed-data {f} kind a p s h =
 
 -- the links to blocks one after the other lead to their data
 pub linked-data : {f : List ℕ} (ps : List (List ℕ)) (kind pay a at : ℕ)
-  → ((b : Block) → In b (payloadBlocks kind a ps) → Stands f (b .at) (b .bytes)) → Stands f at (blockLinks pay (length ps) a)
-  → EqualBut pay ps
-  → a + 24 * length ps + length (flatten ps) < 256 ^ 8 → linkedData f (length ps) at ≡ flatten ps
+    → ((b : Block) → In b (payloadBlocks kind a ps) → Stands f (b .at) (b .bytes)) → Stands f at (blockLinks pay (length ps) a)
+    → EqualBut pay ps
+    → a + 24 * length ps + length (flatten ps) < 256 ^ 8 → linkedData f (length ps) at ≡ flatten ps
 unfolding linkedData payloadBlocks blockLinks EqualBut flatten
 linked-data [] kind pay a at blocks s eq h = refl
 linked-data {f} (p ∷ []) kind pay a at blocks s eq h =
@@ -45,29 +45,29 @@ linked-data {f} (p ∷ q ∷ ps) kind pay a at blocks s eq h =
     let g : a + 24 * length (p ∷ q ∷ ps) + (length p + length (q ++ flatten ps)) < 256 ^ 8 = rw length-append at h in
     let link : leAt 8 f at ≡ a = read 8 a (stands-front (le 8 a) _ s) (omega arith) in
     let rest : Stands f (at + 8) (blockLinks pay (length (q ∷ ps)) (a + (24 + pay))) =
-        stands-at (le 8 a) (blockLinks pay (length (q ∷ ps)) (a + (24 + pay))) s (simp length-le) in
+    stands-at (le 8 a) (blockLinks pay (length (q ∷ ps)) (a + (24 + pay))) s (simp length-le) in
     let next : Stands f (at + 8) (blockLinks pay (length (q ∷ ps)) (a + (24 + length p))) = rw (eq .0) rest in
     let more = linked-data (q ∷ ps) kind pay (a + (24 + length p)) (at + 8) (λ b i. blocks b (there i)) next (eq .1) (omega arith) in
     rw (link, framed-data kind a p (blocks _ here) (omega arith)) (ap (λ (z : List ℕ). p ++ z) more)
 
 -- "Joined: block data in link order": the DL of a column with n blocks and the blocks stand
 pub dl-payload : {f : List ℕ} (s : List ℕ) (size : ℕ) (p : Placed) (dl kind : ℕ) (ps : List (List ℕ)) → Stands f dl (dlBytes s size p)
-  → ((b : Block) → In b (payloadBlocks kind (p .first) ps) → Stands f (b .at) (b .bytes))
-  → length ps ≡ columnBlocks s size (p .column) → EqualBut (columnPayload s size (p .column)) ps
-  → p .first + 24 * length ps + length (flatten ps) < 256 ^ 8 → (dl ≡ 0 → ⊥) → joinedPayload f dl ≡ flatten ps
+    → ((b : Block) → In b (payloadBlocks kind (p .first) ps) → Stands f (b .at) (b .bytes))
+    → length ps ≡ columnBlocks s size (p .column) → EqualBut (columnPayload s size (p .column)) ps
+    → p .first + 24 * length ps + length (flatten ps) < 256 ^ 8 → (dl ≡ 0 → ⊥) → joinedPayload f dl ≡ flatten ps
 unfolding joinedPayload dlBytes
 dl-payload {f} s size p dl kind ps st blocks n eq h z =
     let c : ℕ = columnBlocks s size (p .column) in
     let pay : ℕ = columnPayload s size (p .column) in
     let upTo : Stands f dl (header kindDL (dlSize c) (c + 1) ++ le 8 0 ++ blockLinks pay c (p .first)) =
-        stands-front _ _ (stands-front _ _ (stands-front _ _ st)) in
+    stands-front _ _ (stands-front _ _ (stands-front _ _ st)) in
     let top : Stands f dl (header kindDL (dlSize c) (c + 1)) = stands-front _ _ (stands-front _ _ upTo) in
     let links : linksAt f dl ≡ c + 1 = header-links kindDL (dlSize c) (c + 1) top (omega arith) in
     let list : Stands f (dl + 32) (blockLinks pay c (p .first)) =
-        stands-at (header kindDL (dlSize c) (c + 1) ++ le 8 0) (blockLinks pay c (p .first)) upTo
-          (simp (length-append, length-header, length-le)) in
+    stands-at (header kindDL (dlSize c) (c + 1) ++ le 8 0) (blockLinks pay c (p .first)) upTo
+    (simp (length-append, length-header, length-le)) in
     let whole : linkedData f (length ps) (dl + 32) ≡ flatten ps =
-        linked-data ps kind pay (p .first) (dl + 32) blocks (rw n list) eq h in
+    linked-data ps kind pay (p .first) (dl + 32) blocks (rw n list) eq h in
     let count : linksAt f dl - 1 ≡ length ps = omega arith in
     sym (eq-no _ _ _ _ z (sym (rw count whole)))
 
@@ -82,7 +82,7 @@ no-signal f = sym (eq-yes _ _ _ _ refl refl)
 
 -- the data of an SD that stands
 pub sd-data : {f : List ℕ} (kind a : ℕ) (p : List ℕ) → Stands f a (framed kind p) → 24 + length p < 256 ^ 8 → (a ≡ 0 → ⊥)
-  → joinedSignal f a ≡ p
+    → joinedSignal f a ≡ p
 unfolding joinedSignal
 sd-data kind a p s h z = sym (eq-no _ _ _ _ z (sym (framed-data kind a p s h)))
 

@@ -22,7 +22,7 @@ unfoldable pub hdLinks : ℕ → ℕ → ℕ → ℕ → List ℕ
 hdLinks firstDG firstFH firstAT comment = firstDG ∷ firstFH ∷ 0 ∷ firstAT ∷ 0 ∷ comment ∷ []
 
 pub hd-shape : (s : List ℕ) (firstDG firstFH firstAT comment : ℕ)
-  → hdBytes s firstDG firstFH firstAT comment
+    → hdBytes s firstDG firstFH firstAT comment
     ≡ header kindHD 104 (length (hdLinks firstDG firstFH firstAT comment)) ++ words (hdLinks firstDG firstFH firstAT comment) ++ hdData s
 unfolding hdBytes hdLinks words
 hd-shape s firstDG firstFH firstAT comment = simp (append-assoc, append-nil)
@@ -32,7 +32,7 @@ dgLinks s size memo p next =
     next ∷ cgOf p ∷ ifEq (columnBlocks s size (p .column)) 0 0 (dlOf p) ∷ newLink memo (linkAt s (p .column .group .dataGroup .at) 3) ∷ []
 
 pub dg-shape : (s : List ℕ) (size : ℕ) (memo : List Copy) (p : Placed) (next : ℕ)
-  → dgBytes s size memo p next
+    → dgBytes s size memo p next
     ≡ header kindDG 64 (length (dgLinks s size memo p next)) ++ words (dgLinks s size memo p next) ++ le 8 0
 unfolding dgBytes dgLinks words
 dg-shape s size memo p next = simp (append-assoc, append-nil)
@@ -43,9 +43,9 @@ masterWord all none = []
 masterWord all (some m) = cgAt m all ∷ []
 
 cg-list : (all : List Placed) (m : Option ℕ) (n a b c d e g : ℕ) (l : List ℕ)
-  → header kindCG n (cgLinks m) ++ le 8 a ++ le 8 b ++ le 8 c ++ le 8 d ++ le 8 e ++ le 8 g ++ masterLink all m ++ l
+    → header kindCG n (cgLinks m) ++ le 8 a ++ le 8 b ++ le 8 c ++ le 8 d ++ le 8 e ++ le 8 g ++ masterLink all m ++ l
     ≡ header kindCG n (length (a ∷ b ∷ c ∷ d ∷ e ∷ g ∷ masterWord all m))
-      ++ words (a ∷ b ∷ c ∷ d ∷ e ∷ g ∷ masterWord all m) ++ l
+    ++ words (a ∷ b ∷ c ∷ d ∷ e ∷ g ∷ masterWord all m) ++ l
 unfolding words
 cg-list all none n a b c d e g l = simp (append-assoc, append-nil)
 cg-list all (some m) n a b c d e g l = simp (append-assoc, append-nil)
@@ -56,7 +56,7 @@ cgWords s memo all p =
     ∷ newLink memo (linkAt s (p .column .group .at) 5) ∷ masterWord all (p .column .master)
 
 pub cg-shape : (s : List ℕ) (memo : List Copy) (all : List Placed) (p : Placed)
-  → cgBytes s memo all p
+    → cgBytes s memo all p
     ≡ header kindCG (cgSize (p .column .master)) (length (cgWords s memo all p)) ++ words (cgWords s memo all p) ++ cgData s (p .column)
 unfolding cgBytes cgWords
 cg-shape s memo all p = cg-list all (p .column .master) (cgSize (p .column .master)) _ _ _ _ _ _ (cgData s (p .column))
@@ -68,23 +68,23 @@ cnLinks s memo p =
     ∷ newLink memo (linkAt s (p .column .channel) 6) ∷ newLink memo (linkAt s (p .column .channel) 7) ∷ []
 
 pub cn-shape : (s : List ℕ) (memo : List Copy) (p : Placed)
-  → cnBytes s memo p
+    → cnBytes s memo p
     ≡ header kindCN 160 (length (cnLinks s memo p)) ++ words (cnLinks s memo p) ++ cnData s (p .column .group .at) (p .column .channel)
 unfolding cnBytes cnLinks words
 cn-shape s memo p = simp (append-assoc, append-nil)
 
 -- ---- the data of a new CG: records r, flags g, data bytes n, invalidation bytes i
 module _ {f : List ℕ} {a : ℕ} (r g n i : ℕ) (two : List ℕ)
-  (s : Stands f a (le 8 0 ++ le 8 r ++ le 2 g ++ two ++ le 4 0 ++ le 4 n ++ le 4 i)) where
+    (s : Stands f a (le 8 0 ++ le 8 r ++ le 2 g ++ two ++ le 4 0 ++ le 4 n ++ le 4 i)) where
   pub read-records : r < 256 ^ 8 → leAt 8 f (a + 8) ≡ r
   read-records h =
       read 8 r (stands-at (le 8 0) (le 8 r) (stands-front _ _ (stands-front _ _ (stands-front _ _ (stands-front _ _ (stands-front _ _ s)))))
-        (simp length-le)) h
+      (simp length-le)) h
 
   pub read-flags : g < 256 ^ 2 → leAt 2 f (a + 16) ≡ g
   read-flags h =
       read 2 g (stands-at (le 8 0 ++ le 8 r) (le 2 g) (stands-front _ _ (stands-front _ _ (stands-front _ _ (stands-front _ _ s))))
-        (simp (length-append, length-le))) h
+      (simp (length-append, length-le))) h
 
   pub read-bytes : length two ≡ 2 → n < 256 ^ 4 → leAt 4 f (a + 24) ≡ n
   read-bytes e h =

@@ -30,17 +30,21 @@ stands-to s e = rw e at s
 -- what stands first
 pub stands-front : {l : List ℕ} {a : ℕ} (x y : List ℕ) → Stands l a (x ++ y) → Stands l a x
 unfolding part
-stands-front {l} {a} x y s = record { is =
-    ap (λ (k : ℕ). part k (length x) l) (sym (add-zero a))
-    ∙ sym (part-part a (length (x ++ y)) 0 (length x) l (rw length-append (omega arith)))
-    ∙ ap (part 0 (length x)) (s .is) ∙ take-append-seam x y }
+stands-front {l} {a} x y s = record {
+  is =
+      ap (λ (k : ℕ). part k (length x) l) (sym (add-zero a))
+      ∙ sym (part-part a (length (x ++ y)) 0 (length x) l (rw length-append (omega arith)))
+      ∙ ap (part 0 (length x)) (s .is) ∙ take-append-seam x y;
+}
 
 -- what stands after it
 pub stands-back : {l : List ℕ} {a : ℕ} (x y : List ℕ) → Stands l a (x ++ y) → Stands l (a + length x) y
 unfolding part
-stands-back {l} {a} x y s = record { is =
-    sym (part-part a (length (x ++ y)) (length x) (length y) l (rw length-append (omega arith)))
-    ∙ ap (part (length x) (length y)) (s .is) ∙ ap (take (length y)) (drop-append-seam x y) ∙ take-length y }
+stands-back {l} {a} x y s = record {
+  is =
+      sym (part-part a (length (x ++ y)) (length x) (length y) l (rw length-append (omega arith)))
+      ∙ ap (part (length x) (length y)) (s .is) ∙ ap (take (length y)) (drop-append-seam x y) ∙ take-length y;
+}
 
 -- y after x, at an address that is known otherwise
 pub stands-at : {l : List ℕ} {a b : ℕ} (x y : List ℕ) → Stands l a (x ++ y) → a + length x ≡ b → Stands l b y

@@ -15,7 +15,8 @@ reportOf r = record {
   sharedTimeGroups = r .«shared_time_groups»;
   dataBlocks = r .«data_blocks»;
   metadataSize = r .«metadata_size»;
-  fileSize = r .«file_size» }
+  fileSize = r .«file_size»;
+}
 
 abbrev pub answerOf : Outcome → Checked result.Report
 answerOf r = pick (r .accepted) (ok (reportOf r)) (refused (r .number) (r .place))

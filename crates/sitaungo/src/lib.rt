@@ -1,6 +1,7 @@
 // The conversion and its listing, for programs that link them.
-use writing::convert::{Converted, convert};
 use listing::recording::list;
+use writing::convert::Converted;
+use writing::convert::convert;
 ghost use mathlib.Core.Path.{_≡_};
 ghost use lib.ListN.{length};
 ghost use Rattle.result.specs.Result as result;
@@ -27,27 +28,63 @@ pub struct Outcome {
 // One recording into one file: `convert` of the crate writing.
 #[no_mangle]
 pub extern "C" fn sitaungo_convert(
-    image: &[u8], size: u64, ident: &[u8], text: &[u8], time: u64,
-    source: &mut [u64], fragments: &mut [u64], columns: &mut [u64], copies: &mut [u64], out: &mut [u8], list: &mut [u64],
+    image: &[u8],
+    size: u64,
+    ident: &[u8],
+    text: &[u8],
+    time: u64,
+    source: &mut [u64],
+    fragments: &mut [u64],
+    columns: &mut [u64],
+    copies: &mut [u64],
+    out: &mut [u8],
+    list: &mut [u64],
 ) -> Outcome
     ensures done { λ r. ⌜ left r (now (out .exit)) (now (list .exit))
-          (four (now (source .exit)) (now (fragments .exit)) (now (columns .exit)) (now (copies .exit)))
+        (four (now (source .exit)) (now (fragments .exit)) (now (columns .exit)) (now (copies .exit)))
         ≡ result.convert (args (now (image .entry)) size (now (ident .entry)) (now (text .entry)) time) (now (out .entry)) (now (list .entry))
-          (four (now (source .entry)) (now (fragments .entry)) (now (columns .entry)) (now (copies .entry))) ⌝ }
+        (four (now (source .entry)) (now (fragments .entry)) (now (columns .entry)) (now (copies .entry))) ⌝ }
     ensures promised { λ _. ⌜ Promised (args (now (image .entry)) size (now (ident .entry)) (now (text .entry)) time)
-          (length (now (out .entry))) (length (now (list .entry)))
-          (four (now (source .entry)) (now (fragments .entry)) (now (columns .entry)) (now (copies .entry))) (now (out .exit)) ⌝ }
+        (length (now (out .entry))) (length (now (list .entry)))
+        (four (now (source .entry)) (now (fragments .entry)) (now (columns .entry)) (now (copies .entry))) (now (out .exit)) ⌝ }
 {
-    let answer = convert(image, size, ident, text, time, source, fragments, columns, copies, out, list);
+    let answer = convert(
+        image,
+        size,
+        ident,
+        text,
+        time,
+        source,
+        fragments,
+        columns,
+        copies,
+        out,
+        list,
+    );
     match answer {
         Converted::Refused { number, place } => Outcome {
-            accepted: false, number, place,
-            source_groups: 0, time_groups: 0, signal_groups: 0, shared_time_groups: 0, data_blocks: 0, metadata_size: 0, file_size: 0,
+            accepted: false,
+            number,
+            place,
+            source_groups: 0,
+            time_groups: 0,
+            signal_groups: 0,
+            shared_time_groups: 0,
+            data_blocks: 0,
+            metadata_size: 0,
+            file_size: 0,
         },
         Converted::Done(r) => Outcome {
-            accepted: true, number: 0, place: 0,
-            source_groups: r.source_groups, time_groups: r.time_groups, signal_groups: r.signal_groups,
-            shared_time_groups: r.shared_time_groups, data_blocks: r.data_blocks, metadata_size: r.metadata_size, file_size: r.file_size,
+            accepted: true,
+            number: 0,
+            place: 0,
+            source_groups: r.source_groups,
+            time_groups: r.time_groups,
+            signal_groups: r.signal_groups,
+            shared_time_groups: r.shared_time_groups,
+            data_blocks: r.data_blocks,
+            metadata_size: r.metadata_size,
+            file_size: r.file_size,
         },
     }
 }
@@ -55,12 +92,33 @@ pub extern "C" fn sitaungo_convert(
 // The listing of a recording's conversion into an output of so many bytes and a list of so many words, and its length: `list` of the crate listing.
 #[no_mangle]
 pub extern "C" fn sitaungo_list(
-    image: &[u8], size: u64, ident: &[u8], text: &[u8], out: u64, list_words: u64,
-    source: &mut [u64], fragments: &mut [u64], columns: &mut [u64], copies: &mut [u64], lines: &mut [u8],
+    image: &[u8],
+    size: u64,
+    ident: &[u8],
+    text: &[u8],
+    out: u64,
+    list_words: u64,
+    source: &mut [u64],
+    fragments: &mut [u64],
+    columns: &mut [u64],
+    copies: &mut [u64],
+    lines: &mut [u8],
 ) -> usize
     ensures { λ r. ⌜ Listed (untimed (now (image .entry)) size (now (ident .entry)) (now (text .entry))) out «list_words»
         (four (now (source .entry)) (now (fragments .entry)) (now (columns .entry)) (now (copies .entry))) (now (lines .entry))
         r (now (lines .exit)) (four (now (source .exit)) (now (fragments .exit)) (now (columns .exit)) (now (copies .exit))) ⌝ }
 {
-    list(lines, image, size, ident, text, out, list_words, source, fragments, columns, copies)
+    list(
+        lines,
+        image,
+        size,
+        ident,
+        text,
+        out,
+        list_words,
+        source,
+        fragments,
+        columns,
+        copies,
+    )
 }

@@ -32,7 +32,7 @@ lt-or-le m n = go (ltb m n) refl
 
 -- ---- the words
 pub later-more : (ws : List ℕ) (i : ℕ) → i + 3 ≤ length ws
-  → later ws i ≡ record { offset = getD ws i 0; size = getD ws (i + 1) 0; kind = kindOf (getD ws (i + 2) 0) } ∷ later ws (i + 3)
+    → later ws i ≡ record { offset = getD ws i 0; size = getD ws (i + 1) 0; kind = kindOf (getD ws (i + 2) 0) } ∷ later ws (i + 3)
 unfolding later fragmentsOf
 later-more ws i h =
     let a = drop-cons ws i 0 (omega arith) in
@@ -130,7 +130,7 @@ ranges-past s m (f ∷ fs) e =
     let h = ranges-head s f fs e in
     let t = ranges-tail s f fs e in
     ⊎-elim (λ l. rw (past-on m f fs l) (ranges-past s (m - f .size) fs t))
-        (λ l. rw (past-in m f fs l) (ranges-cons s (shorter m f) fs (omega arith) t))
+    (λ l. rw (past-in m f fs l) (ranges-cons s (shorter m f) fs (omega arith) t))
     (lt-or-le (f .size) m)
 
 pub joined-past : (s : List ℕ) (m : ℕ) (fs : List Fragment) → rangesIn s fs ≡ fine → joined s (past m fs) ≡ drop m (joined s fs)
@@ -143,9 +143,9 @@ joined-past s m (f ∷ fs) e =
     let lx : length x ≡ f .size = length-part (f .offset) (f .size) s h in
     ⊎-elim
     (λ l. let j : m ≡ length x + (m - f .size) = omega arith in
-        rw (past-on m f fs l)
-            (joined-past s (m - f .size) fs (ranges-tail s f fs e) ∙
-            sym (ap (λ (z : ℕ). drop z (x ++ y)) j ∙ drop-append-add x y (m - f .size))))
+    rw (past-on m f fs l)
+    (joined-past s (m - f .size) fs (ranges-tail s f fs e) ∙
+    sym (ap (λ (z : ℕ). drop z (x ++ y)) j ∙ drop-append-add x y (m - f .size))))
     (λ l. rw (past-in m f fs l, ← drop-part m (f .offset) (f .size) s) (sym (drop-append-le m x y (omega arith))))
     (lt-or-le (f .size) m)
 
@@ -155,17 +155,17 @@ past-past m n [] = refl
 past-past m n (f ∷ fs) =
     ⊎-elim
     (λ l. let j : n - f .size + m ≡ n + m - f .size = omega arith in
-        let k : f .size < n + m = omega arith in
-        rw (past-on n f fs l, past-on (n + m) f fs k) (past-past m (n - f .size) fs ∙ rw j))
+    let k : f .size < n + m = omega arith in
+    rw (past-on n f fs l, past-on (n + m) f fs k) (past-past m (n - f .size) fs ∙ rw j))
     (λ l. rw (past-in n f fs l) (⊎-elim
-        (λ k. let j : m - (f .size - n) ≡ n + m - f .size = omega arith in
-            let i : f .size < n + m = omega arith in
-            rw (past-on m (shorter n f) fs k, past-on (n + m) f fs i, j))
-        (λ k. let a : f .offset + n + m ≡ f .offset + (n + m) = omega arith in
-            let b : f .size - n - m ≡ f .size - (n + m) = omega arith in
-            let i : n + m ≤ f .size = omega arith in
-            rw (past-in m (shorter n f) fs k, past-in (n + m) f fs i, a, b))
-        (lt-or-le (f .size - n) m)))
+    (λ k. let j : m - (f .size - n) ≡ n + m - f .size = omega arith in
+    let i : f .size < n + m = omega arith in
+    rw (past-on m (shorter n f) fs k, past-on (n + m) f fs i, j))
+    (λ k. let a : f .offset + n + m ≡ f .offset + (n + m) = omega arith in
+    let b : f .size - n - m ≡ f .size - (n + m) = omega arith in
+    let i : n + m ≤ f .size = omega arith in
+    rw (past-in m (shorter n f) fs k, past-in (n + m) f fs i, a, b))
+    (lt-or-le (f .size - n) m)))
     (lt-or-le (f .size) n)
 
 -- ---- fragments without bytes
@@ -191,14 +191,14 @@ module _ (s : List ℕ) where
   joined-settled [] = refl
   joined-settled (f ∷ fs) =
       ⊎-elim (λ z. rw (settled-none f fs z) (joined-settled fs ∙ sym (joined-zero s f fs z))) (λ l. rw (settled-some f fs l))
-          (zero-or-more (f .size))
+      (zero-or-more (f .size))
 
   pub ranges-settled : (fs : List Fragment) → rangesIn s fs ≡ fine → rangesIn s (settled fs) ≡ fine
   unfolding settled
   ranges-settled [] e = e
   ranges-settled (f ∷ fs) e =
       ⊎-elim (λ z. rw (settled-none f fs z) (ranges-settled fs (ranges-tail s f fs e))) (λ l. rw (settled-some f fs l) e)
-          (zero-or-more (f .size))
+      (zero-or-more (f .size))
 
 pub size-settled : (fs : List Fragment) → sizeOf (settled fs) ≡ sizeOf fs
 unfolding settled sizeOf
@@ -213,7 +213,7 @@ pub record Skipping (s ws : List ℕ) (k : Cursor) (more : ℕ) (g : List Fragme
   pub rest : past more (ahead ws k) ≡ g
 
 pub skipping-next : {s ws : List ℕ} {k : Cursor} {more : ℕ} {g : List Fragment} → Skipping s ws k more g → k .left < more
-  → Skipping s ws (nextOf ws k) (more - k .left) g
+    → Skipping s ws (nextOf ws k) (more - k .left) g
 unfolding sizeOf
 skipping-next {s} {ws} {k} {more} t l =
     let w = more-words ws k more (t .enough) l in
@@ -223,10 +223,11 @@ skipping-next {s} {ws} {k} {more} t l =
     record {
       ranges = ranges-tail s (here ws k) fs (rw e at (t .ranges));
       enough = omega arith;
-      rest = sym (past-on more (here ws k) fs l) ∙ (rw e at (t .rest)) }
+      rest = sym (past-on more (here ws k) fs l) ∙ (rw e at (t .rest));
+    }
 
 pub skipping-end : {s ws : List ℕ} {k : Cursor} {more : ℕ} {g : List Fragment} → Skipping s ws k more g → more ≤ k .left
-  → ahead ws (moved k more) ≡ g
+    → ahead ws (moved k more) ≡ g
 unfolding ahead
 skipping-end {s} {ws} {k} {more} t l = sym (past-in more (here ws k) (later ws (k .at)) l) ∙ t .rest
 
@@ -236,7 +237,7 @@ pub record Settling (ws : List ℕ) (k : Cursor) (g : List Fragment) : Type 0 wh
   pub rest : settled (ahead ws k) ≡ g
 
 pub settling-next : {ws : List ℕ} {k : Cursor} {g : List Fragment} → Settling ws k g → k .left ≡ 0
-  → (k .at + 3 ≤ length ws) × Settling ws (nextOf ws k) g
+    → (k .at + 3 ≤ length ws) × Settling ws (nextOf ws k) g
 unfolding sizeOf
 settling-next {ws} {k} t z =
     let w = more-words ws k 1 (t .some) (omega arith) in
@@ -255,7 +256,7 @@ unfolding ahead
 past-here ws k m h = past-in m (here ws k) (later ws (k .at)) h
 
 pub take-here : (s ws : List ℕ) (k : Cursor) (m : ℕ) → rangesIn s (ahead ws k) ≡ fine → m ≤ k .left
-  → take m (joined s (ahead ws k)) ≡ part (k .position) m s
+    → take m (joined s (ahead ws k)) ≡ part (k .position) m s
 unfolding ahead joined
 take-here s ws k m r h =
     let x : List ℕ = part (k .position) (k .left) s in
@@ -275,21 +276,24 @@ pub record Copying (s ws : List ℕ) (k : Cursor) (left to : ℕ) (out g : List 
   pub bytes : blit to (take left (joined s (ahead ws k))) out ≡ g
 
 pub copying-next : {s ws out g : List ℕ} {k : Cursor} {left to : ℕ} → Copying s ws k left to out g → 0 < left → k .left ≡ 0
-  → (k .at + 3 ≤ length ws) × Copying s ws (nextOf ws k) left to out g
+    → (k .at + 3 ≤ length ws) × Copying s ws (nextOf ws k) left to out g
 unfolding sizeOf
 copying-next {s} {ws} {out} {g} {k} {left} {to} t l z =
     let w = more-words ws k left (t .enough) (omega arith) in
     let e = ahead-next ws k w in
     let fs : List Fragment = ahead ws (nextOf ws k) in
-    let n : left ≤ k .left + sizeOf fs = rw e at (t .enough) in
-    (w, record {
-      ranges = ranges-tail s (here ws k) fs (rw e at (t .ranges));
-      enough = omega arith;
-      room = t .room;
-      bytes = rw (e, joined-zero s (here ws k) fs z) at (t .bytes) })
+    let n : left ≤ k .left + sizeOf fs = rw e at (t .enough) in (
+      w,
+      record {
+        ranges = ranges-tail s (here ws k) fs (rw e at (t .ranges));
+        enough = omega arith;
+        room = t .room;
+        bytes = rw (e, joined-zero s (here ws k) fs z) at (t .bytes);
+      },
+    )
 
 pub copying-piece : {s ws out g last : List ℕ} {k : Cursor} {left to : ℕ} (m : ℕ) → Copying s ws k left to out g → m ≤ left → m ≤ k .left
-  → last ≡ blit to (part (k .position) m s) out → length last ≡ length out → Copying s ws (moved k m) (left - m) (to + m) last g
+    → last ≡ blit to (part (k .position) m s) out → length last ≡ length out → Copying s ws (moved k m) (left - m) (to + m) last g
 copying-piece {s} {ws} {out} {g} {last} {k} {left} {to} m t a b e q =
     let fs : List Fragment = ahead ws k in
     let all : List ℕ = joined s fs in
@@ -305,4 +309,5 @@ copying-piece {s} {ws} {out} {g} {last} {k} {left} {to} m t a b e q =
       ranges = rw (← p) (ranges-past s m fs (t .ranges));
       enough = omega (arith, t .enough);
       room = omega (arith, t .room);
-      bytes = rw (la, j) by }
+      bytes = rw (la, j) by;
+    }

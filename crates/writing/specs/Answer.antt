@@ -22,7 +22,8 @@ reportOf r = record {
   sharedTimeGroups = r .«shared_time_groups»;
   dataBlocks = r .«data_blocks»;
   metadataSize = r .«metadata_size»;
-  fileSize = r .«file_size» }
+  fileSize = r .«file_size»;
+}
 
 abbrev pub answerOf : Converted → Checked Report
 answerOf (Refused number place) = refused number place

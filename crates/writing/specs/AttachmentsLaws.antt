@@ -27,7 +27,7 @@ use Rattle.writing.specs.Attachments.{attachment, attachmentsFrom, attac
 
 -- ---- one attachment and the rest
 attachments-cons : (w : List ℕ) (p k n : ℕ) → 0 < n
-  → attachmentsFrom w p k n ≡ attachment w p k ∷ attachmentsFrom w (p + 3) (k + getD w (p + 2) 0) (n - 1)
+    → attachmentsFrom w p k n ≡ attachment w p k ∷ attachmentsFrom w (p + 3) (k + getD w (p + 2) 0) (n - 1)
 unfolding attachmentsFrom
 attachments-cons w p k zero h = absurd (omega arith)
 attachments-cons w p k (suc n) h = rw sub-one
@@ -61,10 +61,10 @@ module _ {s : List ℕ} {p : ℕ} {own : List Copy} {x y e : ℕ} (t : Placing s
       omega (arith, v .end, r .1)
 
   pub wrote-attachment : (next : ℕ) {q r : ℕ} {out mid last : List ℕ} → Wrote p (copiedBlocks s chain memo fh own) q out mid
-    → Wrote q (block y (atBytes s memo x next) ∷ []) r mid last → Wrote p (copiedBlocks s chain memo fh own ++ (block y (atBytes s memo x next) ∷ [])) r out last
+      → Wrote q (block y (atBytes s memo x next) ∷ []) r mid last → Wrote p (copiedBlocks s chain memo fh own ++ (block y (atBytes s memo x next) ∷ [])) r out last
   wrote-attachment next {q} {r} v w =
       wrote-append e v w (ordered-last p y e (copiedBlocks s chain memo fh own) (atBytes s memo x next)
-        (copied-ordered s chain memo fh p y own (t .laid)) (rw (length-at s memo x next (t .moved)) (t .ends)))
+      (copied-ordered s chain memo fh p y own (t .laid)) (rw (length-at s memo x next (t .moved)) (t .ends)))
 
 -- ---- the loop over the attachments from number i on
 module _ (s w chain : List ℕ) (used fh a : ℕ) (bs : List Block) (out₀ : List ℕ) (count i k p : ℕ) (out : List ℕ) where
@@ -76,8 +76,8 @@ module _ (s w chain : List ℕ) (used fh a : ℕ) (bs : List Block) (out₀ : Li
     pub left : Left a bs out₀ p (attachmentBlocks s chain (copiesIn w used) fh (attachmentsFrom w (4096 + 3 * i) k (count - i))) out
 
 pub attachments-begin : (s w chain : List ℕ) (used fh a first count : ℕ) (out : List ℕ)
-  → first + length (ownCopies (attachmentsIn w first count)) ≤ used → LaidAt s a (attachmentsIn w first count) (length out)
-  → AttachmentsLeft s w chain used fh a (attachmentBlocks s chain (copiesIn w used) fh (attachmentsIn w first count)) out count 0 first a out
+    → first + length (ownCopies (attachmentsIn w first count)) ≤ used → LaidAt s a (attachmentsIn w first count) (length out)
+    → AttachmentsLeft s w chain used fh a (attachmentBlocks s chain (copiesIn w used) fh (attachmentsIn w first count)) out count 0 first a out
 attachments-begin s w chain used fh a first count out h l =
     let e : count - 0 ≡ count = omega arith in
     let f : 4096 + 3 * 0 ≡ 4096 = omega arith in
@@ -87,29 +87,30 @@ attachments-begin s w chain used fh a first count out h l =
       same = refl;
       few = rw q at h;
       laid = subst (λ (ts : List Attachment). LaidAt s a ts (length out)) q l;
-      left = rw q (left-all a _ out) }
+      left = rw q (left-all a _ out);
+    }
 
 module _ {s w chain : List ℕ} {used fh a : ℕ} {bs : List Block} {out₀ : List ℕ} {count i k p : ℕ} {out : List ℕ}
-  (t : AttachmentsLeft s w chain used fh a bs out₀ count i k p out) where
+    (t : AttachmentsLeft s w chain used fh a bs out₀ count i k p out) where
   next-is : i < count → attachmentsFrom w (4096 + 3 * i) k (count - i)
-    ≡ attachment w (4096 + 3 * i) k ∷ attachmentsFrom w (4096 + 3 * (i + 1)) (k + getD w (4096 + 3 * i + 2) 0) (count - (i + 1))
+      ≡ attachment w (4096 + 3 * i) k ∷ attachmentsFrom w (4096 + 3 * (i + 1)) (k + getD w (4096 + 3 * i + 2) 0) (count - (i + 1))
   next-is h =
       let e : 4096 + 3 * (i + 1) ≡ 4096 + 3 * i + 3 = omega arith in
       let f : count - (i + 1) ≡ count - i - 1 = omega arith in
       rw (e, f) (attachments-cons w (4096 + 3 * i) k (count - i) (omega arith))
 
   next-few : i < count → k + getD w (4096 + 3 * i + 2) 0
-    + length (ownCopies (attachmentsFrom w (4096 + 3 * (i + 1)) (k + getD w (4096 + 3 * i + 2) 0) (count - (i + 1)))) ≤ used
+      + length (ownCopies (attachmentsFrom w (4096 + 3 * (i + 1)) (k + getD w (4096 + 3 * i + 2) 0) (count - (i + 1)))) ≤ used
   unfolding ownCopies
   next-few h =
       let e : k + length (ownCopies (attachment w (4096 + 3 * i) k ∷ attachmentsFrom w (4096 + 3 * (i + 1)) (k + getD w (4096 + 3 * i + 2) 0) (count - (i + 1)))) ≤ used =
-          rw (next-is h) at (t .few) in
+      rw (next-is h) at (t .few) in
       let f = length-copies w (2 * k) (getD w (4096 + 3 * i + 2) 0) in
       omega (arith, simp length-append at e, f)
 
   next-laid : i < count → Laid s p (copiesFrom w (2 * k) (getD w (4096 + 3 * i + 2) 0)) (getD w (4096 + 3 * i + 1) 0)
-    × Moved s (getD w (4096 + 3 * i) 0)
-    × LaidAt s (getD w (4096 + 3 * i + 1) 0 + sizeAt s (getD w (4096 + 3 * i) 0))
+      × Moved s (getD w (4096 + 3 * i) 0)
+      × LaidAt s (getD w (4096 + 3 * i + 1) 0 + sizeAt s (getD w (4096 + 3 * i) 0))
       (attachmentsFrom w (4096 + 3 * (i + 1)) (k + getD w (4096 + 3 * i + 2) 0) (count - (i + 1))) (length out)
   unfolding LaidAt
   next-laid h = subst (λ (ts : List Attachment). LaidAt s p ts (length out)) (next-is h) (t .laid)
@@ -119,25 +120,26 @@ module _ {s w chain : List ℕ} {used fh a : ℕ} {bs : List Block} {out₀ : Li
   next-end h = omega (arith, next-few h)
 
   next-own : i < count → {e : ℕ} → e ≡ k + getD w (4096 + 3 * i + 2) 0
-    → part k (e - k) (copiesIn w used) ≡ copiesFrom w (2 * k) (getD w (4096 + 3 * i + 2) 0)
+      → part k (e - k) (copiesIn w used) ≡ copiesFrom w (2 * k) (getD w (4096 + 3 * i + 2) 0)
   next-own h {e} q =
       let n : e - k ≡ getD w (4096 + 3 * i + 2) 0 = omega arith in
       copies-part w used k e (omega arith) (omega (arith, next-end h)) ∙ ap (copiesFrom w (2 * k)) n
 
   pub next-placing : i < count → {e : ℕ} → e ≡ k + getD w (4096 + 3 * i + 2) 0
-    → Placing s p (part k (e - k) (copiesIn w used)) (getD w (4096 + 3 * i) 0) (getD w (4096 + 3 * i + 1) 0) (length out)
+      → Placing s p (part k (e - k) (copiesIn w used)) (getD w (4096 + 3 * i) 0) (getD w (4096 + 3 * i + 1) 0) (length out)
   next-placing h q =
       let l = next-laid h in
       record {
         laid = subst (λ (cs : List Copy). Laid s p cs (getD w (4096 + 3 * i + 1) 0)) (sym (next-own h q)) (l .0);
         moved = l .1;
-        ends = laidAt-ends s _ (length out) _ (l .2) }
+        ends = laidAt-ends s _ (length out) _ (l .2);
+      }
 
   pub attachments-turn : i < count → {e next q : ℕ} {out' : List ℕ} → e ≡ k + getD w (4096 + 3 * i + 2) 0
-    → NextPlace w (i + 1) count next
-    → Wrote p (copiedBlocks s chain (copiesIn w used) fh (part k (e - k) (copiesIn w used))
+      → NextPlace w (i + 1) count next
+      → Wrote p (copiedBlocks s chain (copiesIn w used) fh (part k (e - k) (copiesIn w used))
       ++ (block (getD w (4096 + 3 * i + 1) 0) (atBytes s (copiesIn w used) (getD w (4096 + 3 * i) 0) next) ∷ [])) q out out'
-    → length out' ≡ length out → AttachmentsLeft s w chain used fh a bs out₀ count (i + 1) e q out'
+      → length out' ≡ length out → AttachmentsLeft s w chain used fh a bs out₀ count (i + 1) e q out'
   unfolding attachmentBlocks
   attachments-turn h {e} {next} {q} {out'} z u v n =
       let l = next-laid h in
@@ -148,19 +150,20 @@ module _ {s w chain : List ℕ} {used fh a : ℕ} {bs : List Block} {out₀ : Li
       let own : List Copy = copiesFrom w (2 * k) (getD w (4096 + 3 * i + 2) 0) in
       let xs : List Block = copiedBlocks s chain memo fh own ++ (block y (atBytes s memo x (nextAttachment ts)) ∷ []) in
       let v' : Wrote p xs q out out' =
-          subst (λ (m : ℕ). Wrote p (copiedBlocks s chain memo fh own ++ (block y (atBytes s memo x m) ∷ [])) q out out') (u .is (k + getD w (4096 + 3 * i + 2) 0))
-          (subst (λ (cs : List Copy). Wrote p (copiedBlocks s chain memo fh cs ++ (block y (atBytes s memo x next) ∷ [])) q out out') (next-own h z) v) in
+      subst (λ (m : ℕ). Wrote p (copiedBlocks s chain memo fh own ++ (block y (atBytes s memo x m) ∷ [])) q out out') (u .is (k + getD w (4096 + 3 * i + 2) 0))
+      (subst (λ (cs : List Copy). Wrote p (copiedBlocks s chain memo fh cs ++ (block y (atBytes s memo x next) ∷ [])) q out out') (next-own h z) v) in
       let r : q ≡ y + sizeAt s x = v' .end ∙ end-last p y (copiedBlocks s chain memo fh own) (atBytes s memo x (nextAttachment ts))
-          ∙ ap (λ (m : ℕ). y + m) (length-at s memo x (nextAttachment ts) (l .1)) in
+      ∙ ap (λ (m : ℕ). y + m) (length-at s memo x (nextAttachment ts) (l .1)) in
       record {
         order = omega arith;
         same = n ∙ t .same;
         few = rw z (next-few h);
         laid = rw (r, n, z) (l .2);
         left = rw z (left-turn (length out) xs (attachmentBlocks s chain memo fh ts) (t .left)
-          (ap (attachmentBlocks s chain memo fh) (next-is h)
+            (ap (attachmentBlocks s chain memo fh) (next-is h)
             ∙ sym (append-assoc (copiedBlocks s chain memo fh own) (block y (atBytes s memo x (nextAttachment ts)) ∷ []) (attachmentBlocks s chain memo fh ts)))
-          (attached-ordered s chain memo fh p (length out) _ (t .laid)) v') }
+            (attached-ordered s chain memo fh p (length out) _ (t .laid)) v');
+      }
 
   pub attachments-end : count ≤ i → Wrote a bs p out₀ out
   unfolding attachmentBlocks attachmentsFrom

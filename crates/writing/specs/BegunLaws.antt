@@ -56,7 +56,7 @@ module _ {before : List Block} {e a : ℕ} {out last : List ℕ} (b : Begun befo
       let n = flat-length before 0 (endOf 0 before) o in
       let w = b .wrote .end in
       let p : flat 0 before e ≡ flat 0 before (endOf 0 before) ++ replicate (e - endOf 0 before) 0 =
-            ap (λ (l : List Block). flat 0 l e) (sym (append-nil before)) ∙ flat-append 0 before [] e in
+      ap (λ (l : List Block). flat 0 l e) (sym (append-nil before)) ∙ flat-append 0 before [] e in
       let q : 0 + length (flat 0 before (endOf 0 before)) ≡ endOf 0 before = omega (arith, n) in
       f ∙ ap (blit a (replicate (e - a) 0)) (b .wrote .bytes) ∙ rw w
-        (sym (rw p (blit-append (flat 0 before (endOf 0 before)) 0 (replicate (e - endOf 0 before) 0) out ∙ rw q)))
+      (sym (rw p (blit-append (flat 0 before (endOf 0 before)) 0 (replicate (e - endOf 0 before) 0) out ∙ rw q)))

@@ -10,4 +10,4 @@ use Rattle.writing.specs.Region.{entryRegion}
 -- the data blocks of the columns from number k on stand in out
 pub record Standing (s : List ℕ) (size : ℕ) (w : List ℕ) (n : ℕ) (fs : List ℕ) (nf : ℕ) (cs m : List ℕ) (k number : ℕ) (out : List ℕ) : Type 0 where
   pub are : (i : ℕ) → k ≤ i → i < number
-    → part (entryIn cs m i .first) (length (entryRegion s size w n fs nf (entryIn cs m i))) out ≡ entryRegion s size w n fs nf (entryIn cs m i)
+      → part (entryIn cs m i .first) (length (entryRegion s size w n fs nf (entryIn cs m i))) out ≡ entryRegion s size w n fs nf (entryIn cs m i)

@@ -39,14 +39,14 @@ module _ (i from : ℕ) (s l : List ℕ) where
   copy-two h = rw (copy-one (omega arith)) (copy-more i from 1 s l (omega arith))
 
   pub copy-four : from + 4 ≤ length s
-    → set (set (set (set l i (getD s from 0)) (i + 1) (getD s (from + 1) 0)) (i + 2) (getD s (from + 2) 0)) (i + 3) (getD s (from + 3) 0)
+      → set (set (set (set l i (getD s from 0)) (i + 1) (getD s (from + 1) 0)) (i + 2) (getD s (from + 2) 0)) (i + 3) (getD s (from + 3) 0)
       ≡ blit i (part from 4 s) l
   copy-four h = rw (copy-two (omega arith), copy-more i from 2 s l (omega arith)) (copy-more i from 3 s l (omega arith))
 
   pub copy-eight : from + 8 ≤ length s
-    → set (set (set (set (set (set (set (set l i (getD s from 0)) (i + 1) (getD s (from + 1) 0)) (i + 2) (getD s (from + 2) 0))
-        (i + 3) (getD s (from + 3) 0)) (i + 4) (getD s (from + 4) 0)) (i + 5) (getD s (from + 5) 0)) (i + 6) (getD s (from + 6) 0))
-        (i + 7) (getD s (from + 7) 0)
+      → set (set (set (set (set (set (set (set l i (getD s from 0)) (i + 1) (getD s (from + 1) 0)) (i + 2) (getD s (from + 2) 0))
+      (i + 3) (getD s (from + 3) 0)) (i + 4) (getD s (from + 4) 0)) (i + 5) (getD s (from + 5) 0)) (i + 6) (getD s (from + 6) 0))
+      (i + 7) (getD s (from + 7) 0)
       ≡ blit i (part from 8 s) l
   copy-eight h =
       rw (copy-four (omega arith), copy-more i from 4 s l (omega arith), copy-more i from 5 s l (omega arith), copy-more i from 6 s l (omega arith))
@@ -83,19 +83,19 @@ module _ {s : List ℕ} {h : Shape} (w : Shaped s h) where
 
   -- ---- the cell of a record r
   pub cell-bare : (r : List ℕ) (to : ℕ) (out : List ℕ) {last : List ℕ} → h .keep ≡ false → last ≡ blit to (part (h .first) (h .bytes) r) out
-    → last ≡ blit to (cell s (h .group) (h .channel) r) out
+      → last ≡ blit to (cell s (h .group) (h .channel) r) out
   unfolding cell
   cell-bare r to out q e = rw (← w .keep, q, append-nil, ← w .first, ← w .bytes) e
 
   pub cell-kept : (r : List ℕ) (to x : ℕ) (out : List ℕ) {mid : List ℕ} → h .keep ≡ true → h .length ≤ length r → mid ≡ blit to
       (part (h .first) (h .bytes) r) out
-    → x ≡ getD r (h .inval) 0 → set mid (to + h .bytes) (x / 2 ^ h .bit % 2) ≡ blit to (cell s (h .group) (h .channel) r) out
+      → x ≡ getD r (h .inval) 0 → set mid (to + h .bytes) (x / 2 ^ h .bit % 2) ≡ blit to (cell s (h .group) (h .channel) r) out
   unfolding cell invalBit
   cell-kept r to x out {mid} q l e v =
       let f = w .fit in
       let n : length (part (h .first) (h .bytes) r) ≡ h .bytes = length-part (h .first) (h .bytes) r (omega arith) in
       rw (← w .keep, q, ← w .first, ← w .bytes, ← w .inval, ← w .bit, blit-append, n, ← e, ← v)
-          (sym (blit-one (to + h .bytes) (x / 2 ^ h .bit % 2) mid))
+      (sym (blit-one (to + h .bytes) (x / 2 ^ h .bit % 2) mid))
 
 -- ---- parts of a record that lies in the image
 pub part-in : (q n i m : ℕ) (s : List ℕ) → i + m ≤ n → part (q + i) m s ≡ part i m (part q n s)
@@ -119,20 +119,22 @@ unfolding ahead joined part
 byte-ahead s ws k r h =
     let p = ranges-here s ws k r in
     let n : length (take (k .left) (drop (k .position) s)) ≡ k .left = length-take-le (k .left) (drop (k .position) s)
-        (simp length-drop (omega arith)) in
+    (simp length-drop (omega arith)) in
     sym (List·getD-append (take (k .left) (drop (k .position) s)) (joined s (later ws (k .at))) 0 0 (omega arith)
-      ∙ getD-take (k .left) (drop (k .position) s) 0 0 h ∙ getD-drop (k .position) s 0 0 ∙ rw add-zero)
+    ∙ getD-take (k .left) (drop (k .position) s) 0 0 h ∙ getD-drop (k .position) s 0 0 ∙ rw add-zero)
 
 -- byte i of what is ahead, at the first fragment with bytes past i of them
 pub byte-settled : (s ws : List ℕ) (k a b : Cursor) (i : ℕ) → rangesIn s (ahead ws k) ≡ fine → ahead ws a ≡ past i (ahead ws k) → Settled
     ws a b
-  → (b .position < length s) × (getD s (b .position) 0 ≡ getD (joined s (ahead ws k)) i 0)
+    → (b .position < length s) × (getD s (b .position) 0 ≡ getD (joined s (ahead ws k)) i 0)
 byte-settled s ws k a b i r e t =
     let ra : rangesIn s (ahead ws a) ≡ fine = rw e (ranges-past s i (ahead ws k) r) in
     let rb : rangesIn s (ahead ws b) ≡ fine = rw (t .is) (ranges-settled s (ahead ws a) ra) in
     let j : joined s (ahead ws b) ≡ drop i (joined s (ahead ws k)) = ap (joined s) (t .is) ∙ joined-settled s (ahead ws a) ∙ ap (joined s)
-        e ∙ joined-past s i (ahead ws k) r in
+    e ∙ joined-past s i (ahead ws k) r in
     let h = ranges-here s ws b rb in
-    let z = t .some in
-    (omega arith, byte-ahead s ws b rb (t .some) ∙ ap (λ (l : List ℕ). getD l 0 0) j ∙ getD-drop i (joined s (ahead ws k)) 0 0 ∙
-        rw add-zero)
+    let z = t .some in (
+      omega arith,
+      byte-ahead s ws b rb (t .some) ∙ ap (λ (l : List ℕ). getD l 0 0) j ∙ getD-drop i (joined s (ahead ws k)) 0 0 ∙
+          rw add-zero,
+    )

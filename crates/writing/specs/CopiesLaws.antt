@@ -26,18 +26,20 @@ pub left-all : (a : ℕ) (bs : List Block) (out : List ℕ) → Left a bs out a 
 left-all a bs out = record { rest = λ r last w. w }
 
 pub left-turn : {a p q : ℕ} {bs cs : List Block} {out₀ out out' : List ℕ} (e : ℕ) (xs ys : List Block) → Left a bs out₀ p cs out → cs ≡ xs ++ ys
-  → Ordered p cs e → Wrote p xs q out out' → Left a bs out₀ q ys out'
+    → Ordered p cs e → Wrote p xs q out out' → Left a bs out₀ q ys out'
 left-turn {a} {p} {q} {bs} {cs} {out₀} {out} {out'} e xs ys l k o w =
     let o' : Ordered p (xs ++ ys) e = subst (λ (z : List Block). Ordered p z e) k o in
-    record { rest = λ r last v.
-      l .rest r last (subst (λ (z : List Block). Wrote p z r out last) (sym k) (wrote-append e {xs = xs} {ys = ys} w v o')) }
+    record {
+      rest = λ r last v.
+          l .rest r last (subst (λ (z : List Block). Wrote p z r out last) (sym k) (wrote-append e {xs = xs} {ys = ys} w v o'));
+    }
 
 pub left-none : {a p : ℕ} {bs cs : List Block} {out₀ out : List ℕ} → Left a bs out₀ p cs out → cs ≡ [] → Wrote a bs p out₀ out
 left-none {a} {p} {bs} {cs} {out₀} {out} l k = l .rest p out (subst (λ (z : List Block). Wrote p z p out out) (sym k) (wrote-none p out))
 
 -- zeros up to the place of a block of n bytes, then the block
 pub wrote-placed : (p place n : ℕ) (bytes out mid : List ℕ) {last : List ℕ} → p ≤ place → length bytes ≡ n
-  → mid ≡ blit p (replicate (place - p) 0) out → last ≡ blit place bytes mid → Wrote p (block place bytes ∷ []) (place + n) out last
+    → mid ≡ blit p (replicate (place - p) 0) out → last ≡ blit place bytes mid → Wrote p (block place bytes ∷ []) (place + n) out last
 wrote-placed p place n bytes out mid {last} h l t u =
     let k : last ≡ blit place bytes (blit p (replicate (place - p) 0) out) = rw t at u in
     subst (λ (z : ℕ). Wrote p (block place bytes ∷ []) (place + z) out last) l (wrote-block (block place bytes) h k)
@@ -73,8 +75,8 @@ copies-part w used from to h l =
     let e : used ≡ from + ((to - from) + (used - to)) = omega arith in
     let f : 0 + 2 * from ≡ 2 * from = omega arith in
     let d : drop from (copiesFrom w 0 used) ≡ copiesFrom w (2 * from) ((to - from) + (used - to)) =
-        ap (λ (n : ℕ). drop from (copiesFrom w 0 n)) e ∙ copies-drop w 0 from ((to - from) + (used - to))
-        ∙ ap (λ (n : ℕ). copiesFrom w n ((to - from) + (used - to))) f in
+    ap (λ (n : ℕ). drop from (copiesFrom w 0 n)) e ∙ copies-drop w 0 from ((to - from) + (used - to))
+    ∙ ap (λ (n : ℕ). copiesFrom w n ((to - from) + (used - to))) f in
     ap (take (to - from)) d ∙ copies-take w (2 * from) (to - from) (used - to)
 
 -- ---- the loop over the copies i up to to
@@ -86,15 +88,16 @@ module _ (s w chain : List ℕ) (memo : List Copy) (fh a : ℕ) (bs : List Block
     pub left : Left a bs out₀ p (copiedBlocks s chain memo fh (copiesFrom w (2 * i) (to - i))) out
 
 pub copies-begin : (s w chain : List ℕ) (fh a used from to : ℕ) (out : List ℕ) → from ≤ to → to ≤ used
-  → Laid s a (part from (to - from) (copiesIn w used)) (length out)
-  → CopiesLeft s w chain (copiesIn w used) fh a (copiedBlocks s chain (copiesIn w used) fh (part from (to - from) (copiesIn w used))) out to from a out
+    → Laid s a (part from (to - from) (copiesIn w used)) (length out)
+    → CopiesLeft s w chain (copiesIn w used) fh a (copiedBlocks s chain (copiesIn w used) fh (part from (to - from) (copiesIn w used))) out to from a out
 copies-begin s w chain fh a used from to out h l k =
     let e = copies-part w used from to h l in
     record {
       order = h;
       same = refl;
       laid = subst (λ (cs : List Copy). Laid s a cs (length out)) e k;
-      left = rw e (left-all a (copiedBlocks s chain (copiesIn w used) fh (copiesFrom w (2 * from) (to - from))) out) }
+      left = rw e (left-all a (copiedBlocks s chain (copiesIn w used) fh (copiesFrom w (2 * from) (to - from))) out);
+    }
 
 -- the next copy, of the block at x, placed at y
 pub record NextCopy (s : List ℕ) (p x y e : ℕ) : Type 0 where
@@ -103,7 +106,7 @@ pub record NextCopy (s : List ℕ) (p x y e : ℕ) : Type 0 where
   pub ends : y + sizeAt s x ≤ e
 
 module _ {s w chain : List ℕ} {memo : List Copy} {fh a : ℕ} {bs : List Block} {out₀ : List ℕ} {to i p : ℕ} {out : List ℕ}
-  (t : CopiesLeft s w chain memo fh a bs out₀ to i p out) where
+    (t : CopiesLeft s w chain memo fh a bs out₀ to i p out) where
   next-cons : i < to → copiesFrom w (2 * i) (to - i) ≡ copy (getD w (2 * i) 0) (getD w (2 * i + 1) 0) ∷ copiesFrom w (2 * (i + 1)) (to - (i + 1))
   next-cons h =
       let e : 2 * (i + 1) ≡ 2 * i + 2 = omega arith in
@@ -111,7 +114,7 @@ module _ {s w chain : List ℕ} {memo : List Copy} {fh a : ℕ} {bs : List Block
       rw (e, f) (copies-cons w (2 * i) (to - i) (omega arith))
 
   next-laid : i < to → (p ≤ getD w (2 * i + 1) 0) × Whole s (getD w (2 * i) 0)
-    × Laid s (getD w (2 * i + 1) 0 + sizeAt s (getD w (2 * i) 0)) (copiesFrom w (2 * (i + 1)) (to - (i + 1))) (length out)
+      × Laid s (getD w (2 * i + 1) 0 + sizeAt s (getD w (2 * i) 0)) (copiesFrom w (2 * (i + 1)) (to - (i + 1))) (length out)
   unfolding Laid
   next-laid h = subst (λ (cs : List Copy). Laid s p cs (length out)) (next-cons h) (t .laid)
 
@@ -121,21 +124,22 @@ module _ {s w chain : List ℕ} {memo : List Copy} {fh a : ℕ} {bs : List Block
       record { begins = l .0; whole = l .1; ends = laid-ends s _ (length out) _ (l .2) }
 
   pub copies-turn : i < to → {q : ℕ} {out' : List ℕ}
-    → Wrote p (block (getD w (2 * i + 1) 0) (copiedBytes s chain memo fh (getD w (2 * i) 0)) ∷ []) q out out' → length out' ≡ length out
-    → CopiesLeft s w chain memo fh a bs out₀ to (i + 1) q out'
+      → Wrote p (block (getD w (2 * i + 1) 0) (copiedBytes s chain memo fh (getD w (2 * i) 0)) ∷ []) q out out' → length out' ≡ length out
+      → CopiesLeft s w chain memo fh a bs out₀ to (i + 1) q out'
   unfolding endOf copiedBlocks
   copies-turn h {q} {out'} v n =
       let l = next-laid h in
       let e : q ≡ getD w (2 * i + 1) 0 + sizeAt s (getD w (2 * i) 0) =
-          v .end ∙ ap (λ (k : ℕ). getD w (2 * i + 1) 0 + k) (length-copied s chain memo fh (getD w (2 * i) 0) (l .1)) in
+      v .end ∙ ap (λ (k : ℕ). getD w (2 * i + 1) 0 + k) (length-copied s chain memo fh (getD w (2 * i) 0) (l .1)) in
       record {
         order = omega arith;
         same = n ∙ t .same;
         laid = rw (e, n) (l .2);
         left = left-turn (length out) (block (getD w (2 * i + 1) 0) (copiedBytes s chain memo fh (getD w (2 * i) 0)) ∷ [])
-          (copiedBlocks s chain memo fh (copiesFrom w (2 * (i + 1)) (to - (i + 1)))) (t .left)
-          (ap (copiedBlocks s chain memo fh) (next-cons h))
-          (copied-ordered s chain memo fh p (length out) (copiesFrom w (2 * i) (to - i)) (t .laid)) v }
+            (copiedBlocks s chain memo fh (copiesFrom w (2 * (i + 1)) (to - (i + 1)))) (t .left)
+            (ap (copiedBlocks s chain memo fh) (next-cons h))
+            (copied-ordered s chain memo fh p (length out) (copiesFrom w (2 * i) (to - i)) (t .laid)) v;
+      }
 
   pub copies-end : to ≤ i → Wrote a bs p out₀ out
   unfolding copiedBlocks copiesFrom

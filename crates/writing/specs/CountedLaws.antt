@@ -38,7 +38,7 @@ module _ (w : List ℕ) (k : ℕ) {m : ℕ} (e : m ≡ getD w (8 * k + 4) 0) whe
 
 -- ---- the blocks of a column
 module _ (s : List ℕ) (size : ℕ) (w : List ℕ) (k : ℕ) {c g r y m x : ℕ} (h : c ≡ getD w (8 * k) 0) (i : g ≡ getD w (8 * k + 1) 0)
-  (j : r ≡ getD w (8 * k + 3) 0) (u : y ≡ width s g c) (v : m ≡ blockCount size y r) (e : x ≡ getD w (8 * k + 6) 0) where
+    (j : r ≡ getD w (8 * k + 3) 0) (u : y ≡ width s g c) (v : m ≡ blockCount size y r) (e : x ≡ getD w (8 * k + 6) 0) where
   pub data-blocks : m ≡ dataBlocksAt s size w k
   unfolding dataBlocksAt
   data-blocks = v ∙ rw (u, h, i, j)

@@ -33,7 +33,8 @@ entryIn cs m k =
       signal = getD cs (8 * k + 6) 0;
       pieces = getD cs (8 * k + 7) 0;
       first = getD m (6656 + 3 * k + 1) 0;
-      sd = getD m (6656 + 3 * k + 2) 0 }
+      sd = getD m (6656 + 3 * k + 2) 0;
+    }
 
 -- ---- its records, in the image s; w holds n items and the addresses of groups, fs the words of fragments, of them nf of the walk
 
@@ -93,10 +94,10 @@ pub record EntryReady (s w : List ℕ) (n : ℕ) (fs : List ℕ) (nf : ℕ) (e :
   pub kept : isStorage s (e .group) ≡ false
   pub listed : numberIn (e .group) (ownGroups w (ownIn w n nf (e .parent))) < length (ownGroups w (ownIn w n nf (e .parent)))
   pub checked : 0 < width s (e .group) (e .channel) → 0 < e .records
-    → recordsIn s (e .parent) (ownGroups w (ownIn w n nf (e .parent))) (fragmentsOf (ownWords fs (ownIn w n nf (e .parent)))) ≡ fine
+      → recordsIn s (e .parent) (ownGroups w (ownIn w n nf (e .parent))) (fragmentsOf (ownWords fs (ownIn w n nf (e .parent)))) ≡ fine
   pub counted : 0 < width s (e .group) (e .channel) → 0 < e .records → length (entryRecords s w n fs nf e) ≡ e .records
   pub long : 0 < width s (e .group) (e .channel) → 0 < e .records
-    → Long (samples s (e .group) + invalBytes s (e .group)) (entryRecords s w n fs nf e)
+      → Long (samples s (e .group) + invalBytes s (e .group)) (entryRecords s w n fs nf e)
   pub signal : (e .signal ≡ 0 → ⊥) → 3 * (e .signal - 1) + 3 * e .pieces ≤ length fs
 
 -- of all, which are written from at on over as many bytes as room says

@@ -39,7 +39,7 @@ use Rattle.writing.specs.Data.{entrySignal, dataFrom, Tables, EntryReady
 -- ---- the records of one of several groups
 module _ (s : List ℕ) (d k : ℕ) where
   several-records : (gs : List ℕ) (fs : List Fragment) → (length gs ≡ 1 → ⊥) → k < length gs
-    → groupRecords s d k gs fs ≡ framedRecords k (unsortedFrames s d gs fs)
+      → groupRecords s d k gs fs ≡ framedRecords k (unsortedFrames s d gs fs)
   several-records [] fs l h = absurd (omega arith)
   several-records (g ∷ []) fs l h = absurd (l refl)
   several-records (g ∷ x ∷ gs) fs l h = refl
@@ -59,11 +59,11 @@ module _ {s w : List ℕ} {n : ℕ} {fs : List ℕ} {nf : ℕ} {e : Entry} {o : 
   listed = rw (q .is) (r .listed)
 
   checked-own : 0 < width s (e .group) (e .channel) → 0 < e .records
-    → recordsIn s (e .parent) (ownGroups w o) (fragmentsOf (ownWords fs o)) ≡ fine
+      → recordsIn s (e .parent) (ownGroups w o) (fragmentsOf (ownWords fs o)) ≡ fine
   checked-own a b = rw (q .is) (r .checked a b)
 
   records-own : entryRecords s w n fs nf e
-    ≡ groupRecords s (e .parent) (numberIn (e .group) (ownGroups w o)) (ownGroups w o) (fragmentsOf (ownWords fs o))
+      ≡ groupRecords s (e .parent) (numberIn (e .group) (ownGroups w o)) (ownGroups w o) (fragmentsOf (ownWords fs o))
   unfolding entryRecords recordsBy
   records-own = rw (← q .is)
 
@@ -79,25 +79,27 @@ module _ {s w : List ℕ} {n : ℕ} {fs : List ℕ} {nf : ℕ} {e : Entry} {o : 
         record {
           fit = r .fit;
           checked = λ a b. rw alone at (checked-own a b);
-          counted = λ a b. rw (← records-alone) (r .counted a b) }
+          counted = λ a b. rw (← records-alone) (r .counted a b);
+        }
 
   module _ (z : o .groups ≡ 1 → ⊥) where
     pub many : length (ownGroups w o) ≡ 1 → ⊥
     many h = z (sym own-length ∙ h)
 
     pub records-several : {k : ℕ} → k ≡ numberIn (e .group) (ownGroups w o)
-      → entryRecords s w n fs nf e ≡ framedRecords k (unsortedFrames s (e .parent) (ownGroups w o) (fragmentsOf (ownWords fs o)))
+        → entryRecords s w n fs nf e ≡ framedRecords k (unsortedFrames s (e .parent) (ownGroups w o) (fragmentsOf (ownWords fs o)))
     records-several i =
         records-own ∙ rw i (several-records s (e .parent) (numberIn (e .group) (ownGroups w o)) (ownGroups w o) (fragmentsOf (ownWords fs o)) many listed)
 
     pub several-ready : {k : ℕ} → k ≡ numberIn (e .group) (ownGroups w o)
-      → SeveralReady s (ownGroups w o) (ownWords fs o) (e .parent) k (e .group) (e .channel) (e .records)
+        → SeveralReady s (ownGroups w o) (ownWords fs o) (e .parent) k (e .group) (e .channel) (e .records)
     several-ready {k} i =
         record {
           fit = r .fit;
           group = rw i (number-at (e .group) (ownGroups w o) listed);
           plain = r .kept;
-          counted = λ a b. ap length (sym (records-several i)) ∙ r .counted a b }
+          counted = λ a b. ap length (sym (records-several i)) ∙ r .counted a b;
+        }
 
 -- ---- blocks one after the other
 framed-size : (kind : ℕ) (ps : List (List ℕ)) → length (framedAll kind ps) ≡ 24 * length ps + length (together ps)
@@ -106,8 +108,8 @@ framed-size kind [] = refl
 framed-size kind (p ∷ ps) = rw (length-append, length-append, length-framed, framed-size kind ps) (omega arith)
 
 pub payloads-size : (s : List ℕ) (g c kind size n : ℕ) (rs : List (List ℕ)) → fits s g c ≡ true → 0 < width s g c → 0 < n → length rs ≡ n
-  → Long (samples s g + invalBytes s g) rs
-  → length (framedAll kind (payloads s g c (perFull size (width s g c) n) (blockCount size (width s g c) n) rs))
+    → Long (samples s g + invalBytes s g) rs
+    → length (framedAll kind (payloads s g c (perFull size (width s g c) n) (blockCount size (width s g c) n) rs))
     ≡ 24 * blockCount size (width s g c) n + width s g c * n
 payloads-size s g c kind size n rs f wide some many l =
     let x = split size (width s g c) n wide some in
@@ -116,11 +118,11 @@ payloads-size s g c kind size n rs f wide some many l =
     let k : b * m ≡ x .full * m + m = rw (x .blocks) (suc-mul (x .full) m) in
     let a : take (b * m) rs ≡ rs = take-all (b * m) rs (omega (arith, many, x .enough)) in
     let e : length (together (payloads s g c m b rs)) ≡ width s g c * n =
-        ap length (payloads-joined s g c m b rs) ∙ rw a (length-cells s g c f l ∙ rw many) in
+    ap length (payloads-joined s g c m b rs) ∙ rw a (length-cells s g c f l ∙ rw many) in
     rw (framed-size, length-payloads, e)
 
 pub payloads-end : (kind a first : ℕ) (p : List ℕ) (ps : List (List ℕ))
-  → endOf a (payloadBlocks kind first (p ∷ ps)) ≡ first + length (framedAll kind (p ∷ ps))
+    → endOf a (payloadBlocks kind first (p ∷ ps)) ≡ first + length (framedAll kind (p ∷ ps))
 unfolding endOf payloadBlocks framedAll
 payloads-end kind a first p [] = rw append-nil
 payloads-end kind a first p (q ∷ ps) =
@@ -132,23 +134,23 @@ none-left : (a : ℕ) → replicate {A = ℕ} (a - a) 0 ≡ []
 none-left a = let e : a - a ≡ 0 = omega arith in rw e
 
 flat-blocks : (kind a e : ℕ) (ps : List (List ℕ)) (bs : List Block)
-  → flat a (payloadBlocks kind a ps ++ bs) e ≡ framedAll kind ps ++ flat (a + length (framedAll kind ps)) bs e
+    → flat a (payloadBlocks kind a ps ++ bs) e ≡ framedAll kind ps ++ flat (a + length (framedAll kind ps)) bs e
 unfolding flat payloadBlocks framedAll
 flat-blocks kind a e [] bs = rw add-zero
 flat-blocks kind a e (p ∷ ps) bs =
     let z : a - a ≡ 0 = omega arith in
     let n : length (framed kind p) ≡ 24 + length p = length-framed kind p in
     let m : a + (24 + length p) + length (framedAll kind ps) ≡ a + length (framed kind p ++ framedAll kind ps) =
-        rw length-append (omega arith) in
+    rw length-append (omega arith) in
     rw (z, n, flat-blocks kind (a + (24 + length p)) e ps bs, m) (sym (append-assoc (framed kind p) (framedAll kind ps) _))
 
 pub flat-later : (kind a first r : ℕ) (p : List ℕ) (ps : List (List ℕ))
-  → flat a (payloadBlocks kind first (p ∷ ps)) r ≡ replicate (first - a) 0 ++ flat first (payloadBlocks kind first (p ∷ ps)) r
+    → flat a (payloadBlocks kind first (p ∷ ps)) r ≡ replicate (first - a) 0 ++ flat first (payloadBlocks kind first (p ∷ ps)) r
 unfolding flat payloadBlocks
 flat-later kind a first r p ps = rw (none-left first) (append-assoc (replicate (first - a) 0) (framed kind p) _)
 
 pub flat-ended : (kind first r : ℕ) (ps : List (List ℕ)) → r ≡ first + length (framedAll kind ps)
-  → flat first (payloadBlocks kind first ps) r ≡ framedAll kind ps
+    → flat first (payloadBlocks kind first ps) r ≡ framedAll kind ps
 unfolding flat
 flat-ended kind first r ps e =
     ap (λ (x : List Block). flat first x r) (sym (append-nil (payloadBlocks kind first ps))) ∙ flat-blocks kind first r ps []
@@ -156,18 +158,19 @@ flat-ended kind first r ps e =
 
 -- zeros up to the first, then the blocks
 pub wrote-payloads : {at : ℕ} (kind first : ℕ) (ps : List (List ℕ)) {out mid last : List ℕ} {r : ℕ} → 0 < length ps → at ≤ first
-  → mid ≡ blit at (replicate (first - at) 0) out → last ≡ blit first (framedAll kind ps) mid → r ≡ first + length (framedAll kind ps)
-  → Wrote at (payloadBlocks kind first ps) r out last
+    → mid ≡ blit at (replicate (first - at) 0) out → last ≡ blit first (framedAll kind ps) mid → r ≡ first + length (framedAll kind ps)
+    → Wrote at (payloadBlocks kind first ps) r out last
 wrote-payloads kind first [] z h m q x = absurd (omega arith)
 wrote-payloads {at} kind first (p ∷ ps) {out} {mid} {last} {r} z h m q x =
     let y : at + (first - at) ≡ first = omega arith in
     record {
       end = x ∙ sym (payloads-end kind at first p ps);
       bytes = q ∙ rw m (sym (rw (flat-later kind at first r p ps, flat-ended kind first r (p ∷ ps) x)
-        (blit-append (replicate (first - at) 0) at (framedAll kind (p ∷ ps)) out ∙ rw (length-replicate, y)))) }
+          (blit-append (replicate (first - at) 0) at (framedAll kind (p ∷ ps)) out ∙ rw (length-replicate, y))));
+    }
 
 pub payloads-room : {at e : ℕ} (kind first : ℕ) (ps : List (List ℕ)) → 0 < length ps → Ordered at (payloadBlocks kind first ps) e
-  → (at ≤ first) × (first + length (framedAll kind ps) ≤ e)
+    → (at ≤ first) × (first + length (framedAll kind ps) ≤ e)
 unfolding Ordered payloadBlocks
 payloads-room kind first [] z o = absurd (omega arith)
 payloads-room {at} {e} kind first (p ∷ ps) z o =
@@ -199,7 +202,7 @@ module _ {s w : List ℕ} {n : ℕ} {fs : List ℕ} {nf : ℕ} {e : Entry} (size
         let a = blocks-some size x (e .records) (rw (← q) (omega arith)) in
         let wide : 0 < width s (e .group) (e .channel) = rw (← p) (a .0) in
         payloads-size s (e .group) (e .channel) (entryKind s e) size (e .records) (entryRecords s w n fs nf e) (r .fit) wide (a .1)
-          (r .counted wide (a .1)) (r .long wide (a .1)) ∙ rw (count-is, p)
+        (r .counted wide (a .1)) (r .long wide (a .1)) ∙ rw (count-is, p)
 
     some-payloads : 0 < length (entryPayloads s size e (entryRecords s w n fs nf e))
     unfolding entryPayloads
@@ -210,8 +213,8 @@ module _ {s w : List ℕ} {n : ℕ} {fs : List ℕ} {nf : ℕ} {e : Entry} (size
     entry-room = rw size-is at (payloads-room (entryKind s e) (e .first) (entryPayloads s size e (entryRecords s w n fs nf e)) some-payloads o)
 
     pub entry-wrote : (out : List ℕ) {mid last : List ℕ} → mid ≡ blit at (replicate (e .first - at) 0) out
-      → last ≡ blit (e .first) (framedAll (entryKind s e) (entryPayloads s size e (entryRecords s w n fs nf e))) mid
-      → Wrote at (entryBlocks s size w n fs nf e) (e .first + (24 * b + x * e .records)) out last
+        → last ≡ blit (e .first) (framedAll (entryKind s e) (entryPayloads s size e (entryRecords s w n fs nf e))) mid
+        → Wrote at (entryBlocks s size w n fs nf e) (e .first + (24 * b + x * e .records)) out last
     unfolding entryBlocks
     entry-wrote out m l =
         wrote-payloads (entryKind s e) (e .first) (entryPayloads s size e (entryRecords s w n fs nf e)) some-payloads (entry-room .0) m l (rw size-is)
@@ -232,8 +235,8 @@ module _ (s ws : List ℕ) (sd size : ℕ) (out : List ℕ) (h : sd + length (fr
   sd-room = let l = length-framed kindSD (joined s (fragmentsOf ws)) in let z = sd-size in omega arith
 
   pub sd-wrote : (at : ℕ) {mid last : List ℕ} → at ≤ sd → mid ≡ blit at (replicate (sd - at) 0) out
-    → last ≡ blit sd (framed kindSD (joined s (fragmentsOf ws))) mid
-    → Wrote at (block sd (framed kindSD (joined s (fragmentsOf ws))) ∷ []) (sd + (24 + size)) out last
+      → last ≡ blit sd (framed kindSD (joined s (fragmentsOf ws))) mid
+      → Wrote at (block sd (framed kindSD (joined s (fragmentsOf ws))) ∷ []) (sd + (24 + size)) out last
   sd-wrote at a m q =
       let l = length-framed kindSD (joined s (fragmentsOf ws)) in
       let y : 24 + size ≡ length (framed kindSD (joined s (fragmentsOf ws))) = let z = sd-size in omega arith in
@@ -252,25 +255,25 @@ module _ (s fs : List ℕ) (e : Entry) where
   signal-some z = sym (eq-no _ _ _ _ z refl)
 
   pub signal-room : (e .signal ≡ 0 → ⊥) → (at room : ℕ) → Ordered at (entrySignal s fs e) room
-    → (at ≤ e .sd) × (e .sd + length (framed kindSD (joined s (fragmentsOf (signalWords fs e)))) ≤ room)
+      → (at ≤ e .sd) × (e .sd + length (framed kindSD (joined s (fragmentsOf (signalWords fs e)))) ≤ room)
   unfolding Ordered
   signal-room z at room o = rw (signal-some z) at o
 
   pub signal-wrote : (e .signal ≡ 0 → ⊥) → {at r : ℕ} {out last : List ℕ}
-    → Wrote at (block (e .sd) (framed kindSD (joined s (fragmentsOf (signalWords fs e)))) ∷ []) r out last
-    → Wrote at (entrySignal s fs e) r out last
+      → Wrote at (block (e .sd) (framed kindSD (joined s (fragmentsOf (signalWords fs e)))) ∷ []) r out last
+      → Wrote at (entrySignal s fs e) r out last
   signal-wrote z v = rw (signal-some z) v
 
 -- ---- all columns: what is left to write, written, gives the whole
 module _ (s : List ℕ) (size : ℕ) (w : List ℕ) (n : ℕ) (fs : List ℕ) (nf : ℕ) (cs m : List ℕ) where
   data-open : (k number : ℕ) → k < number → dataFrom s size w n fs nf cs m k (number - k)
-    ≡ entryBlocks s size w n fs nf (entryIn cs m k)
+      ≡ entryBlocks s size w n fs nf (entryIn cs m k)
       ++ (entrySignal s fs (entryIn cs m k) ++ dataFrom s size w n fs nf cs m (k + 1) (number - (k + 1)))
   unfolding dataFrom
   data-open k number h = go (number - k) (omega arith)
     where
       go : (j : ℕ) → j ≡ suc (number - (k + 1)) → dataFrom s size w n fs nf cs m k j
-        ≡ entryBlocks s size w n fs nf (entryIn cs m k)
+          ≡ entryBlocks s size w n fs nf (entryIn cs m k)
           ++ (entrySignal s fs (entryIn cs m k) ++ dataFrom s size w n fs nf cs m (k + 1) (number - (k + 1)))
       go j e = rw e
 
@@ -284,16 +287,16 @@ pub record Writing (s : List ℕ) (size : ℕ) (w : List ℕ) (n : ℕ) (fs : Li
   pub same : length out ≡ length out₀
   pub ordered : Ordered p (dataFrom s size w n fs nf cs m k (number - k)) (length out)
   pub rest : (r : ℕ) (last : List ℕ) → Wrote p (dataFrom s size w n fs nf cs m k (number - k)) r out last
-    → Wrote at (dataFrom s size w n fs nf cs m 0 number) r out₀ last
+      → Wrote at (dataFrom s size w n fs nf cs m 0 number) r out₀ last
 
 pub writing-begin : {s : List ℕ} {size : ℕ} {w : List ℕ} {n : ℕ} {fs : List ℕ} {nf : ℕ} {cs m : List ℕ} {number at : ℕ} (out : List ℕ)
-  → DataReady s size w n fs nf cs m number at (length out) → Writing s size w n fs nf cs m number at out 0 at out
+    → DataReady s size w n fs nf cs m number at (length out) → Writing s size w n fs nf cs m number at out 0 at out
 writing-begin {number = number} out d =
     let e : number - 0 ≡ number = omega arith in
     record { room = omega arith; same = refl; ordered = rw e (d .ordered); rest = rw e (λ r last v. v) }
 
 pub entry-ready : {s : List ℕ} {size : ℕ} {w : List ℕ} {n : ℕ} {fs : List ℕ} {nf : ℕ} {cs m : List ℕ} {number at room : ℕ} (k : ℕ) {e : Entry}
-  → DataReady s size w n fs nf cs m number at room → k < number → e ≡ entryIn cs m k → EntryReady s w n fs nf e
+    → DataReady s size w n fs nf cs m number at room → k < number → e ≡ entryIn cs m k → EntryReady s w n fs nf e
 entry-ready k d h i = rw i (d .entries k h)
 
 module _ {s : List ℕ} {size : ℕ} {w : List ℕ} {n : ℕ} {fs : List ℕ} {nf : ℕ} {cs m : List ℕ} {number at : ℕ} {out₀ : List ℕ} {k p : ℕ}
@@ -319,7 +322,7 @@ module _ {s : List ℕ} {size : ℕ} {w : List ℕ} {n : ℕ} {fs : List ℕ} {n
       signal-ordered = rw mid-length (ordered-first q (entrySignal s fs e) _ (length out) after-blocks)
 
       pub writing-on : {z : ℕ} {last : List ℕ} → Wrote q (entrySignal s fs e) z mid last
-        → Writing s size w n fs nf cs m number at out₀ (k + 1) z last
+          → Writing s size w n fs nf cs m number at out₀ (k + 1) z last
       writing-on {z} {last} u =
           let l : length last ≡ length out = ap length (u .bytes) ∙ length-blit q _ mid ∙ mid-length in
           record {
@@ -327,4 +330,5 @@ module _ {s : List ℕ} {size : ℕ} {w : List ℕ} {n : ℕ} {fs : List ℕ} {n
             same = l ∙ t .same;
             ordered = rw (l, u .end) (ordered-back q (entrySignal s fs e) _ (length out) after-blocks);
             rest = λ r x y. t .rest r x
-              (rw (data-open s size w n fs nf cs m k number h, ← i) (wrote-append (length out) v (wrote-append (length out) u y after-blocks) opened)) }
+                (rw (data-open s size w n fs nf cs m k number h, ← i) (wrote-append (length out) v (wrote-append (length out) u y after-blocks) opened));
+          }

@@ -54,7 +54,7 @@ pub record HeldColumn (s w : List ℕ) (n : ℕ) (fs : List ℕ) (nf : ℕ) (c :
   pub group : HeldGroup w n fs nf (c .group)
   pub ready : Ready s c
   pub checked : isNonempty s c ≡ true
-    → recordsIn s (c .group .dataGroup .at) (addresses (c .group .dataGroup .groups)) (c .group .dataGroup .fragments) ≡ fine
+      → recordsIn s (c .group .dataGroup .at) (addresses (c .group .dataGroup .groups)) (c .group .dataGroup .fragments) ≡ fine
 
 -- what an entry says of a placed column; so many fragments are kept before its own
 record EntryOf (e : Entry) (before : ℕ) (p : Placed) : Type 0 where
@@ -78,7 +78,7 @@ module _ {s w : List ℕ} {n : ℕ} {fs : List ℕ} {nf : ℕ} {e : Entry} {befo
   records-same = rw (v .parent, v .group, h .group .groups, h .group .fragments, h .group .number)
 
   blocks-same : (size : ℕ) → entryBlocks s size w n fs nf e
-    ≡ payloadBlocks (dataKind (keepsInval s (p .column .group .at) (p .column .channel))) (p .first) (columnPayloads s size (p .column))
+      ≡ payloadBlocks (dataKind (keepsInval s (p .column .group .at) (p .column .channel))) (p .first) (columnPayloads s size (p .column))
   unfolding entryBlocks entryPayloads columnPayloads columnBlocks columnWidth
   blocks-same size = rw (records-same, v .group, v .channel, v .records, v .first)
 
@@ -94,35 +94,36 @@ module _ {s w : List ℕ} {n : ℕ} {fs : List ℕ} {nf : ℕ} {e : Entry} {befo
         checked = λ a b. rw (v .parent, h .group .groups, h .group .fragments) (h .checked (some-of a b));
         counted = λ a b. rw (records-same, v .records) (h .ready .read (some-of a b) .many);
         long = λ a b. rw (records-same, v .group) (h .ready .read (some-of a b) .long (h .ready .kept));
-        signal = g }
+        signal = g;
+      }
 
 -- ---- signal data
 module _ (s l : List ℕ) (before after : List Fragment) where
   signal-words : (gs : List Fragment) (e : Entry) → 3 * length (before ++ (gs ++ after)) ≤ length l → e .signal ≡ length before + 1
-    → e .pieces ≡ length gs → signalWords (blit 0 (fragmentWords (before ++ (gs ++ after))) l) e ≡ fragmentWords gs
+      → e .pieces ≡ length gs → signalWords (blit 0 (fragmentWords (before ++ (gs ++ after))) l) e ≡ fragmentWords gs
   unfolding signalWords
   signal-words gs e h x y =
       let f : fragmentWords (before ++ (gs ++ after)) ≡ fragmentWords before ++ (fragmentWords gs ++ fragmentWords after) =
-          words-append before (gs ++ after) ∙ rw (words-append gs after) in
+      words-append before (gs ++ after) ∙ rw (words-append gs after) in
       let lb = length-words before in
       let lg = length-words gs in
       let a : 3 * (e .signal - 1) ≡ 0 + length (fragmentWords before) = omega arith in
       let b : 3 * (e .signal - 1) + 3 * e .pieces - 3 * (e .signal - 1) ≡ length (fragmentWords gs) = omega arith in
       let room : 0 + length (fragmentWords before ++ (fragmentWords gs ++ fragmentWords after)) ≤ length l =
-          rw (← f) (let q = length-words (before ++ (gs ++ after)) in omega arith) in
+      rw (← f) (let q = length-words (before ++ (gs ++ after)) in omega arith) in
       rw (b, a, f) (laid-part 0 (fragmentWords before) (fragmentWords gs) (fragmentWords after) l room)
 
   signal-same : (g : Signal) (e : Entry) (sd : ℕ) → 3 * length (before ++ (fragmentsIn g ++ after)) ≤ length l
-    → e .signal ≡ signalWord (length before) g → e .pieces ≡ sizeOfSignal g → e .sd ≡ sd
-    → entrySignal s (blit 0 (fragmentWords (before ++ (fragmentsIn g ++ after))) l) e ≡ sdBlocks s g sd
+      → e .signal ≡ signalWord (length before) g → e .pieces ≡ sizeOfSignal g → e .sd ≡ sd
+      → entrySignal s (blit 0 (fragmentWords (before ++ (fragmentsIn g ++ after))) l) e ≡ sdBlocks s g sd
   unfolding entrySignal
   signal-same unsigned e sd h x y z = sym (eq-yes _ _ _ _ x refl)
   signal-same (signalData gs) e sd h x y z =
       sym (eq-no _ _ _ _ (λ q. omega (arith, x, q)) (sym (rw (signal-words gs e h x y, words-back gs, z))))
 
   signal-fits : (g : Signal) (e : Entry) → 3 * length (before ++ (fragmentsIn g ++ after)) ≤ length l
-    → e .signal ≡ signalWord (length before) g → e .pieces ≡ sizeOfSignal g
-    → (e .signal ≡ 0 → ⊥) → 3 * (e .signal - 1) + 3 * e .pieces ≤ length (blit 0 (fragmentWords (before ++ (fragmentsIn g ++ after))) l)
+      → e .signal ≡ signalWord (length before) g → e .pieces ≡ sizeOfSignal g
+      → (e .signal ≡ 0 → ⊥) → 3 * (e .signal - 1) + 3 * e .pieces ≤ length (blit 0 (fragmentWords (before ++ (fragmentsIn g ++ after))) l)
   signal-fits unsigned e h x y z = absurd (z x)
   signal-fits (signalData gs) e h x y z =
       let a = length-append before (gs ++ after) in
@@ -147,9 +148,10 @@ unfolding laidCopies
 laid-places l m h k =
     record {
       at = λ j r.
-        let e : 6656 + 3 * 0 + j ≡ 6656 + j = omega arith in
-        let a = length-placed (l .placed) in
-        rw e (blit-among (placedWords (l .placed)) 6656 j _ (omega arith) (rw (length-blit, length-blit, length-blit) (omega arith))) }
+          let e : 6656 + 3 * 0 + j ≡ 6656 + j = omega arith in
+          let a = length-placed (l .placed) in
+          rw e (blit-among (placedWords (l .placed)) 6656 j _ (omega arith) (rw (length-blit, length-blit, length-blit) (omega arith)));
+    }
 
 module _ (m : List ℕ) (k : ℕ) (p : Placed) (ps : List Placed) (h : Places m k (p ∷ ps)) where
   places-first : getD m (6656 + 3 * k + 1) 0 ≡ p .first
@@ -163,12 +165,13 @@ module _ (m : List ℕ) (k : ℕ) (p : Placed) (ps : List Placed) (h : Places m 
   places-rest : Places m (k + 1) ps
   unfolding placedWords
   places-rest = record {
-      at = λ j l. let e : 6656 + 3 * (k + 1) + j ≡ 6656 + 3 * k + (3 + j) = omega arith in
+    at = λ j l. let e : 6656 + 3 * (k + 1) + j ≡ 6656 + 3 * k + (3 + j) = omega arith in
         let f : 3 + j ≡ suc (suc (suc j)) = omega arith in
-        rw e (h .at (3 + j) (omega arith) ∙ rw f) }
+        rw e (h .at (3 + j) (omega arith) ∙ rw f);
+  }
 
 entry-of : (cs m : List ℕ) (k before : ℕ) (p : Placed) (qs : List Column) (ps : List Placed) → Stand cs before k (p .column ∷ qs) → Places m k (p ∷ ps)
-  → EntryOf (entryIn cs m k) before p
+    → EntryOf (entryIn cs m k) before p
 unfolding entryIn columnsWords columnWords
 entry-of cs m k before p qs ps c h =
     record {
@@ -179,7 +182,8 @@ entry-of cs m k before p qs ps c h =
       signal = c .at 6 (omega arith);
       pieces = c .at 7 (omega arith);
       first = places-first m k p ps h;
-      sd = places-sd m k p ps h }
+      sd = places-sd m k p ps h;
+    }
 
 -- ---- all columns
 record AllSame (s : List ℕ) (size : ℕ) (w : List ℕ) (n : ℕ) (fs : List ℕ) (nf : ℕ) (cs m : List ℕ) (k : ℕ) (ps : List Placed) : Type 0 where
@@ -188,11 +192,11 @@ record AllSame (s : List ℕ) (size : ℕ) (w : List ℕ) (n : ℕ) (fs : List �
 
 module _ (s : List ℕ) (size : ℕ) (w : List ℕ) (n nf : ℕ) (cs m l : List ℕ) where
   all-same : (k : ℕ) (before : List Fragment) (ps : List Placed) (fs : List ℕ)
-    → fs ≡ blit 0 (fragmentWords (before ++ signalFragments (columnsPlaced ps))) l
-    → 3 * length (before ++ signalFragments (columnsPlaced ps)) ≤ length l
-    → Stand cs (length before) k (columnsPlaced ps) → Places m k ps
-    → ((c : Column) → In c (columnsPlaced ps) → HeldColumn s w n fs nf c)
-    → AllSame s size w n fs nf cs m k ps
+      → fs ≡ blit 0 (fragmentWords (before ++ signalFragments (columnsPlaced ps))) l
+      → 3 * length (before ++ signalFragments (columnsPlaced ps)) ≤ length l
+      → Stand cs (length before) k (columnsPlaced ps) → Places m k ps
+      → ((c : Column) → In c (columnsPlaced ps) → HeldColumn s w n fs nf c)
+      → AllSame s size w n fs nf cs m k ps
   unfolding dataFrom dataBlocks columnsPlaced signalFragments
   all-same k before [] fs e h c q g = record { blocks = refl; entries = λ i a b. absurd (omega arith) }
   all-same k before (p ∷ ps) fs e h c q g =
@@ -202,19 +206,20 @@ module _ (s : List ℕ) (size : ℕ) (w : List ℕ) (n nf : ℕ) (cs m l : List 
       let u = g (p .column) here in
       let mv : before ++ (fragmentsIn sig ++ after) ≡ (before ++ fragmentsIn sig) ++ after = sym (append-assoc before (fragmentsIn sig) after) in
       let ln : length before + sizeOfSignal sig ≡ length (before ++ fragmentsIn sig) =
-          let z = size-is sig in let y = length-append before (fragmentsIn sig) in omega arith in
+      let z = size-is sig in let y = length-append before (fragmentsIn sig) in omega arith in
       let r = all-same (k + 1) (before ++ fragmentsIn sig) ps fs (rw (← mv) e) (rw (← mv) h)
-          (rw (← ln) (stand-rest cs (length before) k (p .column) (columnsPlaced ps) c)) (places-rest m k p ps q) (λ x i. g x (there i)) in
+      (rw (← ln) (stand-rest cs (length before) k (p .column) (columnsPlaced ps) c)) (places-rest m k p ps q) (λ x i. g x (there i)) in
       let si : entrySignal s fs (entryIn cs m k) ≡ sdBlocks s sig (p .sd) =
-          rw e (signal-same s l before after sig (entryIn cs m k) (p .sd) h (v .signal) (v .pieces) (v .sd)) in
+      rw e (signal-same s l before after sig (entryIn cs m k) (p .sd) h (v .signal) (v .pieces) (v .sd)) in
       let fi : (entryIn cs m k .signal ≡ 0 → ⊥) → 3 * (entryIn cs m k .signal - 1) + 3 * entryIn cs m k .pieces ≤ length fs =
-          rw e (signal-fits s l before after sig (entryIn cs m k) h (v .signal) (v .pieces)) in
+      rw e (signal-fits s l before after sig (entryIn cs m k) h (v .signal) (v .pieces)) in
       record {
         blocks = rw (blocks-same v u size, si, r .blocks);
         entries = λ i a b. ⊎-elim
-          (λ (x : k ≡ i). rw (← x) (entry-held v u fi))
-          (λ (x : k < i). r .entries i (omega arith) (omega arith))
-          (eq-or-lt-of-le a) }
+            (λ (x : k ≡ i). rw (← x) (entry-held v u fi))
+            (λ (x : k < i). r .entries i (omega arith) (omega arith))
+            (eq-or-lt-of-le a);
+      }
 
 length-columns : (ps : List Placed) → length (columnsPlaced ps) ≡ length ps
 unfolding columnsPlaced
@@ -228,10 +233,13 @@ module _ (x : Args) (d : Decided) (k : Known x d) (src₀ f₀ w₀ m₀ : List 
     (same : columnsPlaced (d .laidOut .placed) ≡ d .planned .columns) where
   abbrev sourceWords : List ℕ
   sourceWords = blit countsAt (k .steps .numbers) (laidItems (k .steps .source .items) src₀)
+
   abbrev fragmentsAll : List ℕ
   fragmentsAll = blit 0 (fragmentWords (k .steps .source .fragments ++ signalFragments (d .planned .columns))) f₀
+
   abbrev columnsAll : List ℕ
   columnsAll = laidPlan (length (k .steps .source .fragments)) (d .planned) w₀
+
   abbrev memoAll : List ℕ
   memoAll = laidCopies (d .laidOut) m₀
 
@@ -257,66 +265,68 @@ module _ (x : Args) (d : Decided) (k : Known x d) (src₀ f₀ w₀ m₀ : List 
     once-all a = rw (f .all) (walk-sound (x .image) (k .steps .source) (k .steps .walked) .once a)
 
     own-is : ownIn sourceWords (length (k .steps .source .items)) (length (k .steps .source .fragments)) (g .dataGroup .at)
-      ≡ ownOf (length (k .steps .source .fragments)) (f .count) (f .before) (f .past)
+        ≡ ownOf (length (k .steps .source .fragments)) (f .count) (f .before) (f .past)
     own-is =
         own-found sourceWords (length (k .steps .source .items)) (length (k .steps .source .fragments)) (g .dataGroup .at) (f .count) (f .before) (f .past)
-          (ap length (sym (f .all))) items-few (subst (Words sourceWords 0) (sym (f .all)) words-laid) (once-all (g .dataGroup .at))
+        (ap length (sym (f .all))) items-few (subst (Words sourceWords 0) (sym (f .all)) words-laid) (once-all (g .dataGroup .at))
 
     group-held : HeldGroup sourceWords (length (k .steps .source .items)) fragmentsAll (length (k .steps .source .fragments)) g
     group-held =
         let nf : ℕ = length (k .steps .source .fragments) in
         let few : tally (levelCG .own) (f .before ++ (dg (g .dataGroup .at) (f .count) ∷ f .past)) ≤ 512 =
-            rw (f .all) (walk-sound (x .image) (k .steps .source) (k .steps .walked) .fewCG) in
+        rw (f .all) (walk-sound (x .image) (k .steps .source) (k .steps .walked) .fewCG) in
         let gf = groups-found nf (g .dataGroup .at) (f .count) (f .before) (f .past) (k .steps .numbers) src₀ few (omega arith) in
         let gg = subst (λ (is : List Item). ownGroups (blit countsAt (k .steps .numbers) (laidItems is src₀)) (ownOf nf (f .count) (f .before) (f .past))
-              ≡ addresses (groupsOf (f .past))) (f .all) gf in
+        ≡ addresses (groupsOf (f .past))) (f .all) gf in
         record {
           groups = ap (ownGroups sourceWords) own-is ∙ gg ∙ ap addresses (f .groups);
           fragments = ap (λ (y : Own). fragmentsOf (ownWords fragmentsAll y)) own-is
-            ∙ fragments-found (f .count) (f .before) (f .past) (k .steps .source .fragments) (signalFragments (d .planned .columns)) f₀ longFragments
-            ∙ f .fragments;
+              ∙ fragments-found (f .count) (f .before) (f .past) (k .steps .source .fragments) (signalFragments (d .planned .columns)) f₀ longFragments
+              ∙ f .fragments;
           number = number-same (g .at) (g .number) (addresses (g .dataGroup .groups)) (o .numbered) (o .place)
-            (rw (← f .groups) (groups-once (g .at) (g .dataGroup .at) (f .count) (f .before) (f .past) (once-all (g .at))));
-          within = o .numbered }
+              (rw (← f .groups) (groups-once (g .at) (g .dataGroup .at) (f .count) (f .before) (f .past) (once-all (g .at))));
+          within = o .numbered;
+        }
 
   held-group : (g : SrcGroup) → In g (d .groups)
-    → HeldGroup sourceWords (length (k .steps .source .items)) fragmentsAll (length (k .steps .source .fragments)) g
+      → HeldGroup sourceWords (length (k .steps .source .items)) fragmentsAll (length (k .steps .source .fragments)) g
   unfolding dataGroups
   held-group g i =
       let o = k .groups .origins g i in
       group-held g o (dg-found (k .steps .source .fragments) (k .steps .source .items) (g .dataGroup) (o .dataGroupIn))
 
   held-column : (c : Column) → In c (d .planned .columns)
-    → HeldColumn (x .image) sourceWords (length (k .steps .source .items)) fragmentsAll (length (k .steps .source .fragments)) c
+      → HeldColumn (x .image) sourceWords (length (k .steps .source .items)) fragmentsAll (length (k .steps .source .fragments)) c
   held-column c i =
       record {
         group = held-group (c .group) (k .source c i .0);
         ready = ready (x .image) (dataGroups (k .steps .source)) (d .planned .columns) (k .steps .counted) (k .steps .dataFine) c i
-          (subst (In (c .group)) (k .steps .groups) (k .source c i .0)) (k .fitting c i) (k .source c i .1);
-        checked = k .recordsFine c i }
+            (subst (In (c .group)) (k .steps .groups) (k .source c i .0)) (k .fitting c i) (k .source c i .1);
+        checked = k .recordsFine c i;
+      }
 
   as-many : length (d .laidOut .placed) ≡ length (d .planned .columns)
   as-many = sym (length-columns (d .laidOut .placed)) ∙ ap length same
 
   all : AllSame (x .image) (x .blockSize) sourceWords (length (k .steps .source .items)) fragmentsAll (length (k .steps .source .fragments)) columnsAll
-    memoAll 0 (d .laidOut .placed)
+      memoAll 0 (d .laidOut .placed)
   all =
       let few = k .fewColumns in
       let am = as-many in
       all-same (x .image) (x .blockSize) sourceWords (length (k .steps .source .items)) (length (k .steps .source .fragments)) columnsAll memoAll f₀
-        0 (k .steps .source .fragments) (d .laidOut .placed) fragmentsAll (rw same) (rw same longFragments)
-        (rw same (laid-stand (length (k .steps .source .fragments)) (d .planned) w₀ few (omega arith)))
-        (laid-places (d .laidOut) m₀ (omega arith) longMemo) (rw same held-column)
+      0 (k .steps .source .fragments) (d .laidOut .placed) fragmentsAll (rw same) (rw same longFragments)
+      (rw same (laid-stand (length (k .steps .source .fragments)) (d .planned) w₀ few (omega arith)))
+      (laid-places (d .laidOut) m₀ (omega arith) longMemo) (rw same held-column)
 
   -- what the words give is what the result has
   pub data-blocks : dataFrom (x .image) (x .blockSize) sourceWords (length (k .steps .source .items)) fragmentsAll
       (length (k .steps .source .fragments)) columnsAll memoAll 0 (length (d .planned .columns))
-    ≡ dataBlocks (x .image) (x .blockSize) (d .laidOut .placed)
+      ≡ dataBlocks (x .image) (x .blockSize) (d .laidOut .placed)
   data-blocks = rw (← as-many) (all .blocks)
 
   pub data-ready : (at room : ℕ) → Ordered at (dataBlocks (x .image) (x .blockSize) (d .laidOut .placed)) room
-    → DataReady (x .image) (x .blockSize) sourceWords (length (k .steps .source .items)) fragmentsAll (length (k .steps .source .fragments)) columnsAll
-        memoAll (length (d .planned .columns)) at room
+      → DataReady (x .image) (x .blockSize) sourceWords (length (k .steps .source .items)) fragmentsAll (length (k .steps .source .fragments)) columnsAll
+      memoAll (length (d .planned .columns)) at room
   unfolding laidItems laidPlan laidCopies
   data-ready at room o =
       let few = k .fewColumns in
@@ -325,8 +335,10 @@ module _ (x : Args) (d : Decided) (k : Known x d) (src₀ f₀ w₀ m₀ : List 
       record {
         tables = record {
           source = rw (length-blit, length-blit, length-blit, length-blit) longSource;
-          fragments = rw length-blit (omega arith) };
+          fragments = rw length-blit (omega arith);
+        };
         columns = rw (length-blit, length-blit) (omega arith);
         places = rw (length-blit, length-blit, length-blit, length-blit) (omega arith);
         entries = λ i h. all .entries i (omega arith) (omega arith);
-        ordered = rw data-blocks o }
+        ordered = rw data-blocks o;
+      }

@@ -51,31 +51,37 @@ use Rattle.writing.specs.Finish.{Stands}
 
 -- ---- copies and attachments stand where their blocks are in order
 pub laid-ordered : (s : List ℕ) (a b d e : ℕ) (cs : List Copy) (chain : List ℕ) (memo : List Copy) (fh : ℕ) → Laid s a cs e
-  → Ordered b (copiedBlocks s chain memo fh cs) d → Laid s b cs d
+    → Ordered b (copiedBlocks s chain memo fh cs) d → Laid s b cs d
 unfolding Laid Ordered copiedBlocks
 laid-ordered s a b d e [] chain memo fh l q = q
-laid-ordered s a b d e (c ∷ cs) chain memo fh l q =
-    (q .0, l .1, laid-ordered s (c .to + sizeAt s (c .from)) (c .to + sizeAt s (c .from)) d e cs chain memo fh (l .2)
-      (subst (λ (k : ℕ). Ordered (c .to + k) (copiedBlocks s chain memo fh cs) d) (length-copied s chain memo fh (c .from) (l .1)) (q .1)))
+laid-ordered s a b d e (c ∷ cs) chain memo fh l q = (
+  q .0,
+  l .1,
+  laid-ordered s (c .to + sizeAt s (c .from)) (c .to + sizeAt s (c .from)) d e cs chain memo fh (l .2)
+      (subst (λ (k : ℕ). Ordered (c .to + k) (copiedBlocks s chain memo fh cs) d) (length-copied s chain memo fh (c .from) (l .1)) (q .1)),
+)
 
 -- own copies in front of a block
 own-ordered : (s : List ℕ) (a b d e : ℕ) (cs : List Copy) (chain : List ℕ) (memo : List Copy) (fh : ℕ) (x : Block) (xs : List Block) → Laid s a cs e
-  → Ordered b (copiedBlocks s chain memo fh cs ++ (x ∷ xs)) d → Laid s b cs (x .at) × Ordered (x .at + length (x .bytes)) xs d
+    → Ordered b (copiedBlocks s chain memo fh cs ++ (x ∷ xs)) d → Laid s b cs (x .at) × Ordered (x .at + length (x .bytes)) xs d
 unfolding Laid Ordered copiedBlocks
 own-ordered s a b d e [] chain memo fh x xs l q = (q .0, q .1)
 own-ordered s a b d e (c ∷ cs) chain memo fh x xs l q =
     let r = own-ordered s (c .to + sizeAt s (c .from)) (c .to + sizeAt s (c .from)) d e cs chain memo fh x xs (l .2)
-          (subst (λ (k : ℕ). Ordered (c .to + k) (copiedBlocks s chain memo fh cs ++ (x ∷ xs)) d) (length-copied s chain memo fh (c .from) (l .1)) (q .1)) in
+    (subst (λ (k : ℕ). Ordered (c .to + k) (copiedBlocks s chain memo fh cs ++ (x ∷ xs)) d) (length-copied s chain memo fh (c .from) (l .1)) (q .1)) in
     ((q .0, l .1, r .0), r .1)
 
 pub laidAt-ordered : (s : List ℕ) (a b d e : ℕ) (ts : List Attachment) (chain : List ℕ) (memo : List Copy) (fh : ℕ) → LaidAt s a ts e
-  → Ordered b (attachmentBlocks s chain memo fh ts) d → LaidAt s b ts d
+    → Ordered b (attachmentBlocks s chain memo fh ts) d → LaidAt s b ts d
 unfolding LaidAt Ordered attachmentBlocks
 laidAt-ordered s a b d e [] chain memo fh l q = q
 laidAt-ordered s a b d e (t ∷ ts) chain memo fh l q =
-    let r = own-ordered s a b d (t .to) (t .own) chain memo fh _ _ (l .0) q in
-    (r .0, l .1, laidAt-ordered s (t .to + sizeAt s (t .from)) (t .to + sizeAt s (t .from)) d e ts chain memo fh (l .2)
-      (subst (λ (k : ℕ). Ordered (t .to + k) (attachmentBlocks s chain memo fh ts) d) (length-at s memo (t .from) (nextAttachment ts) (l .1)) (r .1)))
+    let r = own-ordered s a b d (t .to) (t .own) chain memo fh _ _ (l .0) q in (
+      r .0,
+      l .1,
+      laidAt-ordered s (t .to + sizeAt s (t .from)) (t .to + sizeAt s (t .from)) d e ts chain memo fh (l .2)
+          (subst (λ (k : ℕ). Ordered (t .to + k) (attachmentBlocks s chain memo fh ts) d) (length-at s memo (t .from) (nextAttachment ts) (l .1)) (r .1)),
+    )
 
 -- ---- the first links of the HD
 pub first-column : (columns memo : List ℕ) (n : ℕ) → ifEq n 0 0 (getD memo 6656 0) ≡ nextDG (placedIn columns memo 0 n)
@@ -84,7 +90,7 @@ first-column columns memo zero = sym (eq-yes _ _ _ _ refl refl)
 first-column columns memo (suc n) = sym (eq-no _ _ _ _ (λ e. omega (arith, e)) refl)
 
 pub first-history : (m : List Copy) (w : List ℕ) (chain fh : ℕ) → 8192 ≤ length w
-  → ifEq chain 0 fh (newLink m (getD w 4352 0)) ≡ firstFH m (part historyAt chain w) fh
+    → ifEq chain 0 fh (newLink m (getD w 4352 0)) ≡ firstFH m (part historyAt chain w) fh
 unfolding part
 first-history m w zero fh h = sym (eq-yes _ _ _ _ refl refl)
 first-history m w (suc k) fh h = rw (drop-cons w 4352 0 (omega arith)) (sym (eq-no _ _ _ _ (λ e. omega (arith, e)) refl))
@@ -97,30 +103,30 @@ first-attachment w k count r h =
 
 -- ---- equal numbers and words
 new-eq : (text : List ℕ) (time : ℕ) {a b c d : ℕ} → a ≡ c → b ≡ d
-  → block a (mdBytes text) ∷ block b (fhBytes a time) ∷ [] ≡ block c (mdBytes text) ∷ block d (fhBytes c time) ∷ []
+    → block a (mdBytes text) ∷ block b (fhBytes a time) ∷ [] ≡ block c (mdBytes text) ∷ block d (fhBytes c time) ∷ []
 new-eq text time e f = rw (e, f)
 
 front-eq : (s ident : List ℕ) {a b c d a' b' c' d' : ℕ} → a ≡ a' → b ≡ b' → c ≡ c' → d ≡ d'
-  → block 0 ident ∷ block 64 (hdBytes s a b c d) ∷ [] ≡ block 0 ident ∷ block 64 (hdBytes s a' b' c' d') ∷ []
+    → block 0 ident ∷ block 64 (hdBytes s a b c d) ∷ [] ≡ block 0 ident ∷ block 64 (hdBytes s a' b' c' d') ∷ []
 front-eq s ident e f g h = rw (e, f, g, h)
 
 source-eq : {ns ns' : List ℕ} {st st' : Source} (w : List ℕ) → ns ≡ ns' → st ≡ st'
-  → blit countsAt ns (laidItems (st .items) w) ≡ blit countsAt ns' (laidItems (st' .items) w)
+    → blit countsAt ns (laidItems (st .items) w) ≡ blit countsAt ns' (laidItems (st' .items) w)
 source-eq w e f = rw (e, f)
 
 fragments-eq : {st st' : Source} (fs : List Fragment) (w : List ℕ) → st ≡ st'
-  → blit 0 (fragmentWords (st .fragments ++ fs)) w ≡ blit 0 (fragmentWords (st' .fragments ++ fs)) w
+    → blit 0 (fragmentWords (st .fragments ++ fs)) w ≡ blit 0 (fragmentWords (st' .fragments ++ fs)) w
 fragments-eq fs w e = rw e
 
 plan-eq : {st st' : Source} (p : Plan) (w : List ℕ) → st ≡ st' → laidPlan (length (st .fragments)) p w ≡ laidPlan (length (st' .fragments)) p w
 plan-eq p w e = rw e
 
 data-eq : (s : List ℕ) (size : ℕ) {v v' f f' w w' m m' : List ℕ} {i i' p p' k k' : ℕ} → v ≡ v' → i ≡ i' → f ≡ f' → p ≡ p' → w ≡ w' → m ≡ m' → k ≡ k'
-  → dataFrom s size v i f p w m 0 k ≡ dataFrom s size v' i' f' p' w' m' 0 k'
+    → dataFrom s size v i f p w m 0 k ≡ dataFrom s size v' i' f' p' w' m' 0 k'
 data-eq s size a b c d e f g = rw (a, b, c, d, e, f, g)
 
 ready-eq : (s : List ℕ) (size at room : ℕ) {v v' f f' w w' m m' : List ℕ} {i i' p p' k k' : ℕ} → v ≡ v' → i ≡ i' → f ≡ f' → p ≡ p' → w ≡ w' → m ≡ m' → k ≡ k'
-  → DataReady s size v' i' f' p' w' m' k' at room → DataReady s size v i f p w m k at room
+    → DataReady s size v' i' f' p' w' m' k' at room → DataReady s size v i f p w m k at room
 ready-eq s size at room a b c d e f g h = rw (a, b, c, d, e, f, g) h
 
 signals-length : (cs : List Column) → length (signalFragments cs) ≡ signalsOf cs
@@ -203,18 +209,18 @@ module _ {x : Args} {items pieces columns omitted : ℕ} {n : numbers.Numbers} {
 
   -- the HD's links
   pub front-is : {dg fh first comment : ℕ} → dg ≡ ifEq columns 0 0 (getD m 6656 0) → fh ≡ ifEq (n .chain) 0 (n .fh) (newLink (copiesIn m (n .copies)) (getD m 4352 0))
-    → NextPlace m 0 (n .attachments) first → comment ≡ newLink (copiesIn m (n .copies)) (linkAt s 64 5)
-    → block 0 (x .ident) ∷ block 64 (hdBytes s dg fh first comment) ∷ [] ≡ partFront
+      → NextPlace m 0 (n .attachments) first → comment ≡ newLink (copiesIn m (n .copies)) (linkAt s 64 5)
+      → block 0 (x .ident) ∷ block 64 (hdBytes s dg fh first comment) ∷ [] ≡ partFront
   unfolding hdBlock
   front-is {dg} {fh} {first} {comment} a b c e =
       let p : dg ≡ nextDG (l .placed) =
-            a ∙ first-column w m columns ∙ ap (λ (k : ℕ). nextDG (placedIn w m 0 k)) number-placed
-            ∙ next-in (length (st .by .source .fragments)) (d .planned) l (st .c) (st .d) w m (st .by .inColumns) (st .by .numbered .words) (columns-placed laid)
-                (known .fewColumns) (st .by .longC) (st .by .longD) in
+      a ∙ first-column w m columns ∙ ap (λ (k : ℕ). nextDG (placedIn w m 0 k)) number-placed
+      ∙ next-in (length (st .by .source .fragments)) (d .planned) l (st .c) (st .d) w m (st .by .inColumns) (st .by .numbered .words) (columns-placed laid)
+      (known .fewColumns) (st .by .longC) (st .by .longD) in
       let q : fh ≡ firstFH (memoOf l) (l .past .chain) (l .fh) =
-            b ∙ first-history (copiesIn m (n .copies)) m (n .chain) (n .fh) long
-            ∙ ap (λ (k : List Copy). firstFH k (part historyAt (n .chain) m) (n .fh)) memo-is ∙ ap (λ (k : List ℕ). firstFH (memoOf l) k (n .fh)) chain-is
-            ∙ ap (firstFH (memoOf l) (l .past .chain)) (st .by .numbered .fh) in
+      b ∙ first-history (copiesIn m (n .copies)) m (n .chain) (n .fh) long
+      ∙ ap (λ (k : List Copy). firstFH k (part historyAt (n .chain) m) (n .fh)) memo-is ∙ ap (λ (k : List ℕ). firstFH (memoOf l) k (n .fh)) chain-is
+      ∙ ap (firstFH (memoOf l) (l .past .chain)) (st .by .numbered .fh) in
       let r : first ≡ nextAttachment (l .attached .attachments) = first-attachment m (n .metadata) (n .attachments) first c ∙ ap nextAttachment moved-is in
       let t : comment ≡ newLink (memoOf l) (linkAt s 64 5) = e ∙ ap (λ (k : List Copy). newLink k (linkAt s 64 5)) memo-is in
       front-eq s (x .ident) p q r t
@@ -242,7 +248,7 @@ module _ {x : Args} {items pieces columns omitted : ℕ} {n : numbers.Numbers} {
   structure-same =
       ap (λ (k : ℕ). structureBlocks s (x .blockSize) (copiesIn m (n .copies)) (placedIn w m 0 k) (placedIn w m 0 k)) number-placed
       ∙ structure-in (length (st .by .source .fragments)) (d .planned) l (st .c) (st .d) w m (st .by .inColumns) (st .by .numbered .words) (columns-placed laid)
-          (known .fewColumns) (st .by .longC) (st .by .longD) s (x .blockSize) (copiesIn m (n .copies))
+      (known .fewColumns) (st .by .longC) (st .by .longD) s (x .blockSize) (copiesIn m (n .copies))
       ∙ ap (λ (k : List Copy). structureBlocks s (x .blockSize) k (l .placed) (l .placed)) memo-is
 
   -- the words of reading and planning, by the steps that are known
@@ -281,65 +287,73 @@ module _ {x : Args} {items pieces columns omitted : ℕ} {n : numbers.Numbers} {
   -- ---- each part's room and what was written, where the file is begun
   module _ (ys : List Block) {before : List Block} {a : ℕ} {out last : List ℕ} where
     pub history-asks : Begun before (partHistory ++ ys) (l .fileSize) a out last
-      → (0 ≤ n .history) × (n .history ≤ n .copies) × (n .copies ≤ 2048) × (8192 ≤ length m)
+        → (0 ≤ n .history) × (n .history ≤ n .copies) × (n .copies ≤ 2048) × (8192 ≤ length m)
         × Laid s a (part 0 (n .history - 0) (copiesIn m (n .copies))) (length last)
     history-asks b =
         let q = copies-order laid counted in
         let r : Ordered a (copiedBlocks s (part historyAt (n .chain) m) (copiesIn m (n .copies)) (n .fh) (part 0 (n .history - 0) (copiesIn m (n .copies)))) (length last) =
-              subst (λ (bs : List Block). Ordered a bs (length last)) (sym history-same) (begun-room partHistory ys b) in
-        (omega arith, omega (arith, q .0, q .1), q .2, long,
-          laid-ordered s 168 a (length last) (l .md) _ _ _ _ (history-room laid counted (st .d) m (st .by .longD) (st .by .numbered .words) (l .md) (omega arith)) r)
+        subst (λ (bs : List Block). Ordered a bs (length last)) (sym history-same) (begun-room partHistory ys b) in (
+          omega arith,
+          omega (arith, q .0, q .1),
+          q .2,
+          long,
+          laid-ordered s 168 a (length last) (l .md) _ _ _ _ (history-room laid counted (st .d) m (st .by .longD) (st .by .numbered .words) (l .md) (omega arith)) r,
+        )
 
     pub history-done : Begun before (partHistory ++ ys) (l .fileSize) a out last → {r : ℕ} {next : List ℕ}
-      → Wrote a (copiedBlocks s (part historyAt (n .chain) m) (copiesIn m (n .copies)) (n .fh) (part 0 (n .history - 0) (copiesIn m (n .copies)))) r last next
-      → Begun (before ++ partHistory) ys (l .fileSize) r out next
+        → Wrote a (copiedBlocks s (part historyAt (n .chain) m) (copiesIn m (n .copies)) (n .fh) (part 0 (n .history - 0) (copiesIn m (n .copies)))) r last next
+        → Begun (before ++ partHistory) ys (l .fileSize) r out next
     history-done b {r} {next} z = begun-next partHistory ys b (subst (λ (bs : List Block). Wrote a bs r last next) history-same z)
 
     pub columns-asks : Begun before (partColumns ++ ys) (l .fileSize) a out last
-      → (n .history ≤ n .metadata) × (n .metadata ≤ n .copies) × (n .copies ≤ 2048) × (8192 ≤ length m)
+        → (n .history ≤ n .metadata) × (n .metadata ≤ n .copies) × (n .copies ≤ 2048) × (8192 ≤ length m)
         × Laid s a (part (n .history) (n .metadata - n .history) (copiesIn m (n .copies))) (length last)
     columns-asks b =
         let q = copies-order laid counted in
         let r : Ordered a (copiedBlocks s (part historyAt (n .chain) m) (copiesIn m (n .copies)) (n .fh) (part (n .history) (n .metadata - n .history) (copiesIn m (n .copies)))) (length last) =
-              subst (λ (bs : List Block). Ordered a bs (length last)) (sym columns-same) (begun-room partColumns ys b) in
-        (q .0, q .1, q .2, long,
+        subst (λ (bs : List Block). Ordered a bs (length last)) (sym columns-same) (begun-room partColumns ys b) in (
+          q .0,
+          q .1,
+          q .2,
+          long,
           laid-ordered s (l .fh + 56) a (length last) (structurePlace (l .metadata)) _ _ _ _
-            (columns-room laid counted (st .d) m (st .by .longD) (st .by .numbered .words) (structurePlace (l .metadata)) (omega arith)) r)
+              (columns-room laid counted (st .d) m (st .by .longD) (st .by .numbered .words) (structurePlace (l .metadata)) (omega arith)) r,
+        )
 
     pub columns-done : Begun before (partColumns ++ ys) (l .fileSize) a out last → {r : ℕ} {next : List ℕ}
-      → Wrote a (copiedBlocks s (part historyAt (n .chain) m) (copiesIn m (n .copies)) (n .fh) (part (n .history) (n .metadata - n .history) (copiesIn m (n .copies)))) r last next
-      → Begun (before ++ partColumns) ys (l .fileSize) r out next
+        → Wrote a (copiedBlocks s (part historyAt (n .chain) m) (copiesIn m (n .copies)) (n .fh) (part (n .history) (n .metadata - n .history) (copiesIn m (n .copies)))) r last next
+        → Begun (before ++ partColumns) ys (l .fileSize) r out next
     columns-done b {r} {next} z = begun-next partColumns ys b (subst (λ (bs : List Block). Wrote a bs r last next) columns-same z)
 
     pub new-asks : Begun before (partNew ++ ys) (l .fileSize) a out last
-      → Ordered a (block (n .md) (mdBytes (x .text)) ∷ block (n .fh) (fhBytes (n .md) (x .time)) ∷ []) (length last)
+        → Ordered a (block (n .md) (mdBytes (x .text)) ∷ block (n .fh) (fhBytes (n .md) (x .time)) ∷ []) (length last)
     new-asks b = subst (λ (bs : List Block). Ordered a bs (length last)) (sym new-same) (begun-room partNew ys b)
 
     pub new-done : Begun before (partNew ++ ys) (l .fileSize) a out last → {r : ℕ} {next : List ℕ}
-      → Wrote a (block (n .md) (mdBytes (x .text)) ∷ block (n .fh) (fhBytes (n .md) (x .time)) ∷ []) r last next → Begun (before ++ partNew) ys (l .fileSize) r out next
+        → Wrote a (block (n .md) (mdBytes (x .text)) ∷ block (n .fh) (fhBytes (n .md) (x .time)) ∷ []) r last next → Begun (before ++ partNew) ys (l .fileSize) r out next
     new-done b {r} {next} z = begun-next partNew ys b (subst (λ (bs : List Block). Wrote a bs r last next) new-same z)
 
     pub structure-asks : Begun before (partStructure ++ ys) (l .fileSize) a out last
-      → StructureReady s (x .blockSize) w m columns (n .copies) a (length last)
+        → StructureReady s (x .blockSize) w m columns (n .copies) a (length last)
     structure-asks b =
         subst (λ (k : ℕ). StructureReady s (x .blockSize) w m k (n .copies) a (length last)) (sym number-placed)
-          (structure-ready (length (st .by .source .fragments)) (d .planned) l (st .c) (st .d) w m (st .by .inColumns) (st .by .numbered .words) (columns-placed laid)
-            (known .fewColumns) (st .by .longC) (st .by .longD) (in-image x d known)
-            (subst (λ (k : List Copy). Ordered a (structureBlocks s (x .blockSize) k (l .placed) (l .placed)) (length last)) (sym memo-is) (begun-room partStructure ys b)))
+        (structure-ready (length (st .by .source .fragments)) (d .planned) l (st .c) (st .d) w m (st .by .inColumns) (st .by .numbered .words) (columns-placed laid)
+        (known .fewColumns) (st .by .longC) (st .by .longD) (in-image x d known)
+        (subst (λ (k : List Copy). Ordered a (structureBlocks s (x .blockSize) k (l .placed) (l .placed)) (length last)) (sym memo-is) (begun-room partStructure ys b)))
 
     pub structure-done : Begun before (partStructure ++ ys) (l .fileSize) a out last → {r : ℕ} {next : List ℕ}
-      → Wrote a (structureBlocks s (x .blockSize) (copiesIn m (n .copies)) (placedIn w m 0 columns) (placedIn w m 0 columns)) r last next
-      → Begun (before ++ partStructure) ys (l .fileSize) r out next
+        → Wrote a (structureBlocks s (x .blockSize) (copiesIn m (n .copies)) (placedIn w m 0 columns) (placedIn w m 0 columns)) r last next
+        → Begun (before ++ partStructure) ys (l .fileSize) r out next
     structure-done b {r} {next} z = begun-next partStructure ys b (subst (λ (bs : List Block). Wrote a bs r last next) structure-same z)
 
     pub data-asks : Begun before (partData ++ ys) (l .fileSize) a out last → DataReady s (x .blockSize) v items f pieces w m columns a (length last)
     data-asks b =
         ready-eq s (x .blockSize) a (length last) words-source number-items words-fragments number-pieces words-columns (st .by .numbered .words) (st .by .columns)
-          (data-ready x d known (st .a) (st .b) (st .c) (st .d) (st .by .longA) (st .by .longC) (st .by .longD) few-pieces (columns-placed laid) a (length last)
-            (begun-room partData ys b))
+        (data-ready x d known (st .a) (st .b) (st .c) (st .d) (st .by .longA) (st .by .longC) (st .by .longD) few-pieces (columns-placed laid) a (length last)
+        (begun-room partData ys b))
 
     pub data-done : Begun before (partData ++ ys) (l .fileSize) a out last → {r : ℕ} {next : List ℕ}
-      → Wrote a (dataFrom s (x .blockSize) v items f pieces w m 0 columns) r last next → Begun (before ++ partData) ys (l .fileSize) r out next
+        → Wrote a (dataFrom s (x .blockSize) v items f pieces w m 0 columns) r last next → Begun (before ++ partData) ys (l .fileSize) r out next
     data-done b {r} {next} z = begun-next partData ys b (subst (λ (bs : List Block). Wrote a bs r last next) data-same z)
 
   module _ {before : List Block} {a : ℕ} {out last : List ℕ} where
@@ -347,19 +361,23 @@ module _ {x : Args} {items pieces columns omitted : ℕ} {n : numbers.Numbers} {
     ended b = subst (λ (bs : List Block). Begun before bs (l .fileSize) a out last) (sym (append-nil partAttached)) b
 
     pub attached-asks : Begun before partAttached (l .fileSize) a out last
-      → (n .metadata + length (ownCopies (attachmentsIn m (n .metadata) (n .attachments))) ≤ n .copies) × (n .copies ≤ 2048) × (n .attachments ≤ 64) × (8192 ≤ length m)
+        → (n .metadata + length (ownCopies (attachmentsIn m (n .metadata) (n .attachments))) ≤ n .copies) × (n .copies ≤ 2048) × (n .attachments ≤ 64) × (8192 ≤ length m)
         × LaidAt s a (attachmentsIn m (n .metadata) (n .attachments)) (length last)
     attached-asks b =
         let q = copies-order laid counted in
         let r : Ordered a (attachmentBlocks s (part historyAt (n .chain) m) (copiesIn m (n .copies)) (n .fh) (attachmentsIn m (n .metadata) (n .attachments))) (length last) =
-              subst (λ (bs : List Block). Ordered a bs (length last)) (sym attached-same) (begun-room partAttached [] (ended b)) in
-        (attachments-few laid counted (st .d) m (st .by .longD) (st .by .numbered .words), q .2, q .4, long,
+        subst (λ (bs : List Block). Ordered a bs (length last)) (sym attached-same) (begun-room partAttached [] (ended b)) in (
+          attachments-few laid counted (st .d) m (st .by .longD) (st .by .numbered .words),
+          q .2,
+          q .4,
+          long,
           laidAt-ordered s _ a (length last) (l .fileSize) _ _ _ _
-            (attachments-room laid counted (st .d) m (st .by .longD) (st .by .numbered .words) (l .fileSize) (omega arith)) r)
+              (attachments-room laid counted (st .d) m (st .by .longD) (st .by .numbered .words) (l .fileSize) (omega arith)) r,
+        )
 
     pub attached-done : Begun before partAttached (l .fileSize) a out last → {r : ℕ} {next : List ℕ}
-      → Wrote a (attachmentBlocks s (part historyAt (n .chain) m) (copiesIn m (n .copies)) (n .fh) (attachmentsIn m (n .metadata) (n .attachments))) r last next
-      → Begun (before ++ partAttached) [] (l .fileSize) r out next
+        → Wrote a (attachmentBlocks s (part historyAt (n .chain) m) (copiesIn m (n .copies)) (n .fh) (attachmentsIn m (n .metadata) (n .attachments))) r last next
+        → Begun (before ++ partAttached) [] (l .fileSize) r out next
     attached-done b {r} {next} z = begun-next partAttached [] (ended b) (subst (λ (bs : List Block). Wrote a bs r last next) attached-same z)
 
   -- ---- the first part and the end
@@ -380,11 +398,11 @@ module _ {x : Args} {items pieces columns omitted : ℕ} {n : numbers.Numbers} {
       (i, omega (arith, r .1, front-end, e, h))
 
   pub front-done : {out next : List ℕ} {r : ℕ} {bs : List Block} → n .«file_size» ≤ length out → bs ≡ partFront → Wrote 0 bs r out next
-    → Begun partFront afterFront (l .fileSize) r out next
+      → Begun partFront afterFront (l .fileSize) r out next
   front-done {out} {next} {r} h e z =
       let k = st .by .numbered .fileSize in
       begun-next partFront afterFront (begun-none (partFront ++ afterFront) (l .fileSize) out all-ordered (omega (arith, k, h)))
-        (subst (λ (bs : List Block). Wrote 0 bs r out next) e z)
+      (subst (λ (bs : List Block). Wrote 0 bs r out next) e z)
 
   -- all blocks, as they were written
   abbrev pub written : List Block
@@ -397,7 +415,7 @@ module _ {x : Args} {items pieces columns omitted : ℕ} {n : numbers.Numbers} {
   end-room b = let e = begun-end b in let k = st .by .numbered .fileSize in (omega (arith, e .0, k), omega (arith, e .1, k))
 
   pub file-done : {a : ℕ} {out last final : List ℕ} → Begun written [] (l .fileSize) a out last → final ≡ blit a (replicate (n .«file_size» - a) 0) last
-    → final ≡ blit 0 (fileFor x (decided x)) out
+      → final ≡ blit 0 (fileFor x (decided x)) out
   unfolding fileOf
   file-done {a} {out} {last} {final} b e =
       let k = st .by .numbered .fileSize in

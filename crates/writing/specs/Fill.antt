@@ -53,7 +53,7 @@ pub record TileDue (s : List ℕ) (size : ℕ) (gs : List ℕ) (e : Entry) (done
 
 pub record PutTile (s : List ℕ) (size : ℕ) (gs : List ℕ) (e : Entry) (done places out last : List ℕ) : Type 0 where
   pub put : (d : TileDue s size gs e done places (length out))
-    → Extends (wholeOf s size gs e (d .before ++ (d .rows ++ d .after))) (e .first) (toOf s size gs e (d .before))
+      → Extends (wholeOf s size gs e (d .before ++ (d .rows ++ d .after))) (e .first) (toOf s size gs e (d .before))
       (toOf s size gs e (d .before ++ d .rows)) out last
 
 -- the next row, at a cursor
@@ -70,7 +70,7 @@ pub record SplitDue (s : List ℕ) (size : ℕ) (gs ws : List ℕ) (e : Entry) (
 
 pub record PutSplit (s : List ℕ) (size : ℕ) (gs ws : List ℕ) (e : Entry) (done : List ℕ) (r : Row) (out last : List ℕ) : Type 0 where
   pub put : (d : SplitDue s size gs ws e done r (length out))
-    → Extends (wholeOf s size gs e (d .before ++ (d .row ∷ d .after))) (e .first) (toOf s size gs e (d .before))
+      → Extends (wholeOf s size gs e (d .before ++ (d .row ∷ d .after))) (e .first) (toOf s size gs e (d .before))
       (toOf s size gs e (d .before ++ (d .row ∷ []))) out last
 
 -- ---- of the columns from number a up to b, by lent words
@@ -86,10 +86,10 @@ AllDone s size gs cs m a b done before = (k : ℕ) → a ≤ k → k < b → Don
 pub record Advances (s : List ℕ) (size : ℕ) (gs cs m : List ℕ) (a i b : ℕ) (all before then' : List Frame) (out last : List ℕ) : Type 0 where
   pub same : length last ≡ length out
   pub right : (f : List ℕ) → length f ≡ length out
-    → ((k : ℕ) → a ≤ k → k < b → part (entryIn cs m k .first) (length (wholeOf s size gs (entryIn cs m k) all)) f
-        ≡ wholeOf s size gs (entryIn cs m k) all)
-    → Keeps f out last × ((k : ℕ) → a ≤ k → k < i → Has f last (entryIn cs m k .first + toOf s size gs (entryIn cs m k) before)
-        (entryIn cs m k .first + toOf s size gs (entryIn cs m k) then'))
+      → ((k : ℕ) → a ≤ k → k < b → part (entryIn cs m k .first) (length (wholeOf s size gs (entryIn cs m k) all)) f
+      ≡ wholeOf s size gs (entryIn cs m k) all)
+      → Keeps f out last × ((k : ℕ) → a ≤ k → k < i → Has f last (entryIn cs m k .first + toOf s size gs (entryIn cs m k) before)
+      (entryIn cs m k .first + toOf s size gs (entryIn cs m k) then'))
 
 -- the words are there
 pub record Lent (cs m : List ℕ) (a b : ℕ) : Type 0 where
@@ -108,7 +108,7 @@ pub record TileNext (s : List ℕ) (size : ℕ) (gs cs m : List ℕ) (a b : ℕ)
 
 pub record PutTiles (s : List ℕ) (size : ℕ) (gs cs m : List ℕ) (a i b : ℕ) (done ns ps out last : List ℕ) : Type 0 where
   pub put : (d : TileNext s size gs cs m a b done ns ps (length out))
-    → Advances s size gs cs m a i b (d .before ++ (d .rows ++ d .after)) (d .before) (d .before ++ d .rows) out last
+      → Advances s size gs cs m a i b (d .before ++ (d .rows ++ d .after)) (d .before) (d .before ++ d .rows) out last
 
 -- a row at a cursor is next
 pub record SplitNext (s : List ℕ) (size : ℕ) (gs ws cs m : List ℕ) (a b : ℕ) (done : List ℕ) (r : Row) (room : ℕ) : Type 0 where
@@ -124,7 +124,7 @@ pub record SplitNext (s : List ℕ) (size : ℕ) (gs ws cs m : List ℕ) (a b : 
 
 pub record PutSplits (s : List ℕ) (size : ℕ) (gs ws cs m : List ℕ) (a i b : ℕ) (done : List ℕ) (r : Row) (out last : List ℕ) : Type 0 where
   pub put : (d : SplitNext s size gs ws cs m a b done r (length out))
-    → Advances s size gs cs m a i b (d .before ++ (d .row ∷ d .after)) (d .before) (d .before ++ (d .row ∷ [])) out last
+      → Advances s size gs cs m a i b (d .before ++ (d .row ∷ d .after)) (d .before) (d .before ++ (d .row ∷ [])) out last
 
 -- the places of the records of a group of the tile, held at the front of own
 pub record Holds (ns ps : List ℕ) (h : Held) (own : List ℕ) : Type 0 where
@@ -169,10 +169,10 @@ pub record GroupReady (s : List ℕ) (size : ℕ) (z : Sizes) (gs ws cs m : List
 pub record Filled (s : List ℕ) (size : ℕ) (gs cs m : List ℕ) (a b : ℕ) (all : List Frame) (out last : List ℕ) : Type 0 where
   pub same : length last ≡ length out
   pub right : (f : List ℕ) → length f ≡ length out
-    → ((k : ℕ) → a ≤ k → k < b → part (entryIn cs m k .first) (length (wholeOf s size gs (entryIn cs m k) all)) f
-        ≡ wholeOf s size gs (entryIn cs m k) all)
-    → Keeps f out last × ((k : ℕ) → a ≤ k → k < b
-        → Has f last (entryIn cs m k .first) (entryIn cs m k .first + length (wholeOf s size gs (entryIn cs m k) all)))
+      → ((k : ℕ) → a ≤ k → k < b → part (entryIn cs m k .first) (length (wholeOf s size gs (entryIn cs m k) all)) f
+      ≡ wholeOf s size gs (entryIn cs m k) all)
+      → Keeps f out last × ((k : ℕ) → a ≤ k → k < b
+      → Has f last (entryIn cs m k .first) (entryIn cs m k .first + length (wholeOf s size gs (entryIn cs m k) all)))
 
 -- ---- column by column
 pub record Splitting (s : List ℕ) (size : ℕ) (gs ws cs m : List ℕ) (a k b : ℕ) (done : List ℕ) (r : Row) (out₀ out : List ℕ) : Type 0 where

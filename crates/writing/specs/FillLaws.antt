@@ -71,7 +71,7 @@ extends-none region first a b out e = record { same = refl; right = λ f l p. ((
 -- ---- the records of the tile, in a column
 module _ {s : List ℕ} {size : ℕ} {gs : List ℕ} {e : Entry} {done places : List ℕ} {room : ℕ} (d : TileDue s size gs e done places room) where
   split-rows : rowsOf gs e (d .before ++ (d .rows ++ d .after))
-    ≡ rowsOf gs e (d .before) ++ (rowsOf gs e (d .rows) ++ rowsOf gs e (d .after))
+      ≡ rowsOf gs e (d .before) ++ (rowsOf gs e (d .rows) ++ rowsOf gs e (d .after))
   split-rows = rw (rows-append gs e (d .before) (d .rows ++ d .after), rows-append gs e (d .rows) (d .after))
 
   tile-long : (entryCount s size e ≡ 0 → ⊥) → Long (samples s (e .group) + invalBytes s (e .group)) (rowsOf gs e (d .rows))
@@ -88,7 +88,7 @@ module _ {s : List ℕ} {size : ℕ} {gs : List ℕ} {e : Entry} {done places : 
   long-tile z = tile-long z
 
   tile-are : (entryCount s size e ≡ 0 → ⊥) → (recordsAt s (samples s (e .group) + invalBytes s (e .group)) places ≡ rowsOf gs e (d .rows))
-    × Inside s (samples s (e .group) + invalBytes s (e .group)) places
+      × Inside s (samples s (e .group) + invalBytes s (e .group)) places
   unfolding rowsOf
   tile-are z = rw (d .own) (picked-are (numberIn (e .group) gs) (samples s (e .group) + invalBytes s (e .group)) (d .tile) (long-tile z))
 
@@ -109,29 +109,33 @@ module _ {s : List ℕ} {size : ℕ} {gs : List ℕ} {e : Entry} {done places : 
         ready = d .column .ready z;
         inside = tile-are z .1;
         few = rw split-rows (omega arith);
-        are = rw (split-rows, n, drop-append-seam as' (bs ++ cs), c, take-append-seam bs cs) (sym (tile-are z .0)) }
-
+        are = rw (split-rows, n, drop-append-seam as' (bs ++ cs), c, take-append-seam bs cs) (sym (tile-are z .0));
+      }
 
 pub tile-put : {s : List ℕ} {size : ℕ} {gs : List ℕ} {e : Entry} {done places : List ℕ} {i j : ℕ} {out last : List ℕ}
-  → (entryCount s size e ≡ 0 → ⊥) → j ≡ numberIn (e .group) gs → i ≡ getD done j 0 → PutColumn s size e i places out last
-  → PutTile s size gs e done places out last
+    → (entryCount s size e ≡ 0 → ⊥) → j ≡ numberIn (e .group) gs → i ≡ getD done j 0 → PutColumn s size e i places out last
+    → PutTile s size gs e done places out last
 unfolding wholeOf toOf rowsOf tile-due
-tile-put {s} {size} {gs} {e} {done} {places} {i} {j} {out} {last} z q p x = record { put = λ d.
-    let n : length (rowsOf gs e (d .before)) ≡ i = sym (p ∙ ap (λ (k : ℕ). getD done k 0) q ∙ d .done-is z) in
-    let c = tile-count d z in
-    let a : rowsOf gs e (d .before ++ d .rows) ≡ rowsOf gs e (d .before) ++ rowsOf gs e (d .rows) = rows-append gs e (d .before) (d .rows) in
-    let l = length-append (rowsOf gs e (d .before)) (rowsOf gs e (d .rows)) in
-    let m : length (rowsOf gs e (d .before ++ d .rows)) ≡ i + length places = ap length a ∙ omega arith in
-    rw (n, m) (x (tile-due d z q p)) }
+tile-put {s} {size} {gs} {e} {done} {places} {i} {j} {out} {last} z q p x = record {
+  put = λ d.
+      let n : length (rowsOf gs e (d .before)) ≡ i = sym (p ∙ ap (λ (k : ℕ). getD done k 0) q ∙ d .done-is z) in
+      let c = tile-count d z in
+      let a : rowsOf gs e (d .before ++ d .rows) ≡ rowsOf gs e (d .before) ++ rowsOf gs e (d .rows) = rows-append gs e (d .before) (d .rows) in
+      let l = length-append (rowsOf gs e (d .before)) (rowsOf gs e (d .rows)) in
+      let m : length (rowsOf gs e (d .before ++ d .rows)) ≡ i + length places = ap length a ∙ omega arith in
+      rw (n, m) (x (tile-due d z q p));
+}
 
 -- a column without blocks
 pub tile-none : {s : List ℕ} {size : ℕ} {gs : List ℕ} {e : Entry} {done places : List ℕ} (out : List ℕ) → entryCount s size e ≡ 0
-  → PutTile s size gs e done places out out
+    → PutTile s size gs e done places out out
 unfolding toOf
-tile-none {s} {size} {gs} {e} out z = record { put = λ d.
-    let x = entry-none s size e (length (rowsOf gs e (d .before))) [] z .0 in
-    let y = entry-none s size e (length (rowsOf gs e (d .before ++ d .rows))) [] z .0 in
-    extends-none _ (e .first) _ _ out (x ∙ sym y) }
+tile-none {s} {size} {gs} {e} out z = record {
+  put = λ d.
+      let x = entry-none s size e (length (rowsOf gs e (d .before))) [] z .0 in
+      let y = entry-none s size e (length (rowsOf gs e (d .before ++ d .rows))) [] z .0 in
+      extends-none _ (e .first) _ _ out (x ∙ sym y);
+}
 
 -- ---- a row at a cursor, in a column
 module _ (gs : List ℕ) (e : Entry) where
@@ -140,13 +144,13 @@ module _ (gs : List ℕ) (e : Entry) where
   no-rows n = omega arith
 
   row-own : (b : List Frame) (f : Frame) (o : List Frame) → f .group ≡ numberIn (e .group) gs
-    → rowsOf gs e (b ++ (f ∷ o)) ≡ rowsOf gs e b ++ (f .bytes ∷ rowsOf gs e o)
+      → rowsOf gs e (b ++ (f ∷ o)) ≡ rowsOf gs e b ++ (f .bytes ∷ rowsOf gs e o)
   unfolding rowsOf unsortedRecords
   row-own b f o g = records-append (numberIn (e .group) gs) b (f ∷ o)
       ∙ ap (λ (x : List (List ℕ)). unsortedRecords (numberIn (e .group) gs) b ++ x) (sym (eq-yes _ _ _ _ g refl))
 
   row-other : (b : List Frame) (f : Frame) (o : List Frame) → (f .group ≡ numberIn (e .group) gs → ⊥)
-    → rowsOf gs e (b ++ (f ∷ o)) ≡ rowsOf gs e b ++ rowsOf gs e o
+      → rowsOf gs e (b ++ (f ∷ o)) ≡ rowsOf gs e b ++ rowsOf gs e o
   unfolding rowsOf unsortedRecords
   row-other b f o g = records-append (numberIn (e .group) gs) b (f ∷ o)
       ∙ ap (λ (x : List (List ℕ)). unsortedRecords (numberIn (e .group) gs) b ++ x) (sym (eq-no _ _ _ _ g refl))
@@ -154,18 +158,22 @@ module _ (gs : List ℕ) (e : Entry) where
 module _ {s : List ℕ} {size : ℕ} {gs ws : List ℕ} {e : Entry} {done : List ℕ} {r : Row} where
   pub split-other : {j : ℕ} (out : List ℕ) → j ≡ numberIn (e .group) gs → (j ≡ r .group → ⊥) → PutSplit s size gs ws e done r out out
   unfolding toOf
-  split-other out q n = record { put = λ d.
-      let o = row-other gs e (d .before) (d .row) [] (λ y. n (q ∙ sym y ∙ d .group)) in
-      let z : length (rowsOf gs e (d .before)) ≡ length (rowsOf gs e (d .before ++ (d .row ∷ []))) =
-          sym (ap length o ∙ length-append (rowsOf gs e (d .before)) (rowsOf gs e []) ∙ no-rows gs e (length (rowsOf gs e (d .before)))) in
-      extends-none _ (e .first) _ _ out (ap (entryTo s size e) z) }
+  split-other out q n = record {
+    put = λ d.
+        let o = row-other gs e (d .before) (d .row) [] (λ y. n (q ∙ sym y ∙ d .group)) in
+        let z : length (rowsOf gs e (d .before)) ≡ length (rowsOf gs e (d .before ++ (d .row ∷ []))) =
+        sym (ap length o ∙ length-append (rowsOf gs e (d .before)) (rowsOf gs e []) ∙ no-rows gs e (length (rowsOf gs e (d .before)))) in
+        extends-none _ (e .first) _ _ out (ap (entryTo s size e) z);
+  }
 
   pub split-none : (out : List ℕ) → entryCount s size e ≡ 0 → PutSplit s size gs ws e done r out out
   unfolding toOf
-  split-none out z = record { put = λ d.
-      let x = entry-none s size e (length (rowsOf gs e (d .before))) [] z .0 in
-      let y = entry-none s size e (length (rowsOf gs e (d .before ++ (d .row ∷ [])))) [] z .0 in
-      extends-none _ (e .first) _ _ out (x ∙ sym y) }
+  split-none out z = record {
+    put = λ d.
+        let x = entry-none s size e (length (rowsOf gs e (d .before))) [] z .0 in
+        let y = entry-none s size e (length (rowsOf gs e (d .before ++ (d .row ∷ [])))) [] z .0 in
+        extends-none _ (e .first) _ _ out (x ∙ sym y);
+  }
 
   module _ {i j room : ℕ} (d : SplitDue s size gs ws e done r room) (z : entryCount s size e ≡ 0 → ⊥) (q : j ≡ numberIn (e .group) gs)
       (g : j ≡ r .group) (p : i ≡ getD done j 0) where
@@ -176,7 +184,7 @@ module _ {s : List ℕ} {size : ℕ} {gs ws : List ℕ} {e : Entry} {done : List
     row-long =
         let as' : List (List ℕ) = rowsOf gs e (d .before) in
         let l : Long (samples s (e .group) + invalBytes s (e .group)) (as' ++ (d .row .bytes ∷ rowsOf gs e (d .after))) =
-            rw own-row at (d .column .ready z .long) in
+        rw own-row at (d .column .ready z .long) in
         first-long (rw (drop-append-seam as' (d .row .bytes ∷ rowsOf gs e (d .after))) at (long-drop (length as') l))
 
     row-size : r .bytes ≡ samples s (e .group) + invalBytes s (e .group)
@@ -199,21 +207,24 @@ module _ {s : List ℕ} {size : ℕ} {gs ws : List ℕ} {e : Entry} {done : List
           ranges = d .ranges;
           enough = rw (← row-size) (d .enough);
           rest = rowsOf gs e (d .after);
-          are = rw (own-row, n, drop-append-seam as' (d .row .bytes ∷ rowsOf gs e (d .after)), d .bytes, row-size) }
+          are = rw (own-row, n, drop-append-seam as' (d .row .bytes ∷ rowsOf gs e (d .after)), d .bytes, row-size);
+        }
 
   pub split-put : {i j : ℕ} {out last : List ℕ} → (entryCount s size e ≡ 0 → ⊥) → j ≡ numberIn (e .group) gs → j ≡ r .group
-    → i ≡ getD done j 0 → PutJoined s size e i ws (r .start) out last → PutSplit s size gs ws e done r out last
+      → i ≡ getD done j 0 → PutJoined s size e i ws (r .start) out last → PutSplit s size gs ws e done r out last
   unfolding wholeOf toOf rowsOf split-due
-  split-put {i} {j} {out} {last} z q g p x = record { put = λ d.
-      let o = row-own gs e (d .before) (d .row) [] (d .group ∙ sym g ∙ q) in
-      let n : length (rowsOf gs e (d .before)) ≡ i = row-before d z q g p in
-      let l = length-append (rowsOf gs e (d .before)) (d .row .bytes ∷ rowsOf gs e []) in
-      let c = no-rows gs e i in
-      let m : length (rowsOf gs e (d .before ++ (d .row ∷ []))) ≡ i + 1 = ap length o ∙ omega arith in
-      rw (n, m) (x (split-due d z q g p)) }
+  split-put {i} {j} {out} {last} z q g p x = record {
+    put = λ d.
+        let o = row-own gs e (d .before) (d .row) [] (d .group ∙ sym g ∙ q) in
+        let n : length (rowsOf gs e (d .before)) ≡ i = row-before d z q g p in
+        let l = length-append (rowsOf gs e (d .before)) (d .row .bytes ∷ rowsOf gs e []) in
+        let c = no-rows gs e i in
+        let m : length (rowsOf gs e (d .before ++ (d .row ∷ []))) ≡ i + 1 = ap length o ∙ omega arith in
+        rw (n, m) (x (split-due d z q g p));
+  }
 
   pub split-asked : {i j room : ℕ} → SplitDue s size gs ws e done r room → (entryCount s size e ≡ 0 → ⊥) → j ≡ numberIn (e .group) gs
-    → j ≡ r .group → i ≡ getD done j 0 → DueJoined s size e i ws (r .start) room
+      → j ≡ r .group → i ≡ getD done j 0 → DueJoined s size e i ws (r .start) room
   split-asked d z q g p = split-due d z q g p
 
 -- ---- columns one after the other
@@ -222,33 +233,37 @@ module _ {s : List ℕ} {size : ℕ} {gs cs m : List ℕ} {a b : ℕ} {all befor
   advances-none out = record { same = refl; right = λ f l r. ((λ p q. q), (λ k x y. absurd (omega arith))) }
 
   pub advances-step : {out₀ out last : List ℕ} (k : ℕ) {e : Entry} → a ≤ k → k < b → e ≡ entryIn cs m k
-    → Advances s size gs cs m a k b all before then' out₀ out
-    → Extends (wholeOf s size gs e all) (e .first) (toOf s size gs e before) (toOf s size gs e then') out last
-    → Advances s size gs cs m a (k + 1) b all before then' out₀ last
+      → Advances s size gs cs m a k b all before then' out₀ out
+      → Extends (wholeOf s size gs e all) (e .first) (toOf s size gs e before) (toOf s size gs e then') out last
+      → Advances s size gs cs m a (k + 1) b all before then' out₀ last
   advances-step {out₀} {out} {last} k {e} ak kb i t x =
       record {
         same = x .same ∙ t .same;
         right = λ f l r.
-          let u = t .right f l r in
-          let v = (rw i at x) .right f (l ∙ sym (t .same)) (r k ak kb) in
-          ((λ p q. v .0 p (u .0 p q)),
-           (λ n an nk. ⊎-elim (λ (h : n < k). λ p y w. v .0 p (u .1 n an h p y w))
-             (λ (h : k ≤ n). let q : k ≡ n = omega arith in subst (λ (n : ℕ). Has f last (entryIn cs m n .first + toOf s size gs (entryIn cs m n) before)
-               (entryIn cs m n .first + toOf s size gs (entryIn cs m n) then')) q (v .1)) (lt-or-le n k))) }
+            let u = t .right f l r in
+            let v = (rw i at x) .right f (l ∙ sym (t .same)) (r k ak kb) in (
+              (λ p q. v .0 p (u .0 p q)),
+              (λ n an nk. ⊎-elim (λ (h : n < k). λ p y w. v .0 p (u .1 n an h p y w))
+                  (λ (h : k ≤ n). let q : k ≡ n = omega arith in subst (λ (n : ℕ). Has f last (entryIn cs m n .first + toOf s size gs (entryIn cs m n) before)
+                  (entryIn cs m n .first + toOf s size gs (entryIn cs m n) then')) q (v .1)) (lt-or-le n k)),
+            );
+      }
 
 pub advances-join : {s : List ℕ} {size : ℕ} {gs cs m : List ℕ} {a b : ℕ} {all one two three : List Frame} {out mid last : List ℕ}
-  → Advances s size gs cs m a b b all one two out mid → Advances s size gs cs m a b b all two three mid last
-  → Advances s size gs cs m a b b all one three out last
+    → Advances s size gs cs m a b b all one two out mid → Advances s size gs cs m a b b all two three mid last
+    → Advances s size gs cs m a b b all one three out last
 advances-join {s} {size} {gs} {cs} {m} {a} {b} {all} {one} {two} {three} {out} {mid} {last} x y =
     record {
       same = y .same ∙ x .same;
       right = λ f l r.
-        let u = x .right f l r in
-        let v = y .right f (l ∙ sym (x .same)) r in
-        ((λ p q. v .0 p (u .0 p q)),
-         (λ k ak kb p g h. ⊎-elim (λ (c : p < entryIn cs m k .first + toOf s size gs (entryIn cs m k) two). v .0 p (u .1 k ak kb p g c))
-           (λ (c : entryIn cs m k .first + toOf s size gs (entryIn cs m k) two ≤ p). v .1 k ak kb p c h)
-           (lt-or-le p (entryIn cs m k .first + toOf s size gs (entryIn cs m k) two)))) }
+          let u = x .right f l r in
+          let v = y .right f (l ∙ sym (x .same)) r in (
+            (λ p q. v .0 p (u .0 p q)),
+            (λ k ak kb p g h. ⊎-elim (λ (c : p < entryIn cs m k .first + toOf s size gs (entryIn cs m k) two). v .0 p (u .1 k ak kb p g c))
+                (λ (c : entryIn cs m k .first + toOf s size gs (entryIn cs m k) two ≤ p). v .1 k ak kb p c h)
+                (lt-or-le p (entryIn cs m k .first + toOf s size gs (entryIn cs m k) two))),
+          );
+    }
 
 count-few : (j : ℕ) (ns : List ℕ) → countOf j ns ≤ length ns
 unfolding countOf ifEq
@@ -276,7 +291,7 @@ module _ {s : List ℕ} {size : ℕ} {z : Sizes} {gs ws cs m : List ℕ} {a b : 
     (t : Turn s size z gs ws cs m a b all before k done room) (small : room < 18446744073709551616) where
   -- the records of a column are fewer than bytes
   rows-few : (i : ℕ) → a ≤ i → i < b → (entryCount s size (entryIn cs m i) ≡ 0 → ⊥)
-    → length (rowsOf gs (entryIn cs m i) all) < 18446744073709551616
+      → length (rowsOf gs (entryIn cs m i) all) < 18446744073709551616
   unfolding regionOf entryPayloads
   rows-few i ai ib y =
       let e : Entry = entryIn cs m i in
@@ -296,7 +311,7 @@ module _ {s : List ℕ} {size : ℕ} {z : Sizes} {gs ws cs m : List ℕ} {a b : 
     all-due = subst (λ (o : List Frame). AllDue s size gs cs m a b o room) all-is (t .columns)
 
     advanced : {out last : List ℕ} → Advances s size gs cs m a b b (before ++ (rows ++ after)) before (before ++ rows) out last
-      → Advances s size gs cs m a b b all before (before ++ rows) out last
+        → Advances s size gs cs m a b b all before (before ++ rows) out last
     advanced {out} {last} x = subst (λ (o : List Frame). Advances s size gs cs m a b b o before (before ++ rows) out last) (sym all-is) x
 
     module _ {numbers then' : List ℕ} (counts : (j : ℕ) → countOf j numbers ≡ length (unsortedRecords j rows)) (y : Tallied numbers done then') where
@@ -308,19 +323,19 @@ module _ {s : List ℕ} {size : ℕ} {z : Sizes} {gs ws cs m : List ℕ} {a b : 
           let d : getD done j 0 ≡ length (rowsOf gs e before) = t .done-is i ai ib x in
           let c : countOf j numbers ≡ length (rowsOf gs e rows) = counts j in
           let l : length (rowsOf gs e (before ++ rows)) ≡ length (rowsOf gs e before) + length (rowsOf gs e rows) =
-              ap length (rows-append gs e before rows) ∙ length-append (rowsOf gs e before) (rowsOf gs e rows) in
+          ap length (rows-append gs e before rows) ∙ length-append (rowsOf gs e before) (rowsOf gs e rows) in
           let v : length (rowsOf gs e all) ≡ length (rowsOf gs e before) + (length (rowsOf gs e rows) + length (rowsOf gs e after)) =
-              ap (λ (o : List Frame). length (rowsOf gs e o)) all-is
-              ∙ ap length (rows-append gs e before (rows ++ after) ∙ ap (λ (o : List (List ℕ)). rowsOf gs e before ++ o) (rows-append gs e rows after))
-              ∙ length-append (rowsOf gs e before) (rowsOf gs e rows ++ rowsOf gs e after)
-              ∙ ap (λ (o : ℕ). length (rowsOf gs e before) + o) (length-append (rowsOf gs e rows) (rowsOf gs e after)) in
+          ap (λ (o : List Frame). length (rowsOf gs e o)) all-is
+          ∙ ap length (rows-append gs e before (rows ++ after) ∙ ap (λ (o : List (List ℕ)). rowsOf gs e before ++ o) (rows-append gs e rows after))
+          ∙ length-append (rowsOf gs e before) (rowsOf gs e rows ++ rowsOf gs e after)
+          ∙ ap (λ (o : ℕ). length (rowsOf gs e before) + o) (length-append (rowsOf gs e rows) (rowsOf gs e after)) in
           let f = rows-few i ai ib x in
           let w = t .columns i ai ib .listed in
           let g = t .few in
           y .more j (omega (arith, w, g)) (omega (arith, d, c, v, f)) ∙ omega (arith, d, c, l)
 
       turn-more : {r : Cursor} → after ≡ rowsFrom s (z .parent) gs ws r → Flowing s (z .parent) gs ws r
-        → Turn s size z gs ws cs m a b all (before ++ rows) r then' room
+          → Turn s size z gs ws cs m a b all (before ++ rows) r then' room
       turn-more {r} q f =
           let e = y .same in
           let g = t .few in
@@ -329,33 +344,43 @@ module _ {s : List ℕ} {size : ℕ} {z : Sizes} {gs ws cs m : List ℕ} {a b : 
             going = f;
             columns = t .columns;
             done-is = done-more;
-            few = omega arith }
+            few = omega arith;
+          }
 
   -- a tile
   pub tile-next : {r : Cursor} {n : ℕ} {numbers places : List ℕ} → Gathered s (z .parent) gs ws k r n numbers places
-    → TileNext s size gs cs m a b done (take n numbers) (take n places) room
+      → TileNext s size gs cs m a b done (take n numbers) (take n places) room
   tile-next {r} g =
       record {
-        before = before; rows = g .rows; after = rowsFrom s (z .parent) gs ws r;
+        before = before;
+        rows = g .rows;
+        after = rowsFrom s (z .parent) gs ws r;
         columns = all-due (g .rows) (rowsFrom s (z .parent) gs ws r) (g .is);
         done-is = t .done-is;
-        tile = g .tile }
+        tile = g .tile;
+      }
 
   -- a row at a cursor
   pub split-next : (r : Cursor) {row : Row} → RowAt s (z .parent) gs ws k (row .start) (row .group) (row .bytes)
-    → ahead ws r ≡ past (row .bytes) (ahead ws (row .start)) → SplitNext s size gs ws cs m a b done row room
+      → ahead ws r ≡ past (row .bytes) (ahead ws (row .start)) → SplitNext s size gs ws cs m a b done row room
   split-next r g q =
       record {
-        before = before; row = g .first; after = rowsFrom s (z .parent) gs ws r;
+        before = before;
+        row = g .first;
+        after = rowsFrom s (z .parent) gs ws r;
         columns = all-due (g .first ∷ []) (rowsFrom s (z .parent) gs ws r) (g .next r q .0);
         done-is = t .done-is;
-        group = g .group; bytes = g .bytes; ranges = g .ranges; enough = g .enough }
+        group = g .group;
+        bytes = g .bytes;
+        ranges = g .ranges;
+        enough = g .enough;
+      }
 
 module _ {s : List ℕ} {size : ℕ} {z : Sizes} {gs ws cs m : List ℕ} {a b : ℕ} {all before : List Frame} {k : Cursor} {done : List ℕ} {out : List ℕ}
     (t : Turn s size z gs ws cs m a b all before k done (length out)) (small : length out < 18446744073709551616) where
   pub turned-tile : {r : Cursor} {n : ℕ} {numbers places then' last : List ℕ} → Gathered s (z .parent) gs ws k r n numbers places → (n ≡ 0 → ⊥)
-    → PutTiles s size gs cs m a b b done (take n numbers) (take n places) out last → Tallied (take n numbers) done then'
-    → Turned s size z gs ws cs m a b all before r then' out last
+      → PutTiles s size gs cs m a b b done (take n numbers) (take n places) out last → Tallied (take n numbers) done then'
+      → Turned s size z gs ws cs m a b all before r then' out last
   unfolding tile-next
   turned-tile {r} {n} {numbers} g nz p y =
       let l = tile-length (g .tile) in
@@ -364,30 +389,34 @@ module _ {s : List ℕ} {size : ℕ} {z : Sizes} {gs ws cs m : List ℕ} {a b : 
         rows = g .rows;
         some = omega arith;
         turn = turn-more t small (g .rows) (rowsFrom s (z .parent) gs ws r) (g .is) (λ j. count-rows j (g .tile)) y refl (g .going);
-        advances = advanced t small (g .rows) (rowsFrom s (z .parent) gs ws r) (g .is) (p .put (tile-next t small g)) }
+        advances = advanced t small (g .rows) (rowsFrom s (z .parent) gs ws r) (g .is) (p .put (tile-next t small g));
+      }
 
   pub turned-split : {r : Cursor} {row : Row} {then' last : List ℕ} → RowAt s (z .parent) gs ws k (row .start) (row .group) (row .bytes)
-    → ahead ws r ≡ past (row .bytes) (ahead ws (row .start)) → PutSplits s size gs ws cs m a b b done row out last
-    → Tallied (row .group ∷ []) done then' → Turned s size z gs ws cs m a b all before r then' out last
+      → ahead ws r ≡ past (row .bytes) (ahead ws (row .start)) → PutSplits s size gs ws cs m a b b done row out last
+      → Tallied (row .group ∷ []) done then' → Turned s size z gs ws cs m a b all before r then' out last
   unfolding split-next
   turned-split {r} {row} g q p y =
       record {
         rows = g .first ∷ [];
         some = omega arith;
         turn = turn-more t small (g .first ∷ []) (rowsFrom s (z .parent) gs ws r) (g .next r q .0) (λ j. count-one j (g .first) (row .group) (g .group)) y refl (g .next r q .1);
-        advances = advanced t small (g .first ∷ []) (rowsFrom s (z .parent) gs ws r) (g .next r q .0) (p .put (split-next t small r g q)) }
+        advances = advanced t small (g .first ∷ []) (rowsFrom s (z .parent) gs ws r) (g .next r q .0) (p .put (split-next t small r g q));
+      }
 
 -- ---- column by column
 pub held-new : (j : ℕ) (ns ps own : List ℕ) {n : ℕ} {last : List ℕ} → length ns ≡ length ps → length ns ≤ length own
-  → n ≡ length (picked j ns ps) → last ≡ blit 0 (picked j ns ps) own → Holds ns ps (record { number = j; count = n }) last
+    → n ≡ length (picked j ns ps) → last ≡ blit 0 (picked j ns ps) own → Holds ns ps (record { number = j; count = n }) last
 held-new j ns ps own {n} {last} l f c e =
     let q = length-picked j ns ps l in
     let w = count-few j ns in
     let o : length last ≡ length own = ap length e ∙ length-blit 0 (picked j ns ps) own in
     let i : last ≡ take 0 own ++ picked j ns ps ++ drop (0 + length (picked j ns ps)) own = e ∙ blit-is 0 (picked j ns ps) own (omega arith) in
     record {
-      count = c; within = omega arith;
-      are = rw (i, c) (take-append-seam (picked j ns ps) (drop (0 + length (picked j ns ps)) own)) }
+      count = c;
+      within = omega arith;
+      are = rw (i, c) (take-append-seam (picked j ns ps) (drop (0 + length (picked j ns ps)) own));
+    }
 
 module _ {s : List ℕ} {size : ℕ} {gs ws cs m : List ℕ} {a b : ℕ} {done : List ℕ} {r : Row} where
   pub splits-none : (out : List ℕ) → PutSplits s size gs ws cs m a a b done r out out
@@ -395,26 +424,35 @@ module _ {s : List ℕ} {size : ℕ} {gs ws cs m : List ℕ} {a b : ℕ} {done :
 
   module _ {k : ℕ} {out₀ out : List ℕ} (t : Splitting s size gs ws cs m a k b done r out₀ out) where
     column-split : SplitNext s size gs ws cs m a b done r (length out₀) → (h : k < b) {e : Entry} → e ≡ entryIn cs m k
-      → SplitDue s size gs ws e done r (length out)
+        → SplitDue s size gs ws e done r (length out)
     column-split d h {e} i =
         record {
-          before = d .before; row = d .row; after = d .after;
+          before = d .before;
+          row = d .row;
+          after = d .after;
           column = rw (i, t .same) (d .columns k (t .from) h);
           done-is = rw i (d .done-is k (t .from) h);
-          group = d .group; bytes = d .bytes; ranges = d .ranges; enough = d .enough }
+          group = d .group;
+          bytes = d .bytes;
+          ranges = d .ranges;
+          enough = d .enough;
+        }
 
     pub split-one : SplitNext s size gs ws cs m a b done r (length out₀) → k < b → {e : Entry} → e ≡ entryIn cs m k
-      → SplitDue s size gs ws e done r (length out)
+        → SplitDue s size gs ws e done r (length out)
     split-one d h i = column-split d h i
 
     pub splits-step : k < b → {e : Entry} {last : List ℕ} → e ≡ entryIn cs m k → PutSplit s size gs ws e done r out last → length last ≡ length out
-      → Splitting s size gs ws cs m a (k + 1) b done r out₀ last
+        → Splitting s size gs ws cs m a (k + 1) b done r out₀ last
     unfolding column-split
     splits-step h {e} {last} i x l =
         let f = t .from in
         record {
-          from = omega arith; to = omega arith; same = l ∙ t .same;
-          put = record { put = λ d. advances-step k (t .from) h i (t .put .put d) (x .put (column-split d h i)) } }
+          from = omega arith;
+          to = omega arith;
+          same = l ∙ t .same;
+          put = record { put = λ d. advances-step k (t .from) h i (t .put .put d) (x .put (column-split d h i)) };
+        }
 
 module _ {s : List ℕ} {size : ℕ} {gs cs m : List ℕ} {a b : ℕ} {done ns ps : List ℕ} where
   pub tiles-none : (out : List ℕ) → PutTiles s size gs cs m a a b done ns ps out out
@@ -422,58 +460,72 @@ module _ {s : List ℕ} {size : ℕ} {gs cs m : List ℕ} {a b : ℕ} {done ns p
 
   module _ {k : ℕ} {own₀ own : List ℕ} {h : Held} {out₀ out : List ℕ} (t : Tiling s size gs cs m a k b done ns ps own₀ own h out₀ out) where
     pub column-tile : TileNext s size gs cs m a b done ns ps (length out₀) → k < b → {e : Entry} → e ≡ entryIn cs m k
-      → TileDue s size gs e done (picked (numberIn (e .group) gs) ns ps) (length out)
+        → TileDue s size gs e done (picked (numberIn (e .group) gs) ns ps) (length out)
     column-tile d y {e} i =
         record {
-          before = d .before; rows = d .rows; after = d .after; numbers = ns; all-places = ps;
+          before = d .before;
+          rows = d .rows;
+          after = d .after;
+          numbers = ns;
+          all-places = ps;
           column = rw (i, t .same) (d .columns k (t .from) y);
           done-is = rw i (d .done-is k (t .from) y);
           tile = d .tile;
-          own = refl }
+          own = refl;
+        }
 
     pub tiles-step : k < b → {e : Entry} {last : List ℕ} → e ≡ entryIn cs m k
-      → PutTile s size gs e done (picked (numberIn (e .group) gs) ns ps) out last → length last ≡ length out → {own' : List ℕ} {h' : Held} → Holds ns ps h' own' → length own' ≡ length own
-      → Tiling s size gs cs m a (k + 1) b done ns ps own₀ own' h' out₀ last
+        → PutTile s size gs e done (picked (numberIn (e .group) gs) ns ps) out last → length last ≡ length out → {own' : List ℕ} {h' : Held} → Holds ns ps h' own' → length own' ≡ length own
+        → Tiling s size gs cs m a (k + 1) b done ns ps own₀ own' h' out₀ last
     unfolding column-tile
     tiles-step y {e} {last} i x l g o =
         let f = t .from in
         record {
-          from = omega arith; to = omega arith; same = l ∙ t .same; owned = o ∙ t .owned; held = g;
-          put = record { put = λ d. advances-step k (t .from) y i (t .put .put d) (x .put (column-tile d y i)) } }
+          from = omega arith;
+          to = omega arith;
+          same = l ∙ t .same;
+          owned = o ∙ t .owned;
+          held = g;
+          put = record { put = λ d. advances-step k (t .from) y i (t .put .put d) (x .put (column-tile d y i)) };
+        }
 
 pub splits-end : {s : List ℕ} {size : ℕ} {gs ws cs m : List ℕ} {a k b : ℕ} {done : List ℕ} {r : Row} {out₀ out : List ℕ}
-  → Splitting s size gs ws cs m a k b done r out₀ out → b ≤ k → PutSplits s size gs ws cs m a b b done r out₀ out
-splits-end {s} {size} {gs} {ws} {cs} {m} {a} {k} {b} {done} {r} {out₀} {out} t h = record { put = λ d.
-    let y = t .to in
-    let q : k ≡ b = omega arith in
-    subst (λ (i : ℕ). Advances s size gs cs m a i b (d .before ++ (d .row ∷ d .after)) (d .before) (d .before ++ (d .row ∷ [])) out₀ out) q (t .put .put d) }
+    → Splitting s size gs ws cs m a k b done r out₀ out → b ≤ k → PutSplits s size gs ws cs m a b b done r out₀ out
+splits-end {s} {size} {gs} {ws} {cs} {m} {a} {k} {b} {done} {r} {out₀} {out} t h = record {
+  put = λ d.
+      let y = t .to in
+      let q : k ≡ b = omega arith in
+      subst (λ (i : ℕ). Advances s size gs cs m a i b (d .before ++ (d .row ∷ d .after)) (d .before) (d .before ++ (d .row ∷ [])) out₀ out) q (t .put .put d);
+}
 
 pub tiles-end : {s : List ℕ} {size : ℕ} {gs cs m : List ℕ} {a k b : ℕ} {done ns ps own₀ own : List ℕ} {h : Held} {out₀ out : List ℕ}
-  → Tiling s size gs cs m a k b done ns ps own₀ own h out₀ out → b ≤ k → PutTiles s size gs cs m a b b done ns ps out₀ out
-tiles-end {s} {size} {gs} {cs} {m} {a} {k} {b} {out₀ = out₀} {out = out} t h = record { put = λ d.
-    let y = t .to in
-    let q : k ≡ b = omega arith in
-    subst (λ (i : ℕ). Advances s size gs cs m a i b (d .before ++ (d .rows ++ d .after)) (d .before) (d .before ++ d .rows) out₀ out) q (t .put .put d) }
+    → Tiling s size gs cs m a k b done ns ps own₀ own h out₀ out → b ≤ k → PutTiles s size gs cs m a b b done ns ps out₀ out
+tiles-end {s} {size} {gs} {cs} {m} {a} {k} {b} {out₀ = out₀} {out = out} t h = record {
+  put = λ d.
+      let y = t .to in
+      let q : k ≡ b = omega arith in
+      subst (λ (i : ℕ). Advances s size gs cs m a i b (d .before ++ (d .rows ++ d .after)) (d .before) (d .before ++ d .rows) out₀ out) q (t .put .put d);
+}
 
 tile-length-2 : {s : List ℕ} {rows : List Frame} {ns ps : List ℕ} → TileOf s rows ns ps → length rows ≡ length ps
 tile-length-2 none = refl
 tile-length-2 (more n p g b q t) = ap suc (tile-length-2 t)
 
 pub tile-lengths : {s : List ℕ} {size : ℕ} {gs cs m : List ℕ} {a b : ℕ} {done ns ps : List ℕ} {room : ℕ}
-  → TileNext s size gs cs m a b done ns ps room → length ns ≡ length ps
+    → TileNext s size gs cs m a b done ns ps room → length ns ≡ length ps
 tile-lengths d = sym (tile-length (d .tile)) ∙ tile-length-2 (d .tile)
 
 pub held-are : {ns ps : List ℕ} {h : Held} {own : List ℕ} {j : ℕ} → Holds ns ps h own → h .number ≡ j → take (h .count) own ≡ picked j ns ps
 held-are {ns} {ps} t e = t .are ∙ ap (λ (i : ℕ). picked i ns ps) e
 
 pub held-due : {s : List ℕ} {size : ℕ} {gs : List ℕ} {e : Entry} {done ns ps own : List ℕ} {h : Held} {room : ℕ}
-  → TileDue s size gs e done (picked (numberIn (e .group) gs) ns ps) room → Holds ns ps h own → h .number ≡ numberIn (e .group) gs
-  → TileDue s size gs e done (take (h .count) own) room
+    → TileDue s size gs e done (picked (numberIn (e .group) gs) ns ps) room → Holds ns ps h own → h .number ≡ numberIn (e .group) gs
+    → TileDue s size gs e done (take (h .count) own) room
 held-due d t q = rw (held-are t q) d
 
 pub held-put : {s : List ℕ} {size : ℕ} {gs : List ℕ} {e : Entry} {done ns ps own : List ℕ} {h : Held} {out last : List ℕ}
-  → Holds ns ps h own → h .number ≡ numberIn (e .group) gs → PutTile s size gs e done (take (h .count) own) out last
-  → PutTile s size gs e done (picked (numberIn (e .group) gs) ns ps) out last
+    → Holds ns ps h own → h .number ≡ numberIn (e .group) gs → PutTile s size gs e done (take (h .count) own) out last
+    → PutTile s size gs e done (picked (numberIn (e .group) gs) ns ps) out last
 held-put t q x = rw (held-are t q) at x
 
 -- the first word alone, which was stored
@@ -494,15 +546,15 @@ unfolding toOf rowsOf unsortedRecords
 to-none s size gs e = entry-zero s size e
 
 to-all : {s : List ℕ} {size : ℕ} {gs : List ℕ} {e : Entry} {all : List Frame} {room : ℕ} → ColumnDue s size gs e all room
-  → toOf s size gs e all ≡ length (wholeOf s size gs e all)
+    → toOf s size gs e all ≡ length (wholeOf s size gs e all)
 unfolding toOf wholeOf
 to-all {s} {size} {gs} {e} {all} d =
     ⊎-elim (λ (h : entryCount s size e < 1).
-      let z : entryCount s size e ≡ 0 = omega arith in
-      let n = entry-none s size e (length (rowsOf gs e all)) (rowsOf gs e all) z in n .0 ∙ sym (n .1))
+    let z : entryCount s size e ≡ 0 = omega arith in
+    let n = entry-none s size e (length (rowsOf gs e all)) (rowsOf gs e all) z in n .0 ∙ sym (n .1))
     (λ (h : 1 ≤ entryCount s size e).
-      let r = d .ready (λ q. omega arith) in
-      ap (entryTo s size e) (r .many) ∙ entry-full r)
+    let r = d .ready (λ q. omega arith) in
+    ap (entryTo s size e) (r .many) ∙ entry-full r)
     (lt-or-le (entryCount s size e) 1)
 
 pub record Filling (s : List ℕ) (size : ℕ) (z : Sizes) (gs ws cs m : List ℕ) (a b : ℕ) (all : List Frame) (c : Cursor) (done out₀ out : List ℕ) : Type 0 where
@@ -511,15 +563,16 @@ pub record Filling (s : List ℕ) (size : ℕ) (z : Sizes) (gs ws cs m : List �
   pub filled : Advances s size gs cs m a b b all [] before out₀ out
 
 pub filling-start : {s : List ℕ} {size : ℕ} {z : Sizes} {gs ws cs m : List ℕ} {a b : ℕ} {done out : List ℕ}
-  → GroupReady s size z gs ws cs m a b (length out) → ((j : ℕ) → getD done j 0 ≡ 0) → 1536 ≤ length done
-  → Filling s size z gs ws cs m a b (rowsFrom s (z .parent) gs ws (nextOf ws start)) (nextOf ws start) done out out
+    → GroupReady s size z gs ws cs m a b (length out) → ((j : ℕ) → getD done j 0 ≡ 0) → 1536 ≤ length done
+    → Filling s size z gs ws cs m a b (rowsFrom s (z .parent) gs ws (nextOf ws start)) (nextOf ws start) done out out
 unfolding rowsOf unsortedRecords
 filling-start {done = done} {out = out} g h l =
     let f = g .few in
     record {
       before = [];
       turn = record { is = refl; going = g .going; columns = g .columns; done-is = λ k x y z. h _; few = omega arith };
-      filled = record { same = refl; right = λ f l r. ((λ p q. q), (λ k x y p u v. absurd (omega arith))) } }
+      filled = record { same = refl; right = λ f l r. ((λ p q. q), (λ k x y p u v. absurd (omega arith))) };
+    }
 
 module _ {s : List ℕ} {size : ℕ} {z : Sizes} {gs ws cs m : List ℕ} {a b : ℕ} {all : List Frame} {c : Cursor} {done out₀ out : List ℕ}
     (t : Filling s size z gs ws cs m a b all c done out₀ out) where
@@ -528,15 +581,20 @@ module _ {s : List ℕ} {size : ℕ} {z : Sizes} {gs ws cs m : List ℕ} {a b : 
       let q = o .settled (omega arith) in
       let u = t .turn in
       record {
-        all = all; before = t .before;
+        all = all;
+        before = t .before;
         turn = rw (t .filled .same) (record {
           is = u .is ∙ ap (λ (x : List Frame). t .before ++ x) (rows-settled s (z .parent) gs q);
           going = flowing-settled q (u .going);
-          columns = u .columns; done-is = u .done-is; few = u .few }) }
+          columns = u .columns;
+          done-is = u .done-is;
+          few = u .few;
+        });
+      }
 
   pub filling-on : {k r : Cursor} {then' last : List ℕ} (o : Onward ws c k) (n : k .left ≡ 0 → ⊥)
-    → TurnDone s size z gs ws cs m a b k r done then' out last
-    → Filling s size z gs ws cs m a b all r then' out₀ last × (length (rowsFrom s (z .parent) gs ws r) < length (rowsFrom s (z .parent) gs ws c))
+      → TurnDone s size z gs ws cs m a b k r done then' out last
+      → Filling s size z gs ws cs m a b all r then' out₀ last × (length (rowsFrom s (z .parent) gs ws r) < length (rowsFrom s (z .parent) gs ws c))
   unfolding filling-next
   filling-on {k} {r} {then'} {last} o n y =
       let d = filling-next o n in
@@ -557,11 +615,14 @@ module _ {s : List ℕ} {size : ℕ} {z : Sizes} {gs ws cs m : List ℕ} {a b : 
       record {
         same = t .filled .same;
         right = λ f l r.
-          let u = t .filled .right f l r in
-          (u .0, λ k x y p v w.
-            let i = to-none s size gs (entryIn cs m k) in
-            let j = to-all (t .turn .columns k x y) in
-            u .1 k x y p (rw i (omega arith)) (rw (← q, j) (omega arith))) }
+            let u = t .filled .right f l r in (
+              u .0,
+              λ k x y p v w.
+                  let i = to-none s size gs (entryIn cs m k) in
+                  let j = to-all (t .turn .columns k x y) in
+                  u .1 k x y p (rw i (omega arith)) (rw (← q, j) (omega arith)),
+            );
+      }
 
 -- as the loop has it
 pub record Turns (s : List ℕ) (size : ℕ) (z : Sizes) (gs ws cs m : List ℕ) (a b : ℕ) (all : List Frame) (numbers places own done : List ℕ)
@@ -573,14 +634,18 @@ pub record Turns (s : List ℕ) (size : ℕ) (z : Sizes) (gs ws cs m : List ℕ)
   pub done-long : length done ≡ 1536
 
 pub turns-start : {s : List ℕ} {size : ℕ} {z : Sizes} {gs ws cs m : List ℕ} {a b : ℕ} {numbers places own done out : List ℕ} {c : Cursor}
-  → GroupReady s size z gs ws cs m a b (length out) → c ≡ nextOf ws start → length numbers ≡ 1024 → length places ≡ 1024 → length own ≡ 1024
-  → length done ≡ 1536 → ((j : ℕ) → getD done j 0 ≡ 0)
-  → Turns s size z gs ws cs m a b (rowsFrom s (z .parent) gs ws (nextOf ws start)) numbers places own done c out out
+    → GroupReady s size z gs ws cs m a b (length out) → c ≡ nextOf ws start → length numbers ≡ 1024 → length places ≡ 1024 → length own ≡ 1024
+    → length done ≡ 1536 → ((j : ℕ) → getD done j 0 ≡ 0)
+    → Turns s size z gs ws cs m a b (rowsFrom s (z .parent) gs ws (nextOf ws start)) numbers places own done c out out
 turns-start {s} {size} {z} {gs} {ws} {cs} {m} {a} {b} {done = done} {out = out} g e n p o d h =
     record {
       filling = subst (λ (c : Cursor). Filling s size z gs ws cs m a b (rowsFrom s (z .parent) gs ws (nextOf ws start)) c done out out) (sym e)
-        (filling-start g h (omega (arith, d)));
-      numbers-long = n; places-long = p; own-long = o; done-long = d }
+          (filling-start g h (omega (arith, d)));
+      numbers-long = n;
+      places-long = p;
+      own-long = o;
+      done-long = d;
+    }
 
 pub all-zero : (n j : ℕ) → getD (replicate {A = ℕ} n 0) j 0 ≡ 0
 all-zero zero j = refl

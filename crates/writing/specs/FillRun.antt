@@ -25,7 +25,7 @@ pub record RunFilled (s : List ℕ) (size : ℕ) (w : List ℕ) (n : ℕ) (fs : 
     (out last : List ℕ) : Type 0 where
   pub same : length last ≡ length out
   pub right : (f : List ℕ) → length f ≡ length out
-    → ((k : ℕ) → k < number → part (entryIn cs m k .first) (length (entryRegion s size w n fs nf (entryIn cs m k))) f
-        ≡ entryRegion s size w n fs nf (entryIn cs m k))
-    → Keeps f out last × ((k : ℕ) → a ≤ k → k < b
-        → Has f last (entryIn cs m k .first) (entryIn cs m k .first + length (entryRegion s size w n fs nf (entryIn cs m k))))
+      → ((k : ℕ) → k < number → part (entryIn cs m k .first) (length (entryRegion s size w n fs nf (entryIn cs m k))) f
+      ≡ entryRegion s size w n fs nf (entryIn cs m k))
+      → Keeps f out last × ((k : ℕ) → a ≤ k → k < b
+      → Has f last (entryIn cs m k .first) (entryIn cs m k .first + length (entryRegion s size w n fs nf (entryIn cs m k))))

@@ -47,19 +47,21 @@ run-begin {cs} {m} {a} h =
     record {
       some = omega arith;
       within = omega arith;
-      parent = λ k p q. let e : k ≡ a = omega arith in ap (λ (x : ℕ). entryIn cs m x .parent) e }
+      parent = λ k p q. let e : k ≡ a = omega arith in ap (λ (x : ℕ). entryIn cs m x .parent) e;
+    }
 
 pub run-on : {cs m : List ℕ} {a number i : ℕ} {e o : Entry} → Run cs m a number i → i < number → e ≡ entryIn cs m a
-  → o ≡ entryIn cs m i → o .parent ≡ e .parent → Run cs m a number (i + 1)
+    → o ≡ entryIn cs m i → o .parent ≡ e .parent → Run cs m a number (i + 1)
 run-on {cs} {m} {a} {number} {i} {e} {o} r h x y p =
     let l = r .some in
     record {
       some = omega arith;
       within = omega arith;
       parent = λ k u v. ⊎-elim (λ z. r .parent k u z)
-        (λ z. let q : k ≡ i = omega arith in
+          (λ z. let q : k ≡ i = omega arith in
           ap (λ (j : ℕ). entryIn cs m j .parent) q ∙ sym (ap (λ (j : Entry). j .parent) y) ∙ p ∙ ap (λ (j : Entry). j .parent) x)
-        (lt-or-le k i) }
+          (lt-or-le k i);
+    }
 
 -- ---- whether one has blocks
 pub record NoneYet (s : List ℕ) (size : ℕ) (cs m : List ℕ) (a b k : ℕ) : Type 0 where
@@ -77,7 +79,8 @@ module _ {s : List ℕ} {size : ℕ} {cs m : List ℕ} {a b : ℕ} where
         let l = t .to in
         record {
           yes = λ e. let z : _≡_ {A = ℕ} 0 1 = cc in absurd (omega arith);
-          no = λ _ i p q. t .none i p (omega arith) }
+          no = λ _ i p q. t .none i p (omega arith);
+        }
 
     module _ (h : k < b) {e : Entry} {c : ℕ} (i : e ≡ entryIn cs m k) (x : c ≡ entryCount s size e) where
       pub none-more : c ≡ 0 → NoneYet s size cs m a b (k + 1)
@@ -87,20 +90,22 @@ module _ {s : List ℕ} {size : ℕ} {cs m : List ℕ} {a b : ℕ} where
             from = omega arith;
             to = omega arith;
             none = λ j p q. ⊎-elim (λ y. t .none j p y)
-              (λ y. let u : j ≡ k = omega arith in
+                (λ y. let u : j ≡ k = omega arith in
                 ap (λ (r : ℕ). entryCount s size (entryIn cs m r)) u ∙ ap (entryCount s size) (sym i) ∙ sym x ∙ z)
-              (lt-or-le j k) }
+                (lt-or-le j k);
+          }
 
       pub one-has : (c ≡ 0 → ⊥) → AnyBlocks s size cs m a b true
       one-has z =
           record {
             yes = λ _. (k, t .from, h, λ y. z (x ∙ ap (entryCount s size) i ∙ y));
-            no = λ e. let q : _≡_ {A = ℕ} 0 1 = cc in absurd (omega arith) }
+            no = λ e. let q : _≡_ {A = ℕ} 0 1 = cc in absurd (omega arith);
+          }
 
 -- ---- the sizes of records
 pub sizes-are : (s gs : List ℕ) (d : ℕ) {g i a b : ℕ} → g ≡ getD gs 0 0 → Small 1 (idSize s d) i → Small 4 (samples s g) a
-  → Small 4 (invalBytes s g) b
-  → SizesOf s gs (record { parent = d; id = i; length = a + b })
+    → Small 4 (invalBytes s g) b
+    → SizesOf s gs (record { parent = d; id = i; length = a + b })
 sizes-are s gs d {g} {i} {a} {b} e x y z =
     let p = x .small in
     let q = y .small in
@@ -109,7 +114,8 @@ sizes-are s gs d {g} {i} {a} {b} e x y z =
       id = x .is;
       short = omega arith;
       length = rw (y .is, z .is, e);
-      within = omega arith }
+      within = omega arith;
+    }
 
 -- ---- where records are counted are words of a fragment
 module _ {s ws : List ℕ} {d g c n : ℕ} (q : SortedReady s ws d g c n) (wide : 0 < width s g c) (some : 0 < n) where
@@ -146,7 +152,7 @@ pub record Started (s w : List ℕ) (n : ℕ) (fs : List ℕ) (nf d : ℕ) (o : 
   pub words : 3 ≤ length (ownWords fs o)
   pub going : Flowing s d (ownGroups w o) (ownWords fs o) (nextOf (ownWords fs o) start)
   pub records : (e : Entry) → EntryReady s w n fs nf e → e .parent ≡ d
-    → rowsOf (ownGroups w o) e (rowsFrom s d (ownGroups w o) (ownWords fs o) (nextOf (ownWords fs o) start)) ≡ entryRecords s w n fs nf e
+      → rowsOf (ownGroups w o) e (rowsFrom s d (ownGroups w o) (ownWords fs o) (nextOf (ownWords fs o) start)) ≡ entryRecords s w n fs nf e
 
 first-is : {g : ℕ} {gs : List ℕ} → gs ≡ g ∷ [] → getD gs 0 0 ≡ g
 first-is e = ap (λ (x : List ℕ). getD x 0 0) e
@@ -170,12 +176,13 @@ module _ {s w : List ℕ} {n : ℕ} {fs : List ℕ} {nf d : ℕ} {o : Own} (t : 
         words = l;
         going = x .0;
         records = λ i ri pi.
-          let qi : OwnOf w n nf (i .parent) o = rw pi q in
-          let li = listed t ri qi in
-          let zero' : numberIn (i .group) gs ≡ 0 = omega arith in
-          let same : i .group ≡ e .group = sym (first-is (alone t ri qi z)) ∙ h in
-          let is : entryRecords s w n fs nf i ≡ sortedRecords s d (e .group) (runs (fragmentsOf ws)) = records-alone t ri qi z ∙ rw (pi, same) in
-          rw (zero', x .1) (alone-records (sortedRecords s d (e .group) (runs (fragmentsOf ws))) ∙ sym is) }
+            let qi : OwnOf w n nf (i .parent) o = rw pi q in
+            let li = listed t ri qi in
+            let zero' : numberIn (i .group) gs ≡ 0 = omega arith in
+            let same : i .group ≡ e .group = sym (first-is (alone t ri qi z)) ∙ h in
+            let is : entryRecords s w n fs nf i ≡ sortedRecords s d (e .group) (runs (fragmentsOf ws)) = records-alone t ri qi z ∙ rw (pi, same) in
+            rw (zero', x .1) (alone-records (sortedRecords s d (e .group) (runs (fragmentsOf ws))) ∙ sym is);
+      }
 
   started-several : (o .groups ≡ 1 → ⊥) → Started s w n fs nf d o
   unfolding rowsOf
@@ -186,14 +193,15 @@ module _ {s w : List ℕ} {n : ℕ} {fs : List ℕ} {nf d : ℕ} {o : Own} (t : 
       let f = framing y wide some in
       let l = several-words y wide some in
       let u : unsortedFrames s d gs (fragmentsOf ws) ≡ ok (f .0) =
-          subst (λ (x : ℕ). unsortedFrames s x gs (fragmentsOf ws) ≡ ok (f .0)) p (f .1) in
+      subst (λ (x : ℕ). unsortedFrames s x gs (fragmentsOf ws) ≡ ok (f .0)) p (f .1) in
       let x = rows-start-several s d gs ws refl l (many t r own-at z) u in
       record {
         words = l;
         going = x .0;
         records = λ i ri pi.
-          let qi : OwnOf w n nf (i .parent) o = rw pi q in
-          rw (x .1) (sym (records-several t ri qi z refl ∙ rw (pi, u))) }
+            let qi : OwnOf w n nf (i .parent) o = rw pi q in
+            rw (x .1) (sym (records-several t ri qi z refl ∙ rw (pi, u)));
+      }
 
   pub started : Started s w n fs nf d o
   started = ⊎-elim started-alone started-several (one-or-not (o .groups))
@@ -206,7 +214,7 @@ module _ {s w : List ℕ} {n : ℕ} {fs : List ℕ} {nf d : ℕ} {o : Own} (t : 
 -- ---- the room of a column's blocks
 module _ (s : List ℕ) (size : ℕ) (w : List ℕ) (n : ℕ) (fs : List ℕ) (nf : ℕ) (cs m : List ℕ) where
   blocks-in : (j k i a e : ℕ) → Ordered a (dataFrom s size w n fs nf cs m k j) e → k ≤ i → i < k + j
-    → (b : ℕ) × Ordered b (entryBlocks s size w n fs nf (entryIn cs m i)) e
+      → (b : ℕ) × Ordered b (entryBlocks s size w n fs nf (entryIn cs m i)) e
   unfolding dataFrom
   blocks-in zero k i a e o h q = absurd (omega arith)
   blocks-in (suc j) k i a e o h q =
@@ -215,16 +223,16 @@ module _ (s : List ℕ) (size : ℕ) (w : List ℕ) (n : ℕ) (fs : List ℕ) (n
       let zs : List Block = dataFrom s size w n fs nf cs m (k + 1) j in
       let v : Ordered (endOf a xs) (ys ++ zs) e = ordered-back a xs (ys ++ zs) e o in
       ⊎-elim (λ y. blocks-in j (k + 1) i (endOf (endOf a xs) ys) e (ordered-back (endOf a xs) ys zs e v) (omega arith) (omega arith))
-        (λ y. let x : k ≡ i = omega arith in (a, rw x at (ordered-first a xs (ys ++ zs) e o)))
-        (lt-or-le k i)
+      (λ y. let x : k ≡ i = omega arith in (a, rw x at (ordered-first a xs (ys ++ zs) e o)))
+      (lt-or-le k i)
 
 some-payloads : (s : List ℕ) (size : ℕ) (e : Entry) (rs : List (List ℕ)) → (entryCount s size e ≡ 0 → ⊥)
-  → 0 < length (entryPayloads s size e rs)
+    → 0 < length (entryPayloads s size e rs)
 unfolding entryPayloads
 some-payloads s size e rs z = rw length-payloads (omega arith)
 
 region-ends : (s : List ℕ) (size : ℕ) (w : List ℕ) (n : ℕ) (fs : List ℕ) (nf : ℕ) (e : Entry) (b room : ℕ)
-  → (entryCount s size e ≡ 0 → ⊥) → Ordered b (entryBlocks s size w n fs nf e) room → e .first + length (entryRegion s size w n fs nf e) ≤ room
+    → (entryCount s size e ≡ 0 → ⊥) → Ordered b (entryBlocks s size w n fs nf e) room → e .first + length (entryRegion s size w n fs nf e) ≤ room
 unfolding entryBlocks regionOf
 region-ends s size w n fs nf e b room z o =
     let rs : List (List ℕ) = entryRecords s w n fs nf e in
@@ -253,7 +261,7 @@ module _ {s : List ℕ} {size : ℕ} {w : List ℕ} {n : ℕ} {fs : List ℕ} {n
   in-run k h = let v = r .within in omega arith
 
   column-ready : (k : ℕ) → k < number → (entryCount s size (entryIn cs m k) ≡ 0 → ⊥)
-    → ColumnReady s size (entryIn cs m k) (entryRecords s w n fs nf (entryIn cs m k)) room
+      → ColumnReady s size (entryIn cs m k) (entryRecords s w n fs nf (entryIn cs m k)) room
   column-ready k h z =
       let e : Entry = entryIn cs m k in
       let i = d .entries k h in
@@ -265,7 +273,8 @@ module _ {s : List ℕ} {size : ℕ} {w : List ℕ} {n : ℕ} {fs : List ℕ} {n
         some = x .1;
         many = i .counted (x .0) (x .1);
         long = i .long (x .0) (x .1);
-        ends = region-ends s size w n fs nf e (o .0) room z (o .1) }
+        ends = region-ends s size w n fs nf e (o .0) room z (o .1);
+      }
 
   -- some column has blocks
   module _ {any : Bool} (y : AnyBlocks s size cs m a b any) (yes : not any ≡ false) {e : Entry} (i : e ≡ entryIn cs m a) {o : Own}
@@ -294,7 +303,8 @@ module _ {s : List ℕ} {size : ℕ} {w : List ℕ} {n : ℕ} {fs : List ℕ} {n
         record {
           listed = listed (d .tables) (d .entries k (in-run k v)) p;
           ready = λ z. subst (λ (x : List (List ℕ)). ColumnReady s size (entryIn cs m k) x room) (sym (rows-are k u v))
-            (column-ready k (in-run k v) z) }
+              (column-ready k (in-run k v) z);
+        }
 
     run-few : length (ownGroups w o) ≤ 1536
     run-few =
@@ -305,7 +315,7 @@ module _ {s : List ℕ} {size : ℕ} {w : List ℕ} {n : ℕ} {fs : List ℕ} {n
         omega arith
 
     pub run-ready : {z : Sizes} → SizesOf s (ownGroups w o) z → z .parent ≡ e .parent
-      → GroupReady s size z (ownGroups w o) (ownWords fs o) cs m a b room
+        → GroupReady s size z (ownGroups w o) (ownWords fs o) cs m a b room
     run-ready {z} x p =
         record {
           sizes = x;
@@ -313,33 +323,39 @@ module _ {s : List ℕ} {size : ℕ} {w : List ℕ} {n : ℕ} {fs : List ℕ} {n
           words = run-started .words;
           going = rw p (run-started .going);
           columns = λ k u v. rw p (column-due k u v);
-          few = run-few }
+          few = run-few;
+        }
 
     whole-is : (k : ℕ) → a ≤ k → k < b
-      → wholeOf s size (ownGroups w o) (entryIn cs m k) all-rows ≡ entryRegion s size w n fs nf (entryIn cs m k)
+        → wholeOf s size (ownGroups w o) (entryIn cs m k) all-rows ≡ entryRegion s size w n fs nf (entryIn cs m k)
     unfolding wholeOf
     whole-is k u v = ap (regionOf s size (entryIn cs m k)) (rows-are k u v)
 
     pub run-filled : (z : ℕ) {out last : List ℕ} → z ≡ e .parent
-      → Filled s size (ownGroups w o) cs m a b (rowsFrom s z (ownGroups w o) (ownWords fs o) (nextOf (ownWords fs o) start)) out last
-      → RunFilled s size w n fs nf cs m a b number out last
+        → Filled s size (ownGroups w o) cs m a b (rowsFrom s z (ownGroups w o) (ownWords fs o) (nextOf (ownWords fs o) start)) out last
+        → RunFilled s size w n fs nf cs m a b number out last
     run-filled z {out} {last} p v =
         let v' : Filled s size (ownGroups w o) cs m a b all-rows out last = rw (← p) v in
         record {
           same = v' .same;
           right = λ f l h.
-            let t = v' .right f l (λ k x y. rw (whole-is k x y) (h k (in-run k y))) in
-            (t .0, λ k x y. rw (← whole-is k x y) (t .1 k x y)) }
+              let t = v' .right f l (λ k x y. rw (whole-is k x y) (h k (in-run k y))) in
+              (t .0, λ k x y. rw (← whole-is k x y) (t .1 k x y));
+        }
 
   -- none has
   pub run-empty : (out : List ℕ) {any : Bool} → AnyBlocks s size cs m a b any → not any ≡ true
-    → RunFilled s size w n fs nf cs m a b number out out
+      → RunFilled s size w n fs nf cs m a b number out out
   run-empty out {any} y e =
       record {
         same = refl;
-        right = λ f l h. (λ p x. x, λ k u v p x g.
-          let z = entry-none s size (entryIn cs m k) 0 (entryRecords s w n fs nf (entryIn cs m k)) (y .no (not-true any e) k u v) .1 in
-          absurd (omega arith)) }
+        right = λ f l h. (
+          λ p x. x,
+          λ k u v p x g.
+              let z = entry-none s size (entryIn cs m k) 0 (entryRecords s w n fs nf (entryIn cs m k)) (y .no (not-true any e) k u v) .1 in
+              absurd (omega arith),
+        );
+      }
 
 -- ---- run after run
 pub record Runs (s : List ℕ) (size : ℕ) (w : List ℕ) (n : ℕ) (fs : List ℕ) (nf : ℕ) (cs m : List ℕ) (number k : ℕ)
@@ -347,10 +363,10 @@ pub record Runs (s : List ℕ) (size : ℕ) (w : List ℕ) (n : ℕ) (fs : List 
   pub to : k ≤ number
   pub same : length out ≡ length out₀
   pub right : (f : List ℕ) → length f ≡ length out₀
-    → ((i : ℕ) → i < number → part (entryIn cs m i .first) (length (entryRegion s size w n fs nf (entryIn cs m i))) f
-        ≡ entryRegion s size w n fs nf (entryIn cs m i))
-    → Keeps f out₀ out × ((i : ℕ) → i < k
-        → Has f out (entryIn cs m i .first) (entryIn cs m i .first + length (entryRegion s size w n fs nf (entryIn cs m i))))
+      → ((i : ℕ) → i < number → part (entryIn cs m i .first) (length (entryRegion s size w n fs nf (entryIn cs m i))) f
+      ≡ entryRegion s size w n fs nf (entryIn cs m i))
+      → Keeps f out₀ out × ((i : ℕ) → i < k
+      → Has f out (entryIn cs m i .first) (entryIn cs m i .first + length (entryRegion s size w n fs nf (entryIn cs m i))))
 
 module _ {s : List ℕ} {size : ℕ} {w : List ℕ} {n : ℕ} {fs : List ℕ} {nf : ℕ} {cs m : List ℕ} {number : ℕ} where
   pub runs-begin : (out : List ℕ) → Runs s size w n fs nf cs m number 0 out out
@@ -358,26 +374,29 @@ module _ {s : List ℕ} {size : ℕ} {w : List ℕ} {n : ℕ} {fs : List ℕ} {n
 
   module _ {k : ℕ} {out₀ out : List ℕ} (t : Runs s size w n fs nf cs m number k out₀ out) where
     pub runs-next : {b : ℕ} {last : List ℕ} → Run cs m k number b → RunFilled s size w n fs nf cs m k b number out last
-      → Runs s size w n fs nf cs m number b out₀ last
+        → Runs s size w n fs nf cs m number b out₀ last
     runs-next {b} {last} r v =
         record {
           to = r .within;
           same = v .same ∙ t .same;
           right = λ f l h.
-            let x = t .right f l h in
-            let y = v .right f (l ∙ sym (t .same)) h in
-            (λ p q. y .0 p (x .0 p q),
-             λ i u. ⊎-elim (λ z p c e. y .0 p (x .1 i z p c e)) (λ z. y .1 i z u) (lt-or-le i k)) }
+              let x = t .right f l h in
+              let y = v .right f (l ∙ sym (t .same)) h in (
+                λ p q. y .0 p (x .0 p q),
+                λ i u. ⊎-elim (λ z p c e. y .0 p (x .1 i z p c e)) (λ z. y .1 i z u) (lt-or-le i k),
+              );
+        }
 
     pub runs-end : number ≤ k → DataFilled s size w n fs nf cs m number out₀ out
     runs-end h =
         record {
           same = t .same;
-          right = λ f l q. let x = t .right f l q in (x .0, λ i u. x .1 i (omega arith)) }
+          right = λ f l q. let x = t .right f l q in (x .0, λ i u. x .1 i (omega arith));
+        }
 
     pub runs-lent : {at room : ℕ} → DataReady s size w n fs nf cs m number at room → Lent cs m k number
     runs-lent d = record { order = t .to; columns = d .columns; places = d .places }
 
     pub runs-ready : {at : ℕ} → DataReady s size w n fs nf cs m number at (length out₀)
-      → DataReady s size w n fs nf cs m number at (length out)
+        → DataReady s size w n fs nf cs m number at (length out)
     runs-ready d = rw (t .same) d

@@ -46,7 +46,7 @@ decided-untimed image size ident text time = refl
 -- ---- refusals after the decision
 module _ (x : Args) (d : Decided) (e : decided x ≡ ok d) (out list : List ℕ) where
   opened : answer x (length out) (length list)
-    ≡ ifLt (length out) (d .laidOut .fileSize) (refused 20 (d .laidOut .fileSize))
+      ≡ ifLt (length out) (d .laidOut .fileSize) (refused 20 (d .laidOut .fileSize))
       (ifLt (length list) (length (omissionWords (d .planned .omissions))) (refused 21 (length (omissionWords (d .planned .omissions)))) (ok d))
   unfolding answer
   opened = rw e
@@ -58,18 +58,18 @@ module _ (x : Args) (d : Decided) (e : decided x ≡ ok d) (out list : List ℕ)
       record { is = λ work. rw (q, f) }
 
   pub short-list : {n k : ℕ} → n ≡ d .laidOut .fileSize → n ≤ length out → k ≡ length (omissionWords (d .planned .omissions)) → length list < k
-    → Finished x out list (Refused 21 k) out list
+      → Finished x out list (Refused 21 k) out list
   short-list {n} {k} f h g l =
       let h' : d .laidOut .fileSize ≤ length out = omega (arith, f, h) in
       let l' : length list < length (omissionWords (d .planned .omissions)) = omega (arith, g, l) in
       let q : answer x (length out) (length list) ≡ refused 21 (length (omissionWords (d .planned .omissions))) =
-            opened ∙ sym (lt-no _ _ _ _ h' (lt-yes _ _ _ _ l' refl)) in
+      opened ∙ sym (lt-no _ _ _ _ h' (lt-yes _ _ _ _ l' refl)) in
       record { is = λ work. rw (q, g) }
 
   pub all-done : {n k : ℕ} {r : counted.Report} {out' list' : List ℕ} → n ≡ d .laidOut .fileSize → n ≤ length out
-    → k ≡ length (omissionWords (d .planned .omissions)) → k ≤ length list → reportOf r ≡ report x d
-    → out' ≡ blit 0 (fileOf x (d .laidOut)) out → list' ≡ blit 0 (omissionWords (d .planned .omissions)) list
-    → Finished x out list (Done r) out' list'
+      → k ≡ length (omissionWords (d .planned .omissions)) → k ≤ length list → reportOf r ≡ report x d
+      → out' ≡ blit 0 (fileOf x (d .laidOut)) out → list' ≡ blit 0 (omissionWords (d .planned .omissions)) list
+      → Finished x out list (Done r) out' list'
   all-done {n} {k} {r} {out'} {list'} f h g l e' o m =
       let h' : d .laidOut .fileSize ≤ length out = omega (arith, f, h) in
       let l' : length (omissionWords (d .planned .omissions)) ≤ length list = omega (arith, g, l) in
@@ -111,8 +111,9 @@ module _ {x : Args} {items fragments columns omissions : ℕ} {n : Numbers} {v f
         fewItems = omega arith;
         fewColumns = omega arith;
         fewBlocks = λ j q.
-          let e : 0 + j ≡ j = omega arith in
-          rw (t .inColumns, ← e) (blocks-few (x .image) (x .blockSize) _ _ 0 (t .told .planned .columns) stand (k .fewBlocks) j (omega arith)) }
+            let e : 0 + j ≡ j = omega arith in
+            rw (t .inColumns, ← e) (blocks-few (x .image) (x .blockSize) _ _ 0 (t .told .planned .columns) stand (k .fewBlocks) j (omega arith));
+      }
 
   pub stands-omissions : omissions ≤ 1024
   stands-omissions = let k = known in let o = st .by .omissions in let h = k .fewOmissions in omega arith
@@ -138,7 +139,7 @@ module _ {x : Args} {items fragments columns omissions : ℕ} {n : Numbers} {v f
       rw (t .inColumns, t .omissions) (laid-listed (length (t .source .fragments)) (t .told .planned) (st .c) (k .fewOmissions) (omega arith))
 
   pub stands-report : {r : counted.Report} {metadata bytes : ℕ} → Reported (x .image) (x .blockSize) v w items columns metadata bytes r
-    → metadata ≡ st .by .told .laidOut .metadataEnd → bytes ≡ st .by .told .laidOut .fileSize → reportOf r ≡ report x (st .by .told)
+      → metadata ≡ st .by .told .laidOut .metadataEnd → bytes ≡ st .by .told .laidOut .fileSize → reportOf r ≡ report x (st .by .told)
   unfolding report
   stands-report {r} z e f =
       let t = st .by in
@@ -150,12 +151,12 @@ module _ {x : Args} {items fragments columns omissions : ℕ} {n : Numbers} {v f
       let g = k .steps .groups in
       let same = walked-same in
       let groups : r .«source_groups» ≡ sourceGroupsOf (x .image) (t .told .groups) =
-            z .sourceGroups ∙ rw (t .inSource, t .items, same) (groups-report (x .image) _ _ _
-              (read-groups (x .image) (t .source) (t .numbers) (t .walked) (t .counted) (st .a) (omega arith))) in
+      z .sourceGroups ∙ rw (t .inSource, t .items, same) (groups-report (x .image) _ _ _
+      (read-groups (x .image) (t .source) (t .numbers) (t .walked) (t .counted) (st .a) (omega arith))) in
       let times : sumOf (timeAt w) 0 columns ≡ timeColumns (t .told .planned .columns) =
-            rw (t .inColumns, t .columns) (times-report (x .image) (x .blockSize) _ _ 0 (t .told .planned .columns) stand) in
+      rw (t .inColumns, t .columns) (times-report (x .image) (x .blockSize) _ _ 0 (t .told .planned .columns) stand) in
       let blocks : sumOf (blocksAt (x .image) (x .blockSize) w) 0 columns ≡ blocksWritten (x .image) (x .blockSize) (t .told .planned .columns) =
-            rw (t .inColumns, t .columns) (blocks-report (x .image) (x .blockSize) _ _ 0 (t .told .planned .columns) stand) in
+      rw (t .inColumns, t .columns) (blocks-report (x .image) (x .blockSize) _ _ 0 (t .told .planned .columns) stand) in
       rw (groups, z .timeGroups, z .signalGroups, times, t .columns, z .sharedTimeGroups, z .dataBlocks, blocks, z .metadataSize, z .fileSize, e, f)
     where
       walked-same : st .by .told .groups ≡ srcGroups (dataGroups (st .by .source)) (st .by .numbers)
@@ -172,35 +173,42 @@ unfolding decided
 lent-fine-of x d e = then-fine (lentIn x) _ e .0
 
 pub decides-done : {x : Args} {a b c d : List ℕ} {r : Decision} {a' b' c' d' : List ℕ} {i f k o : ℕ} {n : Numbers}
-  → Decides x a b c d r a' b' c' d' → r ≡ done.Done i f k o n → DecidedIn x i f k o n a b c d a' b' c' d'
+    → Decides x a b c d r a' b' c' d' → r ≡ done.Done i f k o n → DecidedIn x i f k o n a b c d a' b' c' d'
 decides-done {x} {a} {b} {c} {d} {a' = a'} {b' = b'} {c' = c'} {d' = d'} h e = subst (λ r. Decides x a b c d r a' b' c' d') e h
 
 pub decides-refused : {x : Args} {a b c d : List ℕ} {r : Decision} {a' b' c' d' : List ℕ} {n p : ℕ}
-  → Decides x a b c d r a' b' c' d' → r ≡ done.Refused n p → RefusedIn x n p (four a b c d) (four a' b' c' d')
+    → Decides x a b c d r a' b' c' d' → r ≡ done.Refused n p → RefusedIn x n p (four a b c d) (four a' b' c' d')
 decides-refused {x} {a} {b} {c} {d} {a' = a'} {b' = b'} {c' = c'} {d' = d'} h e = subst (λ r. Decides x a b c d r a' b' c' d') e h
 
 pub stands-timed : {image : List ℕ} {size : ℕ} {ident text : List ℕ} (time : ℕ) {i f k o : ℕ} {n : Numbers} {a b c d a' b' c' d' : List ℕ}
-  → DecidedIn (untimed image size ident text) i f k o n a b c d a' b' c' d' → Stands (args image size ident text time) i f k o n a' b' c' d'
+    → DecidedIn (untimed image size ident text) i f k o n a b c d a' b' c' d' → Stands (args image size ident text time) i f k o n a' b' c' d'
 stands-timed {image} {size} {ident} {text} time {a = a} {b = b} {c = c} {d = d} t =
-    record { a = a; b = b; c = c; d = d; by = record {
-      told = t .told;
-      is = decided-untimed image size ident text time ∙ t .is;
-      source = t .source;
-      walked = t .walked;
-      numbers = t .numbers;
-      counted = t .counted;
-      items = t .items;
-      fragments = t .fragments;
-      columns = t .columns;
-      omissions = t .omissions;
-      numbered = t .numbered;
-      longA = t .longA;
-      longB = t .longB;
-      longC = t .longC;
-      longD = t .longD;
-      inSource = t .inSource;
-      inFragments = t .inFragments;
-      inColumns = t .inColumns } }
+    record {
+      a = a;
+      b = b;
+      c = c;
+      d = d;
+      by = record {
+        told = t .told;
+        is = decided-untimed image size ident text time ∙ t .is;
+        source = t .source;
+        walked = t .walked;
+        numbers = t .numbers;
+        counted = t .counted;
+        items = t .items;
+        fragments = t .fragments;
+        columns = t .columns;
+        omissions = t .omissions;
+        numbered = t .numbered;
+        longA = t .longA;
+        longB = t .longB;
+        longC = t .longC;
+        longD = t .longD;
+        inSource = t .inSource;
+        inFragments = t .inFragments;
+        inColumns = t .inColumns;
+      };
+    }
 
 refused-answer : (x : Args) (o l : ℕ) (v : Verdict) {n p : ℕ} → andThen v (λ _. decided x) ≡ refused n p → andThen v (λ _. answer x o l) ≡ refused n p
 unfolding answer
@@ -212,7 +220,7 @@ unfolding lentIn
 lent-untimed image size ident text time = refl
 
 pub refused-left : (image : List ℕ) (size : ℕ) (ident text : List ℕ) (time : ℕ) (out list : List ℕ) (ws ws' : List (List ℕ)) (n p : ℕ)
-  → RefusedIn (untimed image size ident text) n p ws ws' → left (Refused n p) out list ws' ≡ convert (args image size ident text time) out list ws
+    → RefusedIn (untimed image size ident text) n p ws ws' → left (Refused n p) out list ws' ≡ convert (args image size ident text time) out list ws
 unfolding convert
 refused-left image size ident text time out list ws ws' n p r =
     let e : andThen (workIn ws) (λ _. decided (args image size ident text time)) ≡ refused n p = rw (decided-untimed image size ident text time) (r .is) in
@@ -223,9 +231,9 @@ unfolding workIn
 work-fine a b c d h i j k = sym (lt-no _ _ _ _ h (lt-no _ _ _ _ i (lt-no _ _ _ _ j (lt-no _ _ _ _ k refl))))
 
 pub done-left : {i f k o : ℕ} {n : Numbers} {a b c d a' b' c' d' : List ℕ} (image : List ℕ) (size : ℕ) (ident text : List ℕ) (time : ℕ) (out list : List ℕ) (r : Converted) (out' list' a'' b'' c'' d'' : List ℕ)
-  → DecidedIn (untimed image size ident text) i f k o n a b c d a' b' c' d' → Finished (args image size ident text time) out list r out' list'
-  → a'' ≡ replicate (length a') 0 → b'' ≡ replicate (length b') 0 → c'' ≡ replicate (length c') 0 → d'' ≡ replicate (length d') 0
-  → left r out' list' (four a'' b'' c'' d'') ≡ convert (args image size ident text time) out list (four a b c d)
+    → DecidedIn (untimed image size ident text) i f k o n a b c d a' b' c' d' → Finished (args image size ident text time) out list r out' list'
+    → a'' ≡ replicate (length a') 0 → b'' ≡ replicate (length b') 0 → c'' ≡ replicate (length c') 0 → d'' ≡ replicate (length d') 0
+    → left r out' list' (four a'' b'' c'' d'') ≡ convert (args image size ident text time) out list (four a b c d)
 unfolding convert zeros laidPlan laidCopies laidItems
 done-left {a = a} {b = b} {c = c} {d = d} {a' = a'} {b' = b'} {c' = c'} {d' = d'} image size ident text time out list r out' list' a'' b'' c'' d'' t z p q u v =
     let la : length a' ≡ length a = ap length (t .inSource) ∙ rw (length-blit, length-blit, length-blit, length-blit) in
@@ -252,13 +260,14 @@ module _ {y : Args} {i f k o : ℕ} {n : Numbers} {a b c d a' b' c' d' : List �
 
 -- ---- demand 3
 pub promised-by : (x : Args) (out list : List ℕ) (ws : List (List ℕ)) {y : Outcome} → Bytes (x .image)
-  → y ≡ convert x out list ws → Promised x (length out) (length list) ws (y .output)
+    → y ≡ convert x out list ws → Promised x (length out) (length list) ws (y .output)
 unfolding convert
 promised-by x out list ws {y} b e = record {
-    accepted = λ d a.
+  accepted = λ d a.
       let f : y .output ≡ blit 0 (fileOf x (d .laidOut)) out = ap (λ (o : Outcome). o .output) e ∙ rw a in
       let g = then-fine (workIn ws) _ a in
-      rw f (guaranteed x out list d (b .all) (g .1)) }
+      rw f (guaranteed x out list d (b .all) (g .1));
+}
 
 -- an empty image has no other elements
 pub none-bytes : (s : List ℕ) → length s ≤ 0 → Bytes s

@@ -29,7 +29,7 @@ use Rattle.writing.specs.OwnLaws.{number-hit, number-next}
 
 -- ---- a part of what was laid
 pub laid-part : (i : ℕ) (xs ys zs l : List ℕ) → i + length (xs ++ (ys ++ zs)) ≤ length l
-  → part (i + length xs) (length ys) (blit i (xs ++ (ys ++ zs)) l) ≡ ys
+    → part (i + length xs) (length ys) (blit i (xs ++ (ys ++ zs)) l) ≡ ys
 laid-part i xs ys zs l h =
     let a : length (xs ++ (ys ++ zs)) ≡ length xs + (length ys + length zs) = length-append xs (ys ++ zs) ∙ rw (length-append ys zs) in
     rw (blit-append xs i (ys ++ zs) l, blit-append ys (i + length xs) zs (blit i xs l))
@@ -62,7 +62,8 @@ module _ (w : List ℕ) where
   words-rest k i is h =
       record {
         addresses = λ j l. let e : k + 1 + j ≡ k + suc j = omega arith in rw e (h .addresses (suc j) (omega arith));
-        marks = λ j l. let e : k + 1 + j ≡ k + suc j = omega arith in rw e (h .marks (suc j) (omega arith)) }
+        marks = λ j l. let e : k + 1 + j ≡ k + suc j = omega arith in rw e (h .marks (suc j) (omega arith));
+      }
 
   words-after : (k : ℕ) (xs ys : List Item) → Words w k (xs ++ ys) → Words w (k + length xs) ys
   words-after k [] ys h = rw (add-zero k) h
@@ -94,7 +95,7 @@ unfolding itemAddresses occurs
 dg-occurs x a c ys = refl
 
 occurs-split : (x a c : ℕ) (xs ys : List Item)
-  → occurs x (itemAddresses (xs ++ (dg a c ∷ ys))) ≡ occurs x (itemAddresses xs) + (same a x + occurs x (itemAddresses ys))
+    → occurs x (itemAddresses (xs ++ (dg a c ∷ ys))) ≡ occurs x (itemAddresses xs) + (same a x + occurs x (itemAddresses ys))
 occurs-split x a c xs ys = rw (addresses-append xs (dg a c ∷ ys), occurs-append x (itemAddresses xs) (itemAddresses (dg a c ∷ ys)), dg-occurs x a c ys)
 
 -- ---- the words of its groups
@@ -134,7 +135,7 @@ groups-occur x (cn a ∷ is) = omega (arith, groups-occur x is)
 
 -- ---- the words of fragments
 words-part : (b m : ℕ) (fs : List Fragment) (l : List ℕ) → b + m ≤ length fs → 3 * length fs ≤ length l
-  → part (3 * b) (3 * m) (blit 0 (fragmentWords fs) l) ≡ fragmentWords (part b m fs)
+    → part (3 * b) (3 * m) (blit 0 (fragmentWords fs) l) ≡ fragmentWords (part b m fs)
 unfolding part
 words-part b m fs l h k =
     let front : List Fragment = take b fs in
@@ -142,26 +143,27 @@ words-part b m fs l h k =
     let back : List Fragment = drop m (drop b fs) in
     let e : fs ≡ front ++ (mid ++ back) = sym (rw (take-append-drop m (drop b fs)) (take-append-drop b fs)) in
     let f : fragmentWords fs ≡ fragmentWords front ++ (fragmentWords mid ++ fragmentWords back) =
-        ap fragmentWords e ∙ words-append front (mid ++ back) ∙ rw (words-append mid back) in
+    ap fragmentWords e ∙ words-append front (mid ++ back) ∙ rw (words-append mid back) in
     let x : 3 * b ≡ 0 + length (fragmentWords front) =
-        let q = length-words front in let z = length-take-le b fs (omega arith) in omega arith in
+    let q = length-words front in let z = length-take-le b fs (omega arith) in omega arith in
     let y : 3 * m ≡ length (fragmentWords mid) =
-        let q = length-words mid in let z = length-take-le m (drop b fs) (rw length-drop (omega arith)) in omega arith in
+    let q = length-words mid in let z = length-take-le m (drop b fs) (rw length-drop (omega arith)) in omega arith in
     let room : 0 + length (fragmentWords front ++ (fragmentWords mid ++ fragmentWords back)) ≤ length l =
-        rw (← f) (let q = length-words fs in omega arith) in
+    rw (← f) (let q = length-words fs in omega arith) in
     rw (x, y, f) (laid-part 0 (fragmentWords front) (fragmentWords mid) (fragmentWords back) l room)
 
 -- cut to those that there are
 cut-same : {A : Type 0} (c u : ℕ) (fs gs : List A)
-  → part (min c (min u (length fs))) (min u (length fs) - min c (min u (length fs))) (fs ++ gs) ≡ part c (u - c) fs
+    → part (min c (min u (length fs))) (min u (length fs) - min c (min u (length fs))) (fs ++ gs) ≡ part c (u - c) fs
 unfolding part
 cut-same c u fs gs = ⊎-elim (λ h. far h) (λ h. near h) (lt-or-le (length fs) u)
   where
     inside : (b m : ℕ) → b + m ≤ length fs → take m (drop b (fs ++ gs)) ≡ take m (drop b fs)
     inside b m h =
         rw (drop-append-le b fs gs (omega arith)) (take-append-le m (drop b fs) gs (rw length-drop (omega arith)))
+
     near : u ≤ length fs
-      → take (min u (length fs) - min c (min u (length fs))) (drop (min c (min u (length fs))) (fs ++ gs)) ≡ take (u - c) (drop c fs)
+        → take (min u (length fs) - min c (min u (length fs))) (drop (min c (min u (length fs))) (fs ++ gs)) ≡ take (u - c) (drop c fs)
     near h = rw (min-eq-left h) (⊎-elim (λ k. behind k) (λ k. before k) (lt-or-le u c))
       where
         behind : u < c → take (u - min c u) (drop (min c u) (fs ++ gs)) ≡ take (u - c) (drop c fs)
@@ -170,10 +172,12 @@ cut-same c u fs gs = ⊎-elim (λ h. far h) (λ h. near h) (lt-or-le (length fs)
             let f : u - c ≡ 0 = omega arith in
             let q : u ≤ c = omega arith in
             rw (min-eq-right q, e, f)
+
         before : c ≤ u → take (u - min c u) (drop (min c u) (fs ++ gs)) ≡ take (u - c) (drop c fs)
         before k = rw (min-eq-left k) (inside c (u - c) (omega arith))
+
     far : length fs < u
-      → take (min u (length fs) - min c (min u (length fs))) (drop (min c (min u (length fs))) (fs ++ gs)) ≡ take (u - c) (drop c fs)
+        → take (min u (length fs) - min c (min u (length fs))) (drop (min c (min u (length fs))) (fs ++ gs)) ≡ take (u - c) (drop c fs)
     far h =
         let q : length fs ≤ u = omega arith in
         rw (min-eq-right q) (⊎-elim (λ k. behind k) (λ k. before k) (lt-or-le (length fs) c))
@@ -183,11 +187,12 @@ cut-same c u fs gs = ⊎-elim (λ h. far h) (λ h. near h) (lt-or-le (length fs)
             let e : length fs - length fs ≡ 0 = omega arith in
             let q : length fs ≤ c = omega arith in
             rw (min-eq-right q, e, drop-of-length-le fs q, take-nil)
+
         before : c ≤ length fs → take (length fs - min c (length fs)) (drop (min c (length fs)) (fs ++ gs)) ≡ take (u - c) (drop c fs)
         before k =
             let l = length-drop c fs in
             rw (min-eq-left k) (inside c (length fs - c) (omega arith) ∙ take-all (length fs - c) (drop c fs) (omega arith)
-              ∙ sym (take-all (u - c) (drop c fs) (omega arith)))
+            ∙ sym (take-all (u - c) (drop c fs) (omega arith)))
 
 -- ---- a DG found
 abbrev pub ownOf : ℕ → ℕ → List Item → List Item → Own
@@ -196,7 +201,8 @@ ownOf nf c xs ys =
       begin = min c (min (upTo nf ys) nf);
       end = min (upTo nf ys) nf;
       first = tally (levelCG .own) xs;
-      groups = length (groupsOf ys) }
+      groups = length (groupsOf ys);
+    }
 
 module _ (w : List ℕ) (n nf a c : ℕ) (xs ys : List Item) (long : n ≡ length (xs ++ (dg a c ∷ ys))) (few : n ≤ 1536)
     (h : Words w 0 (xs ++ (dg a c ∷ ys))) (once : occurs a (itemAddresses (xs ++ (dg a c ∷ ys))) ≤ 1) where
@@ -225,10 +231,10 @@ module _ (w : List ℕ) (n nf a c : ℕ) (xs ys : List Item) (long : n ≡ lengt
   before-tally =
       let i = item-count in
       let all : itemsFrom w 0 (length xs + 1 + length ys) ≡ xs ++ (dg a c ∷ ys) =
-          rw (← i, long) (items-back w 0 (xs ++ (dg a c ∷ ys)) h) in
+      rw (← i, long) (items-back w 0 (xs ++ (dg a c ∷ ys)) h) in
       let e : 0 + (length xs + 1) ≡ length xs + 1 = omega arith in
       let f : itemsFrom w 0 (length xs + 1 + length ys) ≡ itemsFrom w 0 (length xs + 1) ++ ys =
-          items-append w 0 (length xs + 1) (length ys) ∙ rw (e, rest-items) in
+      items-append w 0 (length xs + 1) (length ys) ∙ rw (e, rest-items) in
       let g = ap (tally (levelCG .own)) (sym f ∙ all) in
       let p = tally-append (itemsFrom w 0 (length xs + 1)) ys in
       let q = tally-append xs (dg a c ∷ ys) in
@@ -246,19 +252,19 @@ module _ (w : List ℕ) (n nf a c : ℕ) (xs ys : List Item) (long : n ≡ lengt
 
 -- its groups, in the words that reading leaves
 pub groups-found : (nf a c : ℕ) (xs ys : List Item) (ns l : List ℕ) → tally (levelCG .own) (xs ++ (dg a c ∷ ys)) ≤ 512 → 4096 ≤ length l
-  → ownGroups (blit countsAt ns (laidItems (xs ++ (dg a c ∷ ys)) l)) (ownOf nf c xs ys) ≡ addresses (groupsOf ys)
+    → ownGroups (blit countsAt ns (laidItems (xs ++ (dg a c ∷ ys)) l)) (ownOf nf c xs ys) ≡ addresses (groupsOf ys)
 unfolding ownGroups laidItems
 groups-found nf a c xs ys ns l few long =
     let r = groups-first ys in
     let gs : List ℕ = addresses (groupsOf ys) in
     let e : groupWords (xs ++ (dg a c ∷ ys)) ≡ groupWords xs ++ (gs ++ r .0) =
-        groups-append xs (dg a c ∷ ys) ∙ rw (groups-dg a c ys, r .1) in
+    groups-append xs (dg a c ∷ ys) ∙ rw (groups-dg a c ys, r .1) in
     let t : tally (levelCG .own) xs ≡ length (groupWords xs) = sym (length-groups xs) in
     let g : 3072 + tally (levelCG .own) xs + length (groupsOf ys) - (3072 + tally (levelCG .own) xs) ≡ length gs =
-        let q = addresses-length (groupsOf ys) in omega arith in
+    let q = addresses-length (groupsOf ys) in omega arith in
     let all = length-groups (xs ++ (dg a c ∷ ys)) in
     let al : length (groupWords xs) + (length gs + length (r .0)) ≡ length (groupWords (xs ++ (dg a c ∷ ys))) =
-        sym (ap length e ∙ length-append (groupWords xs) (gs ++ r .0) ∙ rw (length-append gs (r .0))) in
+    sym (ap length e ∙ length-append (groupWords xs) (gs ++ r .0) ∙ rw (length-append gs (r .0))) in
     let room : 3072 + length (groupWords xs ++ (gs ++ r .0)) ≤ 4096 = rw (← e) (omega arith) in
     rw g
     (part-blit-before ns 3584 (3072 + tally (levelCG .own) xs) (length gs) _ (omega arith)
@@ -266,7 +272,7 @@ groups-found nf a c xs ys ns l few long =
 
 -- its fragments, in words with all of them and others after them
 pub fragments-found : (c : ℕ) (xs ys : List Item) (fs gs : List Fragment) (l : List ℕ) → 3 * length (fs ++ gs) ≤ length l
-  → fragmentsOf (ownWords (blit 0 (fragmentWords (fs ++ gs)) l) (ownOf (length fs) c xs ys)) ≡ part c (upTo (length fs) ys - c) fs
+    → fragmentsOf (ownWords (blit 0 (fragmentWords (fs ++ gs)) l) (ownOf (length fs) c xs ys)) ≡ part c (upTo (length fs) ys - c) fs
 unfolding ownWords
 fragments-found c xs ys fs gs l h =
     let e : ℕ = min (upTo (length fs) ys) (length fs) in
@@ -294,22 +300,37 @@ dg-found fs (dg a n ∷ is) d here = record { before = []; count = n; past = is;
 dg-found fs (dg a n ∷ is) d (there i) =
     let r = dg-found fs is d i in
     record {
-      before = dg a n ∷ r .before; count = r .count; past = r .past; all = ap (λ (l : List Item). dg a n ∷ l) (r .all);
-      fragments = r .fragments; groups = r .groups }
+      before = dg a n ∷ r .before;
+      count = r .count;
+      past = r .past;
+      all = ap (λ (l : List Item). dg a n ∷ l) (r .all);
+      fragments = r .fragments;
+      groups = r .groups;
+    }
 dg-found fs (cg a ∷ is) d i =
     let r = dg-found fs is d i in
     record {
-      before = cg a ∷ r .before; count = r .count; past = r .past; all = ap (λ (l : List Item). cg a ∷ l) (r .all);
-      fragments = r .fragments; groups = r .groups }
+      before = cg a ∷ r .before;
+      count = r .count;
+      past = r .past;
+      all = ap (λ (l : List Item). cg a ∷ l) (r .all);
+      fragments = r .fragments;
+      groups = r .groups;
+    }
 dg-found fs (cn a ∷ is) d i =
     let r = dg-found fs is d i in
     record {
-      before = cn a ∷ r .before; count = r .count; past = r .past; all = ap (λ (l : List Item). cn a ∷ l) (r .all);
-      fragments = r .fragments; groups = r .groups }
+      before = cn a ∷ r .before;
+      count = r .count;
+      past = r .past;
+      all = ap (λ (l : List Item). cn a ∷ l) (r .all);
+      fragments = r .fragments;
+      groups = r .groups;
+    }
 
 -- the groups of a DG stand at different addresses
 pub groups-once : (x a c : ℕ) (xs ys : List Item) → occurs x (itemAddresses (xs ++ (dg a c ∷ ys))) ≤ 1
-  → occurs x (addresses (groupsOf ys)) ≤ 1
+    → occurs x (addresses (groupsOf ys)) ≤ 1
 groups-once x a c xs ys h = omega (arith, h, occurs-split x a c xs ys, groups-occur x ys)
 
 -- what stands at an index occurs

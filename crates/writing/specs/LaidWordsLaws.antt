@@ -41,15 +41,15 @@ cons-tail e = ap (λ (l : List ℕ). drop 1 l) e
 
 -- copies whose words stand from p on
 copies-of : (cs : List Copy) (w : List ℕ) (p : ℕ) → p + 2 * length cs ≤ length w → part p (2 * length cs) w ≡ copyWords cs
-  → copiesFrom w p (length cs) ≡ cs
+    → copiesFrom w p (length cs) ≡ cs
 unfolding copiesFrom copyWords
 copies-of [] w p h e = refl
 copies-of (c ∷ cs) w p h e =
     let n : ℕ = 2 * length cs in
     let z : 2 * suc (length cs) ≡ suc (suc n) = omega arith in
     let two : part p (2 * suc (length cs)) w ≡ getD w p 0 ∷ getD w (p + 1) 0 ∷ part (p + 2) n w =
-        rw z (part-cons w p (p + 1) (suc n) refl (omega arith)
-          ∙ ap (λ (l : List ℕ). getD w p 0 ∷ l) (part-cons w (p + 1) (p + 2) n (omega arith) (omega arith))) in
+    rw z (part-cons w p (p + 1) (suc n) refl (omega arith)
+    ∙ ap (λ (l : List ℕ). getD w p 0 ∷ l) (part-cons w (p + 1) (p + 2) n (omega arith) (omega arith))) in
     let q : getD w p 0 ∷ getD w (p + 1) 0 ∷ part (p + 2) n w ≡ c .from ∷ c .to ∷ copyWords cs = sym two ∙ e in
     let a : getD w p 0 ≡ c .from = cons-head _ _ q in
     let b : getD w (p + 1) 0 ≡ c .to = cons-head _ _ (cons-tail q) in
@@ -58,16 +58,16 @@ copies-of (c ∷ cs) w p h e =
 
 -- attachments whose words stand from p on, with their copies from number k on
 attachments-of : (ts : List Attachment) (w : List ℕ) (p k : ℕ) → p + 3 * length ts ≤ length w → part p (3 * length ts) w ≡ attachmentWords ts
-  → copiesFrom w (2 * k) (length (ownCopies ts)) ≡ ownCopies ts → attachmentsFrom w p k (length ts) ≡ ts
+    → copiesFrom w (2 * k) (length (ownCopies ts)) ≡ ownCopies ts → attachmentsFrom w p k (length ts) ≡ ts
 unfolding attachmentsFrom attachmentWords ownCopies
 attachments-of [] w p k h e o = refl
 attachments-of (t ∷ ts) w p k h e o =
     let n : ℕ = 3 * length ts in
     let z : 3 * suc (length ts) ≡ suc (suc (suc n)) = omega arith in
     let three : part p (3 * suc (length ts)) w ≡ getD w p 0 ∷ getD w (p + 1) 0 ∷ getD w (p + 2) 0 ∷ part (p + 3) n w =
-        rw z (part-cons w p (p + 1) (suc (suc n)) refl (omega arith)
-          ∙ ap (λ (l : List ℕ). getD w p 0 ∷ l) (part-cons w (p + 1) (p + 2) (suc n) (omega arith) (omega arith))
-          ∙ ap (λ (l : List ℕ). getD w p 0 ∷ getD w (p + 1) 0 ∷ l) (part-cons w (p + 2) (p + 3) n (omega arith) (omega arith))) in
+    rw z (part-cons w p (p + 1) (suc (suc n)) refl (omega arith)
+    ∙ ap (λ (l : List ℕ). getD w p 0 ∷ l) (part-cons w (p + 1) (p + 2) (suc n) (omega arith) (omega arith))
+    ∙ ap (λ (l : List ℕ). getD w p 0 ∷ getD w (p + 1) 0 ∷ l) (part-cons w (p + 2) (p + 3) n (omega arith) (omega arith))) in
     let q : getD w p 0 ∷ getD w (p + 1) 0 ∷ getD w (p + 2) 0 ∷ part (p + 3) n w ≡ t .from ∷ t .to ∷ length (t .own) ∷ attachmentWords ts = sym three ∙ e in
     let a : getD w p 0 ≡ t .from = cons-head _ _ q in
     let b : getD w (p + 1) 0 ≡ t .to = cons-head _ _ (cons-tail q) in
@@ -75,12 +75,12 @@ attachments-of (t ∷ ts) w p k h e o =
     let r : part (p + 3) n w ≡ attachmentWords ts = cons-tail (cons-tail (cons-tail q)) in
     let m : ℕ = length (ownCopies ts) in
     let all : copiesFrom w (2 * k) (length (t .own) + m) ≡ t .own ++ ownCopies ts =
-        sym (ap (copiesFrom w (2 * k)) (length-append (t .own) (ownCopies ts))) ∙ o in
+    sym (ap (copiesFrom w (2 * k)) (length-append (t .own) (ownCopies ts))) ∙ o in
     let own : copiesFrom w (2 * k) (length (t .own)) ≡ t .own =
-        sym (copies-take w (2 * k) (length (t .own)) m) ∙ ap (take (length (t .own))) all ∙ take-append-seam (t .own) (ownCopies ts) in
+    sym (copies-take w (2 * k) (length (t .own)) m) ∙ ap (take (length (t .own))) all ∙ take-append-seam (t .own) (ownCopies ts) in
     let y : 2 * (k + length (t .own)) ≡ 2 * k + 2 * length (t .own) = omega arith in
     let rest : copiesFrom w (2 * (k + length (t .own))) m ≡ ownCopies ts =
-        rw y (sym (copies-drop w (2 * k) (length (t .own)) m) ∙ ap (drop (length (t .own))) all ∙ drop-append-seam (t .own) (ownCopies ts)) in
+    rw y (sym (copies-drop w (2 * k) (length (t .own)) m) ∙ ap (drop (length (t .own))) all ∙ drop-append-seam (t .own) (ownCopies ts)) in
     rw (a, b, c, own, attachments-of ts w (p + 3) (k + length (t .own)) (omega arith) r rest)
 
 -- ---- the history chain has at most as many blocks as turns
@@ -91,16 +91,16 @@ history-few zero s a h h' e =
     omega arith
 history-few (suc turns) s a h h' e =
     let same : ok h ≡ ok h' → length (h' .chain) ≤ length (h .chain) + suc turns = λ q.
-        let z : length (h .chain) ≡ length (h' .chain) = ap (λ (x : History). length (x .chain)) (ok-same q) in
-        omega arith in
+    let z : length (h .chain) ≡ length (h' .chain) = ap (λ (x : History). length (x .chain)) (ok-same q) in
+    omega arith in
     by-eq a 0 _ _ e same (λ q. by-pick (isIn a (h .chain)) _ _ q same (λ r.
-      let w = then-ok (wholeAt s a) _ r in
-      by-pick (isCopied (kindAt s a)) _ _ (w .2) (λ t.
-        let k = eq-back (linksAt s a) 0 _ _ t refused≢ok in
-        let m = then-ok (copyRoot s a (h .made)) _ k in
-        let i = history-few turns s (firstLink s a) _ h' (m .2) in
-        omega (arith, simp length-append at i))
-        same))
+    let w = then-ok (wholeAt s a) _ r in
+    by-pick (isCopied (kindAt s a)) _ _ (w .2) (λ t.
+    let k = eq-back (linksAt s a) 0 _ _ t refused≢ok in
+    let m = then-ok (copyRoot s a (h .made)) _ k in
+    let i = history-few turns s (firstLink s a) _ h' (m .2) in
+    omega (arith, simp length-append at i))
+    same))
 
 chain-few : (s : List ℕ) (a : ℕ) (m : Copies) (h : History) → historyOf s a m ≡ ok h → length (h .chain) ≤ 2049
 unfolding historyOf
@@ -130,22 +130,22 @@ module _ {s : List ℕ} {size n : ℕ} {cs : List Column} {l : Layout} (o : Laid
         let k : length (copyWords m) ≡ 2 * length m = length-copyWords m in
         let few = few-in-all o in
         let r : part 0 (length (copyWords m)) w' ≡ copyWords m =
-            ap (part 0 (length (copyWords m))) e
-            ∙ part-blit-before (placedWords (l .placed)) placedAt 0 _ (blit historyAt (l .past .chain) second) (omega arith)
-            ∙ part-blit-before (l .past .chain) historyAt 0 _ second (omega arith)
-            ∙ part-blit-before (attachmentWords (l .attached .attachments)) attachmentsAt 0 _ first (omega arith)
-            ∙ part-blit 0 (copyWords m) w (omega arith) in
+        ap (part 0 (length (copyWords m))) e
+        ∙ part-blit-before (placedWords (l .placed)) placedAt 0 _ (blit historyAt (l .past .chain) second) (omega arith)
+        ∙ part-blit-before (l .past .chain) historyAt 0 _ second (omega arith)
+        ∙ part-blit-before (attachmentWords (l .attached .attachments)) attachmentsAt 0 _ first (omega arith)
+        ∙ part-blit 0 (copyWords m) w (omega arith) in
         let x : length w' ≡ length w =
-            ap length e ∙ length-blit placedAt (placedWords (l .placed)) (blit historyAt (l .past .chain) second)
-            ∙ length-blit historyAt (l .past .chain) second ∙ length-blit attachmentsAt (attachmentWords (l .attached .attachments)) first
-            ∙ length-blit 0 (copyWords m) w in
+        ap length e ∙ length-blit placedAt (placedWords (l .placed)) (blit historyAt (l .past .chain) second)
+        ∙ length-blit historyAt (l .past .chain) second ∙ length-blit attachmentsAt (attachmentWords (l .attached .attachments)) first
+        ∙ length-blit 0 (copyWords m) w in
         copies-of m w' 0 (omega arith) (rw k at r)
 
     pub chain-read : part historyAt (length (l .past .chain)) w' ≡ l .past .chain
     unfolding laidCopies first second
     chain-read =
         let x : length second ≡ length w =
-            length-blit attachmentsAt (attachmentWords (l .attached .attachments)) first ∙ length-blit 0 (copyWords (l .attached .made .memo)) w in
+        length-blit attachmentsAt (attachmentWords (l .attached .attachments)) first ∙ length-blit 0 (copyWords (l .attached .made .memo)) w in
         ap (part historyAt (length (l .past .chain))) e
         ∙ part-blit-before (placedWords (l .placed)) placedAt historyAt _ (blit historyAt (l .past .chain) second) (omega (arith, few-history))
         ∙ part-blit historyAt (l .past .chain) second (omega (arith, few-history))
@@ -157,7 +157,7 @@ module _ {s : List ℕ} {size n : ℕ} {cs : List Column} {l : Layout} (o : Laid
         let m : List Copy = l .metadata .memo in
         let own : List Copy = ownCopies (l .attached .attachments) in
         let c : copiesFrom w' 0 (length m + length own) ≡ m ++ own =
-            ap (copiesFrom w' 0) (sym (ap length (t .memo) ∙ length-append m own)) ∙ copies-read ∙ t .memo in
+        ap (copiesFrom w' 0) (sym (ap length (t .memo) ∙ length-append m own)) ∙ copies-read ∙ t .memo in
         let y : 0 + 2 * length m ≡ 2 * length m = omega arith in
         sym (ap (λ (p : ℕ). copiesFrom w' p (length own)) y) ∙ sym (copies-drop w' 0 (length m) (length own))
         ∙ ap (drop (length m)) c ∙ drop-append-seam m own
@@ -170,13 +170,13 @@ module _ {s : List ℕ} {size n : ℕ} {cs : List Column} {l : Layout} (o : Laid
         let k : length (attachmentWords ts) ≡ 3 * length ts = length-words ts in
         let x : length first ≡ length w = length-blit 0 (copyWords (l .attached .made .memo)) w in
         let x' : length w' ≡ length w =
-            ap length e ∙ length-blit placedAt (placedWords (l .placed)) (blit historyAt (l .past .chain) second)
-            ∙ length-blit historyAt (l .past .chain) second ∙ length-blit attachmentsAt (attachmentWords (l .attached .attachments)) first ∙ x in
+        ap length e ∙ length-blit placedAt (placedWords (l .placed)) (blit historyAt (l .past .chain) second)
+        ∙ length-blit historyAt (l .past .chain) second ∙ length-blit attachmentsAt (attachmentWords (l .attached .attachments)) first ∙ x in
         let r : part attachmentsAt (length (attachmentWords ts)) w' ≡ attachmentWords ts =
-            ap (part attachmentsAt (length (attachmentWords ts))) e
-            ∙ part-blit-before (placedWords (l .placed)) placedAt attachmentsAt _ (blit historyAt (l .past .chain) second) (omega arith)
-            ∙ part-blit-before (l .past .chain) historyAt attachmentsAt _ second (omega arith)
-            ∙ part-blit attachmentsAt (attachmentWords ts) first (omega arith) in
+        ap (part attachmentsAt (length (attachmentWords ts))) e
+        ∙ part-blit-before (placedWords (l .placed)) placedAt attachmentsAt _ (blit historyAt (l .past .chain) second) (omega arith)
+        ∙ part-blit-before (l .past .chain) historyAt attachmentsAt _ second (omega arith)
+        ∙ part-blit attachmentsAt (attachmentWords ts) first (omega arith) in
         attachments-of ts w' attachmentsAt (length (l .metadata .memo)) (omega arith) (rw k at r) own-read
 
     -- those of the history chain and its HD comment stand first, then those of the columns
@@ -187,8 +187,8 @@ module _ {s : List ℕ} {size n : ℕ} {cs : List Column} {l : Layout} (o : Laid
         let g = columns-after-history o in
         let m : List Copy = l .past .made .memo in
         let all : l .attached .made .memo ≡ m ++ (g .new ++ ownCopies (l .attached .attachments)) =
-            t .memo ∙ ap (λ (x : List Copy). x ++ ownCopies (l .attached .attachments)) (g .memo)
-            ∙ append-assoc m (g .new) (ownCopies (l .attached .attachments)) in
+        t .memo ∙ ap (λ (x : List Copy). x ++ ownCopies (l .attached .attachments)) (g .memo)
+        ∙ append-assoc m (g .new) (ownCopies (l .attached .attachments)) in
         ap (take (length m)) (copies-read ∙ all) ∙ take-append-seam m (g .new ++ ownCopies (l .attached .attachments))
 
     pub columns-copies : part (length (l .past .made .memo)) (length (l .metadata .memo) - length (l .past .made .memo))
@@ -221,15 +221,19 @@ pub record Numbers (l : Layout) (used past metadata chain count : ℕ) : Type 0 
   pub moved : count ≡ length (l .attached .attachments)
 
 module _ {s : List ℕ} {size n : ℕ} {cs : List Column} {l : Layout} (o : LaidOut s size n cs l) {used past metadata chain count : ℕ}
-  (c : Numbers l used past metadata chain count) where
+    (c : Numbers l used past metadata chain count) where
   pub copies-order : (past ≤ metadata) × (metadata ≤ used) × (used ≤ 2048) × (chain ≤ 2049) × (count ≤ 64)
   copies-order =
       let t = attachments-laid o in
       let g = columns-after-history o in
       let x = ap length (g .memo) ∙ length-append (l .past .made .memo) (g .new) in
-      let y = ap length (t .memo) ∙ length-append (l .metadata .memo) (ownCopies (l .attached .attachments)) in
-      (omega (arith, c .first, c .next, x), omega (arith, c .next, c .all, y), omega (arith, c .all, few-in-all o), omega (arith, c .blocks, few-history o),
-        omega (arith, c .moved, t .most))
+      let y = ap length (t .memo) ∙ length-append (l .metadata .memo) (ownCopies (l .attached .attachments)) in (
+        omega (arith, c .first, c .next, x),
+        omega (arith, c .next, c .all, y),
+        omega (arith, c .all, few-in-all o),
+        omega (arith, c .blocks, few-history o),
+        omega (arith, c .moved, t .most),
+      )
 
   module _ (w w' : List ℕ) (long : 8192 ≤ length w) (e : w' ≡ laidCopies l w) where
     chain-is : part historyAt chain w' ≡ l .past .chain
@@ -273,13 +277,13 @@ module _ {s : List ℕ} {size n : ℕ} {cs : List Column} {l : Layout} (o : Laid
     -- the blocks are those of the result
     module _ (fh : ℕ) where
       pub history-blocks : copiedBlocks s (part historyAt chain w') (copiesIn w' used) fh (part 0 (past - 0) (copiesIn w' used))
-        ≡ copiedBlocks s (l .past .chain) (memoOf l) fh (l .past .made .memo)
+          ≡ copiedBlocks s (l .past .chain) (memoOf l) fh (l .past .made .memo)
       history-blocks = rw (first-is, chain-is, all-is)
 
       pub columns-blocks : copiedBlocks s (part historyAt chain w') (copiesIn w' used) fh (part past (metadata - past) (copiesIn w' used))
-        ≡ copiedBlocks s (l .past .chain) (memoOf l) fh (drop (length (l .past .made .memo)) (l .metadata .memo))
+          ≡ copiedBlocks s (l .past .chain) (memoOf l) fh (drop (length (l .past .made .memo)) (l .metadata .memo))
       columns-blocks = rw (next-is, chain-is, all-is)
 
       pub attachments-blocks : attachmentBlocks s (part historyAt chain w') (copiesIn w' used) fh (attachmentsIn w' metadata count)
-        ≡ attachmentBlocks s (l .past .chain) (memoOf l) fh (l .attached .attachments)
+          ≡ attachmentBlocks s (l .past .chain) (memoOf l) fh (l .attached .attachments)
       attachments-blocks = rw (moved-is, chain-is, all-is)

@@ -43,14 +43,15 @@ module _ {l₀ w : List ℕ} {at i n k : ℕ} {l : List ℕ} (p : Putting l₀ w
         most = omega arith;
         same = length-set l (at + k) (getD w (i + 2 * k) 0) ∙ p .same;
         is = sym (rw (every-more w i k) (blit-append (everyOther w i k) at (getD w (i + 2 * k) 0 ∷ []) l₀
-          ∙ rw (length-every w i k, ← (p .is)) (blit-one (at + k) (getD w (i + 2 * k) 0) l))) }
+            ∙ rw (length-every w i k, ← (p .is)) (blit-one (at + k) (getD w (i + 2 * k) 0) l)));
+      }
 
   pub putting-all : n ≤ k → l ≡ blit at (everyOther w i n) l₀
   putting-all h = let m = p .most in let e : k ≡ n = omega arith in rw (← e) (p .is)
 
 -- the number, the addresses, the reasons
 pub list-put : (w : List ℕ) (n : ℕ) (l a b c : List ℕ) → a ≡ set l 0 n → b ≡ blit 1 (everyOther w 4096 n) a → c ≡ blit (1 + n) (everyOther w 4097 n) b
-  → c ≡ blit 0 (listed w n) l
+    → c ≡ blit 0 (listed w n) l
 unfolding listed blit
 list-put w n l a b c e f g =
     g ∙ ap (blit (1 + n) (everyOther w 4097 n)) (f ∙ ap (blit 1 (everyOther w 4096 n)) e)
@@ -68,7 +69,7 @@ list-same at n i x xs ys l b c e f = rw f (length-blit i ys b ∙ list-length at
 
 -- ---- omissions that stand in words
 addresses-there : (w : List ℕ) (i : ℕ) (os : List Omission) → ((j : ℕ) → j < 2 * length os → getD w (i + j) 0 ≡ getD (omissionPairs os) j 0)
-  → everyOther w i (length os) ≡ omissionAddresses os
+    → everyOther w i (length os) ≡ omissionAddresses os
 unfolding everyOther omissionPairs omissionAddresses
 addresses-there w i [] h = refl
 addresses-there w i (o ∷ os) h =
@@ -77,7 +78,7 @@ addresses-there w i (o ∷ os) h =
     rw (a, r)
 
 reasons-there : (w : List ℕ) (i : ℕ) (os : List Omission) → ((j : ℕ) → j < 2 * length os → getD w (i + j) 0 ≡ getD (omissionPairs os) j 0)
-  → everyOther w (i + 1) (length os) ≡ omissionReasons os
+    → everyOther w (i + 1) (length os) ≡ omissionReasons os
 unfolding everyOther omissionPairs omissionReasons
 reasons-there w i [] h = refl
 reasons-there w i (o ∷ os) h =
@@ -93,12 +94,12 @@ length-pairs (o ∷ os) = let e = length-pairs os in omega arith
 
 -- the list of a plan that was laid over words
 pub laid-listed : (nf : ℕ) (p : Plan) (w : List ℕ) → length (p .omissions) ≤ 1024 → 6144 ≤ length w
-  → listed (laidPlan nf p w) (length (p .omissions)) ≡ omissionWords (p .omissions)
+    → listed (laidPlan nf p w) (length (p .omissions)) ≡ omissionWords (p .omissions)
 unfolding listed laidPlan omissionWords
 laid-listed nf p w few long =
     let n = length-pairs (p .omissions) in
     let v = length-blit 0 (columnsWords nf (p .columns)) w in
     let there : (j : ℕ) → j < 2 * length (p .omissions)
-          → getD (blit 4096 (omissionPairs (p .omissions)) (blit 0 (columnsWords nf (p .columns)) w)) (4096 + j) 0 ≡ getD (omissionPairs (p .omissions)) j 0
-        = λ j h. blit-among (omissionPairs (p .omissions)) 4096 j (blit 0 (columnsWords nf (p .columns)) w) (omega arith) (omega arith) in
+    → getD (blit 4096 (omissionPairs (p .omissions)) (blit 0 (columnsWords nf (p .columns)) w)) (4096 + j) 0 ≡ getD (omissionPairs (p .omissions)) j 0
+    = λ j h. blit-among (omissionPairs (p .omissions)) 4096 j (blit 0 (columnsWords nf (p .columns)) w) (omega arith) (omega arith) in
     rw (addresses-there _ 4096 (p .omissions) there, reasons-there _ 4096 (p .omissions) there)

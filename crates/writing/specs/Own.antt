@@ -18,7 +18,8 @@ ownPast w n nf i =
       begin = min (getD w (1535 + i) 0 - 2) (min (upTo nf (itemsFrom w i (min n 1536 - i))) nf);
       end = min (upTo nf (itemsFrom w i (min n 1536 - i))) nf;
       first = tally (levelCG .own) (itemsFrom w 0 (min i (min n 1536)));
-      groups = length (groupsOf (itemsFrom w i (min n 1536 - i))) }
+      groups = length (groupsOf (itemsFrom w i (min n 1536 - i)));
+    }
 
 -- of the DG at d
 unfoldable pub ownIn : List ℕ → ℕ → ℕ → ℕ → Own

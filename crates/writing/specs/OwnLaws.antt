@@ -60,9 +60,9 @@ past-few w n d e =
 
 -- ---- found
 pub own-is : (w : List ℕ) (n nf d : ℕ) {i u e m t b f g : ℕ} → i ≡ pastDG d 0 (itemsFrom w 0 (min n 1536))
-  → u ≡ upTo nf (itemsFrom w i (min n 1536 - i)) → e ≡ min u nf → m ≡ getD w (1535 + i) 0 → t ≡ m - 2 → b ≡ min t e
-  → f ≡ tally (levelCG .own) (itemsFrom w 0 (min i (min n 1536))) → g ≡ length (groupsOf (itemsFrom w i (min n 1536 - i)))
-  → OwnOf w n nf d (record { begin = b; end = e; first = f; groups = g })
+    → u ≡ upTo nf (itemsFrom w i (min n 1536 - i)) → e ≡ min u nf → m ≡ getD w (1535 + i) 0 → t ≡ m - 2 → b ≡ min t e
+    → f ≡ tally (levelCG .own) (itemsFrom w 0 (min i (min n 1536))) → g ≡ length (groupsOf (itemsFrom w i (min n 1536 - i)))
+    → OwnOf w n nf d (record { begin = b; end = e; first = f; groups = g })
 unfolding ownIn ownPast
 own-is w n nf d {i} {u} {e} {m} {t} {b} {f} {g} p q x y z v k l =
     let a = min-le-right n 1536 in
@@ -80,7 +80,8 @@ own-is w n nf d {i} {u} {e} {m} {t} {b} {f} {g} p q x y z v k l =
       ordered = be;
       within = en;
       before = omega arith;
-      few = omega arith }
+      few = omega arith;
+    }
 
 -- ---- the number of a group
 pub record Numbering (gs : List ℕ) (g i : ℕ) : Type 0 where

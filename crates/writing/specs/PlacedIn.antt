@@ -25,21 +25,27 @@ signalIn (suc n) = signalData []
 -- the column whose words begin at i: of its group's DG only the address
 unfoldable pub columnIn : List ℕ → ℕ → Column
 columnIn w i = record {
-    group = record {
-      dataGroup = record { at = getD w (i + 2) 0; fragments = []; groups = [] };
-      number = 0; at = getD w (i + 1) 0; channels = []; records = getD w (i + 3) 0 };
-    channel = getD w i 0;
-    isTime = timeIn (getD w (i + 4) 0);
-    master = masterIn (getD w (i + 5) 0);
-    signalOf = signalIn (getD w (i + 6) 0) }
+  group = record {
+    dataGroup = record { at = getD w (i + 2) 0; fragments = []; groups = [] };
+    number = 0;
+    at = getD w (i + 1) 0;
+    channels = [];
+    records = getD w (i + 3) 0;
+  };
+  channel = getD w i 0;
+  isTime = timeIn (getD w (i + 4) 0);
+  master = masterIn (getD w (i + 5) 0);
+  signalOf = signalIn (getD w (i + 6) 0);
+}
 
 -- column number k
 unfoldable pub placedOne : List ℕ → List ℕ → ℕ → Placed
 placedOne columns memo k = record {
-    column = columnIn columns (8 * k);
-    dg = getD memo (placedAt + 3 * k) 0;
-    first = getD memo (placedAt + 3 * k + 1) 0;
-    sd = getD memo (placedAt + 3 * k + 2) 0 }
+  column = columnIn columns (8 * k);
+  dg = getD memo (placedAt + 3 * k) 0;
+  first = getD memo (placedAt + 3 * k + 1) 0;
+  sd = getD memo (placedAt + 3 * k + 2) 0;
+}
 
 -- n columns from number k on
 unfoldable pub placedIn : List ℕ → List ℕ → ℕ → ℕ → List Placed

@@ -16,8 +16,22 @@ use Rattle.plan.specs.Copies.{Copy}
 use Rattle.plan.specs.CopyWords.{placedAt, placedWords, laidCopies}
 use Rattle.plan.specs.Layout.{columnWidth, columnBlocks, Placed, cgOf, cnOf, Layout}
 use Rattle.plan.specs.PlanWords.{timeWord, masterWord, signalWord, columnWords, columnsWords, omissionsAt, omissionPairs, laidPlan}
-use Rattle.result.specs.Fill.{Block, block, nextDG, cgAt, dgBytes, masterLink, cgData, cgBytes, sdLink, cnBytes, dlBytes, dlBlocks,
-  columnPayload, structureBlocks}
+use Rattle.result.specs.Fill.{
+  Block,
+  block,
+  nextDG,
+  cgAt,
+  dgBytes,
+  masterLink,
+  cgData,
+  cgBytes,
+  sdLink,
+  cnBytes,
+  dlBytes,
+  dlBlocks,
+  columnPayload,
+  structureBlocks,
+}
 use Rattle.result.specs.Guarantee.{In, here, there, columnsPlaced}
 use Rattle.result.specs.Ordered.{Ordered}
 use Rattle.copies_laws.specs.LengthLaws.{InImage}
@@ -32,13 +46,18 @@ bareSignal (signalData fs) = signalData []
 
 unfoldable pub bareColumn : Column → Column
 bareColumn c = record {
-    group = record {
-      dataGroup = record { at = c .group .dataGroup .at; fragments = []; groups = [] };
-      number = 0; at = c .group .at; channels = []; records = c .group .records };
-    channel = c .channel;
-    isTime = c .isTime;
-    master = c .master;
-    signalOf = bareSignal (c .signalOf) }
+  group = record {
+    dataGroup = record { at = c .group .dataGroup .at; fragments = []; groups = [] };
+    number = 0;
+    at = c .group .at;
+    channels = [];
+    records = c .group .records;
+  };
+  channel = c .channel;
+  isTime = c .isTime;
+  master = c .master;
+  signalOf = bareSignal (c .signalOf);
+}
 
 unfoldable pub bare : Placed → Placed
 bare p = record { column = bareColumn (p .column); dg = p .dg; first = p .first; sd = p .sd }
@@ -85,7 +104,7 @@ module _ (s : List ℕ) (size : ℕ) (m : List Copy) where
   bare-dl p = refl
 
   bare-places : (p : Placed) (x y z : List ℕ) (bs : List Block)
-    → block (bare p .dg) x ∷ block (cgOf (bare p)) y ∷ block (cnOf (bare p)) z ∷ bs ≡ block (p .dg) x ∷ block (cgOf p) y ∷ block (cnOf p) z ∷ bs
+      → block (bare p .dg) x ∷ block (cgOf (bare p)) y ∷ block (cnOf (bare p)) z ∷ bs ≡ block (p .dg) x ∷ block (cgOf p) y ∷ block (cnOf p) z ∷ bs
   unfolding bare bareColumn
   bare-places p x y z bs = refl
 
@@ -159,25 +178,28 @@ module _ (columns memo : List ℕ) (n k : ℕ) (p : Placed) (cs : List Column) (
       rw (column-back, a, b, c)
 
 columns-rest : (columns : List ℕ) (n k : ℕ) (c : Column) (cs : List Column) → Words columns (8 * k) (columnsWords n (c ∷ cs))
-  → Words columns (8 * (k + 1)) (columnsWords (n + sizeOfSignal (c .signalOf)) cs)
+    → Words columns (8 * (k + 1)) (columnsWords (n + sizeOfSignal (c .signalOf)) cs)
 unfolding columnsWords columnWords
 columns-rest columns n k c cs f =
     words-back columns (8 * k) (8 * (k + 1)) (columnWords n c) (columnsWords (n + sizeOfSignal (c .signalOf)) cs) f (omega arith)
 
 places-rest : (memo : List ℕ) (k : ℕ) (p : Placed) (ps : List Placed) → Words memo (placedAt + 3 * k) (placedWords (p ∷ ps))
-  → Words memo (placedAt + 3 * (k + 1)) (placedWords ps)
+    → Words memo (placedAt + 3 * (k + 1)) (placedWords ps)
 unfolding placedWords
 places-rest memo k p ps f =
     words-back memo (placedAt + 3 * k) (placedAt + 3 * (k + 1)) (p .dg ∷ p .first ∷ p .sd ∷ []) (placedWords ps) f (omega arith)
 
 -- all columns from number k on
 pub placed-back : (columns memo : List ℕ) (n k : ℕ) (ps : List Placed) → Words columns (8 * k) (columnsWords n (columnsPlaced ps))
-  → Words memo (placedAt + 3 * k) (placedWords ps) → placedIn columns memo k (length ps) ≡ bareAll ps
+    → Words memo (placedAt + 3 * k) (placedWords ps) → placedIn columns memo k (length ps) ≡ bareAll ps
 unfolding placedIn bareAll columnsPlaced
 placed-back columns memo n k [] f g = refl
 placed-back columns memo n k (p ∷ ps) f g =
-    rw (one-back columns memo n k p (columnsPlaced ps) ps f g, placed-back columns memo _ (k + 1) ps
-      (columns-rest columns n k (p .column) (columnsPlaced ps) f) (places-rest memo k p ps g))
+    rw (
+      one-back columns memo n k p (columnsPlaced ps) ps f g,
+      placed-back columns memo _ (k + 1) ps
+          (columns-rest columns n k (p .column) (columnsPlaced ps) f) (places-rest memo k p ps g),
+    )
 
 -- ---- planned and placed columns
 length-columns : (n : ℕ) (cs : List Column) → length (columnsWords n cs) ≡ 8 * length cs
@@ -196,7 +218,7 @@ length-placed [] = refl
 length-placed (p ∷ ps) = ap suc (length-placed ps)
 
 plan-words : (n : ℕ) (p : Plan) (w : List ℕ) → length (p .columns) ≤ 512 → 8192 ≤ length w
-  → Words (laidPlan n p w) (8 * 0) (columnsWords n (p .columns))
+    → Words (laidPlan n p w) (8 * 0) (columnsWords n (p .columns))
 unfolding laidPlan
 plan-words n p w few long j h =
     let l = length-columns n (p .columns) in
@@ -204,7 +226,7 @@ plan-words n p w few long j h =
     ∙ blit-among (columnsWords n (p .columns)) (8 * 0) j w h (omega arith)
 
 place-words : (l : Layout) (w : List ℕ) → length (l .placed) ≤ 512 → 8192 ≤ length w
-  → Words (laidCopies l w) (placedAt + 3 * 0) (placedWords (l .placed))
+    → Words (laidCopies l w) (placedAt + 3 * 0) (placedWords (l .placed))
 unfolding laidCopies
 place-words l w few long j h =
     let k = length-places (l .placed) in
@@ -219,14 +241,14 @@ tailOf [] = []
 tailOf (p ∷ ps) = ps
 
 seen-one : {s : List ℕ} (columns memo : List ℕ) (k : ℕ) (p : Placed) → placedOne columns memo k ≡ bare p → InImage s (p .column)
-  → InImage s (columnIn columns (8 * k))
+    → InImage s (columnIn columns (8 * k))
 unfolding placedOne bare bareColumn
 seen-one {s} columns memo k p e i =
     let q : columnIn columns (8 * k) ≡ bareColumn (p .column) = ap (λ (x : Placed). x .column) e in
     rw q (record { group = i .group; channel = i .channel })
 
 seen-back : {s : List ℕ} (columns memo : List ℕ) (k : ℕ) (ps : List Placed) → placedIn columns memo k (length ps) ≡ bareAll ps
-  → ((c : Column) → In c (columnsPlaced ps) → InImage s c) → (i : ℕ) → i < length ps → InImage s (columnIn columns (8 * (k + i)))
+    → ((c : Column) → In c (columnsPlaced ps) → InImage s c) → (i : ℕ) → i < length ps → InImage s (columnIn columns (8 * (k + i)))
 unfolding placedIn bareAll columnsPlaced
 seen-back columns memo k [] e f i h = absurd (omega arith)
 seen-back columns memo k (p ∷ ps) e f zero h = rw add-zero (seen-one columns memo k p (ap (λ (l : List Placed). headOf l (bare p)) e) (f (p .column) here))
@@ -247,22 +269,22 @@ module _ (n : ℕ) (p : Plan) (l : Layout) (w v columns memo : List ℕ) (planne
 
   -- the columns in words have the blocks of those placed
   pub structure-in : (s : List ℕ) (size : ℕ) (m : List Copy)
-    → structureBlocks s size m (placedIn columns memo 0 (length (l .placed))) (placedIn columns memo 0 (length (l .placed)))
-    ≡ structureBlocks s size m (l .placed) (l .placed)
+      → structureBlocks s size m (placedIn columns memo 0 (length (l .placed))) (placedIn columns memo 0 (length (l .placed)))
+      ≡ structureBlocks s size m (l .placed) (l .placed)
   structure-in s size m = rw placed-in (bare-structure s size m (l .placed) (l .placed))
 
   pub next-in : nextDG (placedIn columns memo 0 (length (l .placed))) ≡ nextDG (l .placed)
   next-in = rw placed-in (bare-next (l .placed))
 
   pub seen-in : {s : List ℕ} → ((c : Column) → In c (p .columns) → InImage s c) → (k : ℕ) → k < length (l .placed)
-    → InImage s (columnIn columns (8 * k))
+      → InImage s (columnIn columns (8 * k))
   seen-in {s} f k h =
       let g : (c : Column) → In c (columnsPlaced (l .placed)) → InImage s c = rw same f in
       rw zero-add at (seen-back columns memo 0 (l .placed) placed-in g k h)
 
   pub structure-ready : {s : List ℕ} {size used a e : ℕ} → ((c : Column) → In c (p .columns) → InImage s c)
-    → Ordered a (structureBlocks s size (copiesIn memo used) (l .placed) (l .placed)) e
-    → StructureReady s size columns memo (length (l .placed)) used a e
+      → Ordered a (structureBlocks s size (copiesIn memo used) (l .placed) (l .placed)) e
+      → StructureReady s size columns memo (length (l .placed)) used a e
   unfolding laidPlan laidCopies
   structure-ready {s} {size} {used} {a} {e} f o =
       record {
@@ -270,4 +292,5 @@ module _ (n : ℕ) (p : Plan) (l : Layout) (w v columns memo : List ℕ) (planne
         long = rw planned (simp length-blit (omega arith));
         placed = rw placed (simp length-blit room);
         ordered = rw (structure-in s size (copiesIn memo used)) o;
-        seen = seen-in f }
+        seen = seen-in f;
+      }

@@ -46,7 +46,7 @@ startOf kind m n w i = ifEq (i % m) 0 (header kind (24 + min m (n - i) * w) 0) [
 pub record Extends (region : List ℕ) (first a b : ℕ) (out last : List ℕ) : Type 0 where
   pub same : length last ≡ length out
   pub right : (f : List ℕ) → length f ≡ length out → part first (length region) f ≡ region
-    → Keeps f out last × Has f last (first + a) (first + b)
+      → Keeps f out last × Has f last (first + a) (first + b)
 
 -- a column with blocks, whose records are rs; out has room for the blocks
 pub record ColumnReady (s : List ℕ) (size : ℕ) (e : Entry) (rs : List (List ℕ)) (room : ℕ) : Type 0 where
@@ -93,7 +93,7 @@ pub record DataFilled (s : List ℕ) (size : ℕ) (w : List ℕ) (n : ℕ) (fs :
     (out last : List ℕ) : Type 0 where
   pub same : length last ≡ length out
   pub right : (f : List ℕ) → length f ≡ length out
-    → ((k : ℕ) → k < number → part (entryIn cs m k .first) (length (entryRegion s size w n fs nf (entryIn cs m k))) f
-        ≡ entryRegion s size w n fs nf (entryIn cs m k))
-    → Keeps f out last × ((k : ℕ) → k < number
-        → Has f last (entryIn cs m k .first) (entryIn cs m k .first + length (entryRegion s size w n fs nf (entryIn cs m k))))
+      → ((k : ℕ) → k < number → part (entryIn cs m k .first) (length (entryRegion s size w n fs nf (entryIn cs m k))) f
+      ≡ entryRegion s size w n fs nf (entryIn cs m k))
+      → Keeps f out last × ((k : ℕ) → k < number
+      → Has f last (entryIn cs m k .first) (entryIn cs m k .first + length (entryRegion s size w n fs nf (entryIn cs m k))))

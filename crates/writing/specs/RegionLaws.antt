@@ -50,7 +50,7 @@ pub record Putting (s : List ℕ) (h : Shape) (ps : List ℕ) (i to : ℕ) (out 
   pub bytes : blit to (cells s (h .group) (h .channel) (recordsAt s (h .length) (drop i ps))) out ≡ g
 
 pub putting-begin : (s : List ℕ) (h : Shape) (ps : List ℕ) (at : ℕ) (out : List ℕ) → at + length ps * h .width ≤ length out
-  → Putting s h ps 0 at out (blit at (cells s (h .group) (h .channel) (recordsAt s (h .length) ps)) out)
+    → Putting s h ps 0 at out (blit at (cells s (h .group) (h .channel) (recordsAt s (h .length) ps)) out)
 putting-begin s h ps at out r = let e : length ps - 0 ≡ length ps = omega arith in record { few = omega arith; room = rw e r; bytes = refl }
 
 less-mul : (n i w : ℕ) → i < n → (n - i) * w ≡ (n - (i + 1)) * w + w
@@ -63,7 +63,7 @@ module _ {s : List ℕ} {h : Shape} {ps : List ℕ} {i to : ℕ} {out g : List �
   putting-room l = let r = t .room in omega (arith, less-mul (length ps) i (h .width) l)
 
   pub putting-turn : Shaped s h → Inside s (h .length) ps → i < length ps → {last : List ℕ}
-    → last ≡ blit to (cell s (h .group) (h .channel) (part (getD ps i 0) (h .length) s)) out → Putting s h ps (i + 1) (to + h .width) last g
+      → last ≡ blit to (cell s (h .group) (h .channel) (part (getD ps i 0) (h .length) s)) out → Putting s h ps (i + 1) (to + h .width) last g
   unfolding cells recordsAt
   putting-turn w n l {last} e =
       let r : List ℕ = part (getD ps i 0) (h .length) s in
@@ -77,12 +77,13 @@ module _ {s : List ℕ} {h : Shape} {ps : List ℕ} {i to : ℕ} {out g : List �
       let z : i + 1 ≡ suc i = omega arith in
       let d : drop i ps ≡ getD ps i 0 ∷ drop (suc i) ps = drop-cons ps i 0 l in
       let y : blit (to + h .width) (cells s (h .group) (h .channel) (recordsAt s (h .length) (drop (suc i) ps))) (blit to x out) ≡ g =
-          rw (d, blit-append, m) at (t .bytes) in
+      rw (d, blit-append, m) at (t .bytes) in
       let q = t .room in
       record {
         few = omega arith;
         room = omega (arith, less-mul (length ps) i (h .width) l);
-        bytes = rw (z, e) y }
+        bytes = rw (z, e) y;
+      }
 
   -- without invalidation byte, n bytes each
   module _ (w : Shaped s h) (k : h .keep ≡ false) {n : ℕ} (b : h .bytes ≡ n) (l : i < length ps) where
@@ -98,7 +99,7 @@ module _ {s : List ℕ} {h : Shape} {ps : List ℕ} {i to : ℕ} {out g : List �
         (omega arith, omega arith)
 
     pub bare-turn : Inside s (h .length) ps → {last : List ℕ} → last ≡ blit to (part (getD ps i 0 + h .first) n s) out
-      → Putting s h ps (i + 1) (to + n) last g
+        → Putting s h ps (i + 1) (to + n) last g
     bare-turn p {last} e =
         let r : List ℕ = part (getD ps i 0) (h .length) s in
         let f = part-in (getD ps i 0) (h .length) (h .first) (h .bytes) s (w .fit) in
@@ -117,26 +118,29 @@ pub extends-none : (region : List ℕ) (first a : ℕ) (out : List ℕ) → Exte
 extends-none region first a out = record { same = refl; right = λ f l p. (keeps-none f out, has-none f out (first + a)) }
 
 pub extends-then : (region : List ℕ) (first a b c : ℕ) (out mid last : List ℕ) → Extends region first a b out mid → Extends region first b c mid last
-  → Extends region first a c out last
+    → Extends region first a c out last
 extends-then region first a b c out mid last u v =
     record {
       same = v .same ∙ u .same;
       right = λ f l p.
-        let x = u .right f l p in
-        let y = v .right f (l ∙ sym (u .same)) p in
-        (keeps-then f out mid last (x .0) (y .0),
-          has-then f last (first + a) (first + b) (first + c) (has-kept f mid last (first + a) (first + b) (x .1) (y .0)) (y .1)) }
+          let x = u .right f l p in
+          let y = v .right f (l ∙ sym (u .same)) p in (
+            keeps-then f out mid last (x .0) (y .0),
+            has-then f last (first + a) (first + b) (first + c) (has-kept f mid last (first + a) (first + b) (x .1) (y .0)) (y .1),
+          );
+    }
 
 -- a part of it laid there
 pub extends-blit : (region : List ℕ) (first x : ℕ) (bs out : List ℕ) → part x (length bs) region ≡ bs → x + length bs ≤ length region
-  → first + length region ≤ length out → Extends region first x (x + length bs) out (blit (first + x) bs out)
+    → first + length region ≤ length out → Extends region first x (x + length bs) out (blit (first + x) bs out)
 extends-blit region first x bs out is within room =
     record {
       same = length-blit (first + x) bs out;
       right = λ f l p.
-        let q : part (first + x) (length bs) f ≡ bs = part-in first (length region) x (length bs) f within ∙ ap (part x (length bs)) p ∙ is in
-        let e : first + x + length bs ≡ first + (x + length bs) = omega arith in
-        (blit-keeps f bs (first + x) q out (omega arith), rw (← e) (blit-has f bs (first + x) q out (omega arith))) }
+          let q : part (first + x) (length bs) f ≡ bs = part-in first (length region) x (length bs) f within ∙ ap (part x (length bs)) p ∙ is in
+          let e : first + x + length bs ≡ first + (x + length bs) = omega arith in
+          (blit-keeps f bs (first + x) q out (omega arith), rw (← e) (blit-has f bs (first + x) q out (omega arith)));
+    }
 
 -- ---- blocks begun
 pub begun-first : (m q : ℕ) → 0 < m → begun m (q * m) ≡ q
@@ -237,7 +241,7 @@ module _ (s : List ℕ) (g c kind m : ℕ) where
 
   -- blocks before block number q, this, and those past it
   block-at : (q j : ℕ) (rs : List (List ℕ)) → framedAll kind (payloads s g c m (q + suc j) rs)
-    ≡ framedAll kind (payloads s g c m q rs)
+      ≡ framedAll kind (payloads s g c m q rs)
       ++ (framed kind (cells s g c (take m (drop (q * m) rs))) ++ framedAll kind (payloads s g c m j (drop m (drop (q * m) rs))))
   unfolding framedAll payloads
   block-at q j rs = ap (framedAll kind) (payloads-add q (suc j) rs) ∙ framed-append kind (payloads s g c m q rs) _
@@ -246,8 +250,8 @@ module _ (s : List ℕ) (g c kind m : ℕ) where
     blocks-size : (k : ℕ) → length (framedAll kind (payloads s g c m k rs)) ≡ 24 * k + length (take (k * m) rs) * width s g c
     blocks-size k =
         let e : length (together (payloads s g c m k rs)) ≡ length (take (k * m) rs) * width s g c =
-            ap length (payloads-joined s g c m k rs) ∙ length-cells s g c f (long-take (k * m) l)
-              ∙ mul-comm (width s g c) (length (take (k * m) rs)) in
+        ap length (payloads-joined s g c m k rs) ∙ length-cells s g c f (long-take (k * m) l)
+        ∙ mul-comm (width s g c) (length (take (k * m) rs)) in
         rw (framed-size, length-payloads, e)
 
     module _ (q j : ℕ) (few : q * m ≤ length rs) where
@@ -256,20 +260,20 @@ module _ (s : List ℕ) (g c kind m : ℕ) where
 
       -- the header of block number q
       header-part : part (24 * q + q * m * width s g c) 24 (framedAll kind (payloads s g c m (q + suc j) rs))
-        ≡ header kind (24 + min m (length rs - q * m) * width s g c) 0
+          ≡ header kind (24 + min m (length rs - q * m) * width s g c) 0
       unfolding framed
       header-part =
           let t : List (List ℕ) = take m (drop (q * m) rs) in
           let n : length (cells s g c t) ≡ min m (length rs - q * m) * width s g c =
-              length-cells s g c f (long-take m (long-drop (q * m) l)) ∙ mul-comm (width s g c) (length t)
-                ∙ rw (length-take, length-drop) in
+          length-cells s g c f (long-take m (long-drop (q * m) l)) ∙ mul-comm (width s g c) (length t)
+          ∙ rw (length-take, length-drop) in
           rw (block-at q j rs, ← n, append-assoc)
-            (part-at (24 * q + q * m * width s g c) 24 (framedAll kind (payloads s g c m q rs)) (header kind (24 + length (cells s g c t)) 0) _
-              front-size (length-header kind (24 + length (cells s g c t)) 0))
+          (part-at (24 * q + q * m * width s g c) 24 (framedAll kind (payloads s g c m q rs)) (header kind (24 + length (cells s g c t)) 0) _
+          front-size (length-header kind (24 + length (cells s g c t)) 0))
 
       -- n of its cells, past r
       cells-part : (r n : ℕ) → r + n ≤ m → q * m + r + n ≤ length rs
-        → part (24 * q + (q * m + r) * width s g c + 24) (n * width s g c) (framedAll kind (payloads s g c m (q + suc j) rs))
+          → part (24 * q + (q * m + r) * width s g c + 24) (n * width s g c) (framedAll kind (payloads s g c m (q + suc j) rs))
           ≡ cells s g c (take n (drop (q * m + r) rs))
       unfolding framed
       cells-part r n a b =
@@ -282,25 +286,25 @@ module _ (s : List ℕ) (g c kind m : ℕ) where
           let z : List (List ℕ) = drop n (drop r t) in
           let all : t ≡ x ++ (y ++ z) = sym (ap (λ (v : List (List ℕ)). x ++ v) (take-append-drop n (drop r t)) ∙ take-append-drop r t) in
           let cs : cells s g c t ≡ cells s g c x ++ (cells s g c y ++ cells s g c z) =
-              ap (cells s g c) all ∙ cells-append s g c x (y ++ z) ∙ ap (λ (v : List ℕ). cells s g c x ++ v) (cells-append s g c y z) in
+          ap (cells s g c) all ∙ cells-append s g c x (y ++ z) ∙ ap (λ (v : List ℕ). cells s g c x ++ v) (cells-append s g c y z) in
           let xr : x ≡ take r o = take-take r m o (omega arith) in
           let yr : y ≡ take n (drop r o) = take-inner r n m o a in
           let lx : length (cells s g c x) ≡ r * width s g c =
-              ap (λ (v : List (List ℕ)). length (cells s g c v)) xr ∙ length-cells s g c f (long-take r lo)
-                ∙ rw (length-take-le r o (omega arith)) (mul-comm (width s g c) r) in
+          ap (λ (v : List (List ℕ)). length (cells s g c v)) xr ∙ length-cells s g c f (long-take r lo)
+          ∙ rw (length-take-le r o (omega arith)) (mul-comm (width s g c) r) in
           let nd : n ≤ length (drop r o) = rw length-drop (omega arith) in
           let ly : length (cells s g c y) ≡ n * width s g c =
-              ap (λ (v : List (List ℕ)). length (cells s g c v)) yr ∙ length-cells s g c f (long-take n (long-drop r lo))
-                ∙ rw (length-take-le n (drop r o) nd) (mul-comm (width s g c) n) in
+          ap (λ (v : List (List ℕ)). length (cells s g c v)) yr ∙ length-cells s g c f (long-take n (long-drop r lo))
+          ∙ rw (length-take-le n (drop r o) nd) (mul-comm (width s g c) n) in
           let fr : List ℕ = framedAll kind (payloads s g c m q rs) in
           let hd : List ℕ = header kind (24 + length (cells s g c t)) 0 in
           let re : List ℕ = framedAll kind (payloads s g c m j (drop m o)) in
           let whole : framedAll kind (payloads s g c m (q + suc j) rs) ≡ (fr ++ (hd ++ cells s g c x)) ++ (cells s g c y ++ (cells s g c z ++ re)) =
-              block-at q j rs ∙ spread fr hd (cells s g c t) (cells s g c x) (cells s g c y) (cells s g c z) re cs in
+          block-at q j rs ∙ spread fr hd (cells s g c t) (cells s g c x) (cells s g c y) (cells s g c z) re cs in
           let lf : length (fr ++ (hd ++ cells s g c x)) ≡ 24 * q + (q * m + r) * width s g c + 24 =
-              rw (length-append, length-append, lx, front-size, length-header) (omega (arith, add-mul (q * m) r (width s g c))) in
+          rw (length-append, length-append, lx, front-size, length-header) (omega (arith, add-mul (q * m) r (width s g c))) in
           rw whole (part-at _ _ (fr ++ (hd ++ cells s g c x)) (cells s g c y) (cells s g c z ++ re) lf ly
-            ∙ ap (cells s g c) (yr ∙ ap (take n) (drop-drop r (q * m) rs)))
+          ∙ ap (cells s g c) (yr ∙ ap (take n) (drop-drop r (q * m) rs)))
 
 -- ---- a column with blocks: its width, and the records of a block that is not the last
 abbrev pub wideOf : List ℕ → Entry → ℕ
@@ -320,14 +324,14 @@ module _ {s : List ℕ} {size : ℕ} {e : Entry} {rs : List (List ℕ)} {room : 
   per-all =
       let x = column-split in
       let y : entryCount s size e * perOf s size e ≡ x .full * perOf s size e + perOf s size e =
-          rw (x .blocks) (suc-mul (x .full) (perOf s size e)) in
+      rw (x .blocks) (suc-mul (x .full) (perOf s size e)) in
       omega (arith, x .enough)
 
   pub region-size : length (regionOf s size e rs) ≡ 24 * entryCount s size e + e .records * wideOf s e
   unfolding regionOf entryPayloads
   region-size =
       let a : take (entryCount s size e * perOf s size e) rs ≡ rs =
-          take-all (entryCount s size e * perOf s size e) rs (omega (arith, d .many, per-all)) in
+      take-all (entryCount s size e * perOf s size e) rs (omega (arith, d .many, per-all)) in
       blocks-size s (e .group) (e .channel) (entryKind s e) (perOf s size e) (d .fit) rs (d .long) (entryCount s size e) ∙ rw (a, d .many)
 
   -- no more records than there is room
@@ -347,7 +351,7 @@ module _ {s : List ℕ} {size : ℕ} {e : Entry} {rs : List (List ℕ)} {room : 
   first-few i h = omega (arith, d .many, div-add-mod' i (perOf s size e))
 
   region-header : (i : ℕ) → i < e .records → i % perOf s size e ≡ 0
-    → part (24 * (i / perOf s size e) + i * wideOf s e) 24 (regionOf s size e rs)
+      → part (24 * (i / perOf s size e) + i * wideOf s e) 24 (regionOf s size e rs)
       ≡ header (entryKind s e) (24 + min (perOf s size e) (e .records - i) * wideOf s e) 0
   unfolding regionOf entryPayloads
   region-header i h z =
@@ -356,12 +360,12 @@ module _ {s : List ℕ} {size : ℕ} {e : Entry} {rs : List (List ℕ)} {room : 
       let j : ℕ = entryCount s size e - suc q in
       let p : q * m ≡ i = omega (arith, div-add-mod' i m) in
       let x : part (24 * q + i * wideOf s e) 24 (framedAll (entryKind s e) (payloads s (e .group) (e .channel) m (q + suc j) rs))
-          ≡ header (entryKind s e) (24 + min m (e .records - i) * wideOf s e) 0 =
-          rw (p, d .many) at (header-part s (e .group) (e .channel) (entryKind s e) m (d .fit) rs (d .long) q j (first-few i h)) in
+      ≡ header (entryKind s e) (24 + min m (e .records - i) * wideOf s e) 0 =
+      rw (p, d .many) at (header-part s (e .group) (e .channel) (entryKind s e) m (d .fit) rs (d .long) q j (first-few i h)) in
       ap (λ (k : ℕ). part (24 * q + i * wideOf s e) 24 (framedAll (entryKind s e) (payloads s (e .group) (e .channel) m k rs))) (opened i h) ∙ x
 
   region-cells : (i n : ℕ) → 0 < n → i % perOf s size e + n ≤ perOf s size e → i + n ≤ e .records
-    → part (24 * (i / perOf s size e) + i * wideOf s e + 24) (n * wideOf s e) (regionOf s size e rs)
+      → part (24 * (i / perOf s size e) + i * wideOf s e + 24) (n * wideOf s e) (regionOf s size e rs)
       ≡ cells s (e .group) (e .channel) (take n (drop i rs))
   unfolding regionOf entryPayloads
   region-cells i n z a b =
@@ -371,15 +375,15 @@ module _ {s : List ℕ} {size : ℕ} {e : Entry} {rs : List (List ℕ)} {room : 
       let h : i < e .records = omega arith in
       let p : q * m + i % m ≡ i = div-add-mod' i m in
       let y = cells-part s (e .group) (e .channel) (entryKind s e) m (d .fit) rs (d .long) q j (first-few i h) (i % m) n a
-          (omega (arith, d .many)) in
+      (omega (arith, d .many)) in
       let x : part (24 * q + i * wideOf s e + 24) (n * wideOf s e) (framedAll (entryKind s e) (payloads s (e .group) (e .channel) m (q + suc j) rs))
-          ≡ cells s (e .group) (e .channel) (take n (drop i rs)) = rw p at y in
+      ≡ cells s (e .group) (e .channel) (take n (drop i rs)) = rw p at y in
       ap (λ (k : ℕ). part (24 * q + i * wideOf s e + 24) (n * wideOf s e) (framedAll (entryKind s e) (payloads s (e .group) (e .channel) m k rs)))
-        (opened i h) ∙ x
+      (opened i h) ∙ x
 
   -- the block that record number i lies in
   pub region-room : (i : ℕ) → i < e .records
-    → 24 * (i / perOf s size e) + i * wideOf s e + 24 + min (perOf s size e) (e .records - i) * wideOf s e ≤ length (regionOf s size e rs)
+      → 24 * (i / perOf s size e) + i * wideOf s e + 24 + min (perOf s size e) (e .records - i) * wideOf s e ≤ length (regionOf s size e rs)
   region-room i h =
       let n : ℕ = min (perOf s size e) (e .records - i) in
       let a = min-le-right (perOf s size e) (e .records - i) in
@@ -397,16 +401,16 @@ module _ {s : List ℕ} {size : ℕ} {e : Entry} {rs : List (List ℕ)} {room : 
       let m : ℕ = perOf s size e in
       let n : e .records ≡ x .full * m + (e .records - x .full * m) = omega (arith, x .left) in
       let b : begun m (e .records) ≡ x .full + 1 = ap (begun m) n ∙ begun-in m (x .full) (e .records - x .full * m) (omega (arith, x .left))
-          (omega (arith, x .enough)) in
+      (omega (arith, x .enough)) in
       let k : x .full + 1 ≡ entryCount s size e = omega (arith, x .blocks) in
       entry-to (e .records) ∙ filled-is m (wideOf s e) (e .records) (b ∙ k) ∙ sym region-size
 
   -- ---- the cells of n records from number i on, of one block, and its header before the first
   module _ (i : ℕ) (out : List ℕ) (l : length out ≡ room) where
     start-extends : i < e .records → {mid : List ℕ}
-      → mid ≡ blit (e .first + (24 * (i / perOf s size e) + i * wideOf s e))
+        → mid ≡ blit (e .first + (24 * (i / perOf s size e) + i * wideOf s e))
         (startOf (entryKind s e) (perOf s size e) (e .records) (wideOf s e) i) out
-      → Extends (regionOf s size e rs) (e .first) (entryTo s size e i) (24 * (i / perOf s size e) + i * wideOf s e + 24) out mid
+        → Extends (regionOf s size e rs) (e .first) (entryTo s size e i) (24 * (i / perOf s size e) + i * wideOf s e + 24) out mid
     unfolding startOf blit
     start-extends h {mid} q =
         let m : ℕ = perOf s size e in
@@ -418,21 +422,21 @@ module _ {s : List ℕ} {size : ℕ} {e : Entry} {rs : List (List ℕ)} {room : 
         let o = d .ends in
         ⊎-elim
         (λ z.
-          let s1 : startOf (entryKind s e) m (e .records) w i ≡ hd = sym (eq-yes _ _ _ _ z refl) in
-          let k : part x (length hd) (regionOf s size e rs) ≡ hd = rw n (region-header i h z) in
-          let y : Extends (regionOf s size e rs) (e .first) x (x + 24) out (blit (e .first + x) hd out) =
-              rw n at (extends-blit (regionOf s size e rs) (e .first) x hd out k (omega arith) (omega arith)) in
-          let t : mid ≡ blit (e .first + x) hd out = q ∙ ap (λ (v : List ℕ). blit (e .first + x) v out) s1 in
-          rw (entry-to i, to-first m w i per-some z, t) y)
+        let s1 : startOf (entryKind s e) m (e .records) w i ≡ hd = sym (eq-yes _ _ _ _ z refl) in
+        let k : part x (length hd) (regionOf s size e rs) ≡ hd = rw n (region-header i h z) in
+        let y : Extends (regionOf s size e rs) (e .first) x (x + 24) out (blit (e .first + x) hd out) =
+        rw n at (extends-blit (regionOf s size e rs) (e .first) x hd out k (omega arith) (omega arith)) in
+        let t : mid ≡ blit (e .first + x) hd out = q ∙ ap (λ (v : List ℕ). blit (e .first + x) v out) s1 in
+        rw (entry-to i, to-first m w i per-some z, t) y)
         (λ z.
-          let s0 : startOf (entryKind s e) m (e .records) w i ≡ [] = sym (eq-no _ _ _ _ (λ y. omega arith) refl) in
-          let t : mid ≡ out = q ∙ ap (λ (v : List ℕ). blit (e .first + x) v out) s0 in
-          rw (entry-to i, to-inside m w i per-some (λ y. omega arith), t) (extends-none (regionOf s size e rs) (e .first) (x + 24) out))
+        let s0 : startOf (entryKind s e) m (e .records) w i ≡ [] = sym (eq-no _ _ _ _ (λ y. omega arith) refl) in
+        let t : mid ≡ out = q ∙ ap (λ (v : List ℕ). blit (e .first + x) v out) s0 in
+        rw (entry-to i, to-inside m w i per-some (λ y. omega arith), t) (extends-none (regionOf s size e rs) (e .first) (x + 24) out))
         (zero-or-more (i % m))
 
     cells-extends : (n : ℕ) → 0 < n → i % perOf s size e + n ≤ perOf s size e → i + n ≤ e .records → {last : List ℕ}
-      → last ≡ blit (e .first + (24 * (i / perOf s size e) + i * wideOf s e) + 24) (cells s (e .group) (e .channel) (take n (drop i rs))) out
-      → Extends (regionOf s size e rs) (e .first) (24 * (i / perOf s size e) + i * wideOf s e + 24) (entryTo s size e (i + n)) out last
+        → last ≡ blit (e .first + (24 * (i / perOf s size e) + i * wideOf s e) + 24) (cells s (e .group) (e .channel) (take n (drop i rs))) out
+        → Extends (regionOf s size e rs) (e .first) (24 * (i / perOf s size e) + i * wideOf s e + 24) (entryTo s size e (i + n)) out last
     cells-extends n z a b {last} q =
         let m : ℕ = perOf s size e in
         let w : ℕ = wideOf s e in
@@ -440,21 +444,21 @@ module _ {s : List ℕ} {size : ℕ} {e : Entry} {rs : List (List ℕ)} {room : 
         let bs : List ℕ = cells s (e .group) (e .channel) (take n (drop i rs)) in
         let nd : n ≤ length (drop i rs) = rw length-drop (omega (arith, d .many)) in
         let k : length bs ≡ n * w = length-cells s (e .group) (e .channel) (d .fit) (long-take n (long-drop i (d .long)))
-            ∙ rw (length-take-le n (drop i rs) nd) (mul-comm w n) in
+        ∙ rw (length-take-le n (drop i rs) nd) (mul-comm w n) in
         let p : part x (length bs) (regionOf s size e rs) ≡ bs = rw k (region-cells i n z a b) in
         let f : e .first + (24 * (i / m) + i * w) + 24 ≡ e .first + x = omega arith in
         let r = region-room i (omega arith) in
         let u : n * w ≤ min m (e .records - i) * w = mul-le-mul-right w (least-of n m (e .records - i) (omega arith) (omega arith)) in
         let o = d .ends in
         let y : Extends (regionOf s size e rs) (e .first) x (x + n * w) out (blit (e .first + x) bs out) =
-            rw k at (extends-blit (regionOf s size e rs) (e .first) x bs out p (omega arith) (omega arith)) in
+        rw k at (extends-blit (regionOf s size e rs) (e .first) x bs out p (omega arith) (omega arith)) in
         rw (entry-to (i + n), to-next m w i per-some n z a, q, f) y
 
   pub piece-extends : (i n : ℕ) (out : List ℕ) → length out ≡ room → 0 < n → i % perOf s size e + n ≤ perOf s size e → i + n ≤ e .records
-    → {mid last : List ℕ}
-    → mid ≡ blit (e .first + (24 * (i / perOf s size e) + i * wideOf s e)) (startOf (entryKind s e) (perOf s size e) (e .records) (wideOf s e) i) out
-    → last ≡ blit (e .first + (24 * (i / perOf s size e) + i * wideOf s e) + 24) (cells s (e .group) (e .channel) (take n (drop i rs))) mid
-    → Extends (regionOf s size e rs) (e .first) (entryTo s size e i) (entryTo s size e (i + n)) out last
+      → {mid last : List ℕ}
+      → mid ≡ blit (e .first + (24 * (i / perOf s size e) + i * wideOf s e)) (startOf (entryKind s e) (perOf s size e) (e .records) (wideOf s e) i) out
+      → last ≡ blit (e .first + (24 * (i / perOf s size e) + i * wideOf s e) + 24) (cells s (e .group) (e .channel) (take n (drop i rs))) mid
+      → Extends (regionOf s size e rs) (e .first) (entryTo s size e i) (entryTo s size e (i + n)) out last
   piece-extends i n out l z a b {mid} p q =
       let u = start-extends i out l (omega arith) p in
       let v = cells-extends i mid (u .same ∙ l) n z a b q in
@@ -462,7 +466,7 @@ module _ {s : List ℕ} {size : ℕ} {e : Entry} {rs : List (List ℕ)} {room : 
 
 -- ---- a column without blocks, and before the first record
 pub entry-none : (s : List ℕ) (size : ℕ) (e : Entry) (i : ℕ) (rs : List (List ℕ)) → entryCount s size e ≡ 0
-  → (entryTo s size e i ≡ 0) × (length (regionOf s size e rs) ≡ 0)
+    → (entryTo s size e i ≡ 0) × (length (regionOf s size e rs) ≡ 0)
 unfolding entryTo regionOf entryPayloads payloads framedAll
 entry-none s size e i rs z = (sym (eq-yes _ _ _ _ z refl), rw z)
 
@@ -480,7 +484,7 @@ pub record Held (s : List ℕ) (size : ℕ) (e : Entry) (h : Shape) (kind m : �
   pub per-is : m ≡ perFull size (h .width) (e .records)
 
 pub held : {s : List ℕ} {size : ℕ} {e : Entry} {h : Shape} {kind m : ℕ} → ShapeOf s (e .parent) (e .group) (e .channel) h
-  → kind ≡ dataKind (h .keep) → m ≡ perFull size (h .width) (e .records) → Held s size e h kind m
+    → kind ≡ dataKind (h .keep) → m ≡ perFull size (h .width) (e .records) → Held s size e h kind m
 held p q r = record { shape = p; kind-is = q; per-is = r }
 
 module _ {s : List ℕ} {size : ℕ} {e : Entry} {h : Shape} {kind m : ℕ} (k : Held s size e h kind m) where
@@ -493,30 +497,30 @@ module _ {s : List ℕ} {size : ℕ} {e : Entry} {h : Shape} {kind m : ℕ} (k :
   held-kind : kind ≡ entryKind s e
   held-kind =
       k .kind-is ∙ ap dataKind (k .shape .shaped .keep) ∙ ap (λ (g : ℕ). dataKind (keepsInval s g (h .channel))) (k .shape .group)
-        ∙ ap (λ (c : ℕ). dataKind (keepsInval s (e .group) c)) (k .shape .channel)
+      ∙ ap (λ (c : ℕ). dataKind (keepsInval s (e .group) c)) (k .shape .channel)
 
   held-length : h .length ≡ samples s (e .group) + invalBytes s (e .group)
   held-length = k .shape .shaped .long ∙ ap (λ (g : ℕ). samples s g + invalBytes s g) (k .shape .group)
 
   module _ {rs : List (List ℕ)} {room : ℕ} (d : ColumnReady s size e rs room) where
     pub held-room : (i : ℕ) → i < e .records
-      → (0 < m) × (i < e .records) × (e .first + (24 * (i / m) + i * h .width + 24 + min m (e .records - i) * h .width) ≤ room)
+        → (0 < m) × (i < e .records) × (e .first + (24 * (i / m) + i * h .width + 24 + min m (e .records - i) * h .width) ≤ room)
     held-room i l =
         let p = per-some d in
         let r = region-room d i l in
         let o = d .ends in
         let a : e .first + (24 * (i / perOf s size e) + i * wideOf s e + 24 + min (perOf s size e) (e .records - i) * wideOf s e) ≤ room =
-            omega arith in
+        omega arith in
         (rw held-per p, l, rw (held-per, held-width) a)
 
     pub held-extends : (i n : ℕ) (out : List ℕ) → length out ≡ room → 0 < n → i % m + n ≤ m → i + n ≤ e .records
-      → {mid last : List ℕ}
-      → mid ≡ blit (e .first + (24 * (i / m) + i * h .width)) (startOf kind m (e .records) (h .width) i) out
-      → last ≡ blit (e .first + (24 * (i / m) + i * h .width) + 24) (cells s (h .group) (h .channel) (take n (drop i rs))) mid
-      → Extends (regionOf s size e rs) (e .first) (entryTo s size e i) (entryTo s size e (i + n)) out last
+        → {mid last : List ℕ}
+        → mid ≡ blit (e .first + (24 * (i / m) + i * h .width)) (startOf kind m (e .records) (h .width) i) out
+        → last ≡ blit (e .first + (24 * (i / m) + i * h .width) + 24) (cells s (h .group) (h .channel) (take n (drop i rs))) mid
+        → Extends (regionOf s size e rs) (e .first) (entryTo s size e i) (entryTo s size e (i + n)) out last
     held-extends i n out l z a b {mid} {last} p q =
         piece-extends d i n out l z (rw (← held-per) a) b {mid = mid} {last = last} (rw (← held-per, ← held-width, ← held-kind) p)
-          (rw (← held-per, ← held-width, ← k .shape .group, ← k .shape .channel) q)
+        (rw (← held-per, ← held-width, ← k .shape .group, ← k .shape .channel) q)
 
 -- ---- records at places, of a part
 records-take : (s : List ℕ) (n c : ℕ) (ps : List ℕ) → recordsAt s n (take c ps) ≡ take c (recordsAt s n ps)
@@ -548,30 +552,30 @@ module _ {s : List ℕ} {size : ℕ} {e : Entry} {h : Shape} {kind m : ℕ} (k :
   records-due =
       let n : ℕ = samples s (e .group) + invalBytes s (e .group) in
       rw (held-length k, as') (records-take s n c (drop done places) ∙ ap (take c) (records-drop s n done places)
-        ∙ ap (λ (x : List (List ℕ)). take c (drop done x)) (sym (d .are))
-        ∙ take-inner done c (length places) (drop i (d .rs)) l ∙ ap (take c) (drop-drop done i (d .rs)))
+      ∙ ap (λ (x : List (List ℕ)). take c (drop done x)) (sym (d .are))
+      ∙ take-inner done c (length places) (drop i (d .rs)) l ∙ ap (take c) (drop-drop done i (d .rs)))
 
   pub due-room : at % m + c ≤ m → {ps : List ℕ} → ps ≡ take c (drop done places)
-    → Inside s (h .length) ps × (e .first + (24 * (at / m) + at * h .width) + 24 + length ps * h .width ≤ room)
+      → Inside s (h .length) ps × (e .first + (24 * (at / m) + at * h .width) + 24 + length ps * h .width ≤ room)
   due-room a {ps} p =
       let nd : c ≤ length (drop done places) = rw length-drop (omega arith) in
       let lp : length ps ≡ c = ap length p ∙ length-take-le c (drop done places) nd in
       let y = few-left in
       let r = held-room k (d .ready) at (omega arith) in
       let u : c * h .width ≤ min m (e .records - at) * h .width =
-          mul-le-mul-right (h .width) (least-of c m (e .records - at) (omega arith) (omega arith)) in
+      mul-le-mul-right (h .width) (least-of c m (e .records - at) (omega arith) (omega arith)) in
       (rw (p, held-length k) (inside-part s (samples s (e .group) + invalBytes s (e .group)) done c places l (d .inside)), rw lp (omega arith))
 
   pub due-extends : (out : List ℕ) → length out ≡ room → at % m + c ≤ m → {ps mid last : List ℕ} → ps ≡ take c (drop done places)
-    → mid ≡ blit (e .first + (24 * (at / m) + at * h .width)) (startOf kind m (e .records) (h .width) at) out
-    → last ≡ blit (e .first + (24 * (at / m) + at * h .width) + 24) (cells s (h .group) (h .channel) (recordsAt s (h .length) ps)) mid
-    → Extends (regionOf s size e (d .rs)) (e .first) (entryTo s size e at) (entryTo s size e (at + c)) out last
+      → mid ≡ blit (e .first + (24 * (at / m) + at * h .width)) (startOf kind m (e .records) (h .width) at) out
+      → last ≡ blit (e .first + (24 * (at / m) + at * h .width) + 24) (cells s (h .group) (h .channel) (recordsAt s (h .length) ps)) mid
+      → Extends (regionOf s size e (d .rs)) (e .first) (entryTo s size e at) (entryTo s size e (at + c)) out last
   due-extends out o a {ps} {mid} {last} p x y =
       let v : recordsAt s (h .length) ps ≡ take c (drop at (d .rs)) = ap (recordsAt s (h .length)) p ∙ records-due in
       held-extends k (d .ready) at c out o z a few-left {mid = mid} {last = last} x (rw (← v) y)
 
 pub due-within : {s : List ℕ} {size : ℕ} {e : Entry} {i : ℕ} {places : List ℕ} {room : ℕ} (d : Due s size e i places room) {at done : ℕ}
-  → at ≡ i + done → done < length places → at < e .records
+    → at ≡ i + done → done < length places → at < e .records
 due-within d p l = let f = d .few in omega (arith, d .ready .many)
 
 -- ---- c records from number at on, past done of all, are of one block
@@ -597,17 +601,17 @@ so-far-none s size e i places out d = extends-none (regionOf s size e (d .rs)) (
 
 pub so-far-turn : {s : List ℕ} {size : ℕ} {e : Entry} {h : Shape} {kind m : ℕ} → Held s size e h kind m → (i : ℕ) (places : List ℕ) (at done c : ℕ)
     (out₀ out : List ℕ)
-  → SoFar s size e i places at out₀ out → at ≡ i + done → 0 < c → done + c ≤ length places → length out ≡ length out₀ → at % m + c ≤ m
-  → {ps mid last : List ℕ} {body : ℕ} → ps ≡ take c (drop done places)
-  → body ≡ e .first + (24 * (at / m) + at * h .width) + 24
-  → mid ≡ blit (e .first + (24 * (at / m) + at * h .width)) (startOf kind m (e .records) (h .width) at) out
-  → last ≡ blit body (cells s (h .group) (h .channel) (recordsAt s (h .length) ps)) mid
-  → SoFar s size e i places (at + c) out₀ last
+    → SoFar s size e i places at out₀ out → at ≡ i + done → 0 < c → done + c ≤ length places → length out ≡ length out₀ → at % m + c ≤ m
+    → {ps mid last : List ℕ} {body : ℕ} → ps ≡ take c (drop done places)
+    → body ≡ e .first + (24 * (at / m) + at * h .width) + 24
+    → mid ≡ blit (e .first + (24 * (at / m) + at * h .width)) (startOf kind m (e .records) (h .width) at) out
+    → last ≡ blit body (cells s (h .group) (h .channel) (recordsAt s (h .length) ps)) mid
+    → SoFar s size e i places (at + c) out₀ last
 so-far-turn k i places at done c out₀ out t as' z l o a {ps} {mid} {last} p b x y d =
     extends-then _ _ _ _ _ _ _ _ (t d) (due-extends k d at done c as' z l out o a {ps = ps} {mid = mid} {last = last} p x (rw (← b) y))
 
 pub so-far-all : (s : List ℕ) (size : ℕ) (e : Entry) (i : ℕ) (places : List ℕ) (at : ℕ) (out₀ out : List ℕ)
-  → SoFar s size e i places at out₀ out → at ≡ i + length places → PutColumn s size e i places out₀ out
+    → SoFar s size e i places at out₀ out → at ≡ i + length places → PutColumn s size e i places out₀ out
 so-far-all s size e i places at out₀ out t p d = rw (← p) (t d)
 
 -- ---- a record that begins at a cursor
@@ -618,10 +622,10 @@ within-drop {r} {rest} i rs e l =
 
 pub joined-extends : {s : List ℕ} {size : ℕ} {e : Entry} {h : Shape} {kind m : ℕ} (k : Held s size e h kind m) (i : ℕ) (ws : List ℕ) (b : Cursor)
     (out : List ℕ) {mid last : List ℕ} {body : ℕ}
-  → body ≡ e .first + (24 * (i / m) + i * h .width) + 24
-  → mid ≡ blit (e .first + (24 * (i / m) + i * h .width)) (startOf kind m (e .records) (h .width) i) out
-  → last ≡ blit body (cell s (h .group) (h .channel) (take (h .length) (joined s (ahead ws b)))) mid
-  → PutJoined s size e i ws b out last
+    → body ≡ e .first + (24 * (i / m) + i * h .width) + 24
+    → mid ≡ blit (e .first + (24 * (i / m) + i * h .width)) (startOf kind m (e .records) (h .width) i) out
+    → last ≡ blit body (cell s (h .group) (h .channel) (take (h .length) (joined s (ahead ws b)))) mid
+    → PutJoined s size e i ws b out last
 unfolding cells
 joined-extends {s} {size} {e} {h} {kind} {m} k i ws b out {mid} {last} at x y d =
     let r : List ℕ = take (h .length) (joined s (ahead ws b)) in
@@ -637,7 +641,7 @@ module _ {s : List ℕ} {size : ℕ} {e : Entry} {h : Shape} {kind m : ℕ} (k :
   joined-within = within-drop i (d .rs) (d .are) (d .ready .many)
 
   pub joined-room : (h .length ≤ sizeOf (ahead ws b))
-    × (e .first + (24 * (i / m) + i * h .width) + 24 + width s (h .group) (h .channel) ≤ room)
+      × (e .first + (24 * (i / m) + i * h .width) + 24 + width s (h .group) (h .channel) ≤ room)
   joined-room =
       let l = joined-within in
       let r = held-room k (d .ready) i l in
@@ -655,7 +659,7 @@ module _ (kind m n w i : ℕ) (place : ℕ) (out : List ℕ) where
   start-none h = rw (sym (eq-no (i % m) 0 (header kind (24 + min m (n - i) * w) 0) [] (λ z. omega arith) refl))
 
   pub start-header : i % m ≡ 0 → {count : ℕ} {last : List ℕ} → count ≡ min m (n - i) → last ≡ blit place (header kind (24 + count * w) 0) out
-    → last ≡ blit place (startOf kind m n w i) out
+      → last ≡ blit place (startOf kind m n w i) out
   unfolding startOf
   start-header z {count} {last} c e =
       let q : header kind (24 + min m (n - i) * w) 0 ≡ startOf kind m n w i = eq-yes _ _ _ _ z refl in

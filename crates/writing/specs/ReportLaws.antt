@@ -44,8 +44,8 @@ groups-from s w i zero d g = refl
 groups-from s w i (suc n) d g = go (getD w (1536 + i) 0) refl (λ a b. groups-from s w (i + 1) n a b)
   where
     go : (m : ℕ) → getD w (1536 + i) 0 ≡ m
-      → ((a b : ℕ) → sumOf (groupAt s w) (i + 1) n ≡ sourceGroupsOf s (flat w a b (itemsFrom w (i + 1) n)))
-      → ifEq (getD w (1536 + i) 0) 1 (pick (isStorage s (getD w i 0)) 0 1) 0 + sumOf (groupAt s w) (i + 1) n
+        → ((a b : ℕ) → sumOf (groupAt s w) (i + 1) n ≡ sourceGroupsOf s (flat w a b (itemsFrom w (i + 1) n)))
+        → ifEq (getD w (1536 + i) 0) 1 (pick (isStorage s (getD w i 0)) 0 1) 0 + sumOf (groupAt s w) (i + 1) n
         ≡ sourceGroupsOf s (flat w d g (item (getD w (1536 + i) 0) (getD w i 0) ∷ itemsFrom w (i + 1) n))
     go zero e r =
         rw (e, item-cn 0 (getD w i 0) refl, not-counted s (getD w i 0) 0 (λ z. omega (arith, z)), zero-add) (r d g)
@@ -99,7 +99,7 @@ module _ (s : List ℕ) (size : ℕ) (w : List ℕ) where
 
   -- no column has too many blocks
   pub blocks-few : (m k : ℕ) (cs : List Column) → Stand w m k cs → ((c : Column) → In c cs → columnBlocks s size c ≤ 4294967295)
-    → (i : ℕ) → i < length cs → dataBlocksAt s size w (k + i) ≤ 4294967295
+      → (i : ℕ) → i < length cs → dataBlocksAt s size w (k + i) ≤ 4294967295
   blocks-few m k [] h f i l = absurd (omega arith)
   blocks-few m k (c ∷ cs) h f zero l =
       let e : k + 0 ≡ k = omega arith in

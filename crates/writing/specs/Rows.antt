@@ -63,7 +63,7 @@ pub record RowAt (s : List ℕ) (d : ℕ) (gs ws : List ℕ) (k b : Cursor) (j m
   pub group : first .group ≡ j
   pub bytes : first .bytes ≡ take m (joined s (ahead ws b))
   pub next : (r : Cursor) → ahead ws r ≡ past m (ahead ws b)
-    → (rowsFrom s d gs ws k ≡ first ∷ rowsFrom s d gs ws r) × Flowing s d gs ws r
+      → (rowsFrom s d gs ws k ≡ first ∷ rowsFrom s d gs ws r) × Flowing s d gs ws r
 
 -- the first n records from k on have these numbers of groups and places, and r is past them
 pub record Gathered (s : List ℕ) (d : ℕ) (gs ws : List ℕ) (k r : Cursor) (n : ℕ) (numbers places : List ℕ) : Type 0 where

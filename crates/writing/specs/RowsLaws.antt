@@ -72,7 +72,8 @@ unfolding ahead
 settling-on-found {ws} {c} {k} t l =
     record {
       settled = λ p. record { is = sym (settled-some (here ws k) (later ws (k .at)) l) ∙ t .rest; some = p };
-      ended = λ e. absurd (omega arith) }
+      ended = λ e. absurd (omega arith);
+    }
 
 pub settling-on-ended : {ws : List ℕ} {c k : Cursor} → SettlingOn ws c k → k .left ≡ 0 → length ws < k .at + 3 → Onward ws c k
 unfolding ahead sizeOf
@@ -81,7 +82,8 @@ settling-on-ended {ws} {c} {k} t z h =
     let b : sizeOf (here ws k ∷ later ws (k .at)) ≡ 0 = omega arith in
     record {
       settled = λ p. absurd (omega arith);
-      ended = λ e. sym (size-settled (ahead ws c)) ∙ ap sizeOf (sym (t .rest)) ∙ size-settled (ahead ws k) ∙ b }
+      ended = λ e. sym (size-settled (ahead ws c)) ∙ ap sizeOf (sym (t .rest)) ∙ size-settled (ahead ws k) ∙ b;
+    }
 
 -- ---- the records by the number of groups
 module _ (s : List ℕ) (d : ℕ) (gs ws : List ℕ) (k : Cursor) where
@@ -90,13 +92,13 @@ module _ (s : List ℕ) (d : ℕ) (gs ws : List ℕ) (k : Cursor) where
   rows-alone e = sym (eq-yes _ _ _ _ e refl)
 
   rows-several : (length gs ≡ 1 → ⊥)
-    → rowsFrom s d gs ws k ≡ framesIn (length (joined s (ahead ws k))) s (idSize s d) gs (joined s (ahead ws k))
+      → rowsFrom s d gs ws k ≡ framesIn (length (joined s (ahead ws k))) s (idSize s d) gs (joined s (ahead ws k))
   unfolding rowsFrom
   rows-several e = sym (eq-no _ _ _ _ e refl)
 
   -- the records read are those
   pub rows-read : {rs : List Frame} → (length gs ≡ 1 → ⊥) → 0 < idSize s d → Read s (idSize s d) gs (joined s (ahead ws k)) rs
-    → rowsFrom s d gs ws k ≡ rs
+      → rowsFrom s d gs ws k ≡ rs
   rows-read o z r = rows-several o ∙ read-is z (length (joined s (ahead ws k))) r (omega arith)
 
 -- ---- past fragments without bytes
@@ -105,7 +107,7 @@ unfolding rowsFrom
 rows-settled s d gs {ws} {c} {a} t =
     let g : ℕ = getD gs 0 0 in
     let x : sortedRecords s d g (runs (ahead ws a)) ≡ sortedRecords s d g (runs (ahead ws c)) =
-        ap (λ (fs : List Fragment). sortedRecords s d g (runs fs)) (t .is) ∙ records-settled s d g (ahead ws c) in
+    ap (λ (fs : List Fragment). sortedRecords s d g (runs fs)) (t .is) ∙ records-settled s d g (ahead ws c) in
     let y : joined s (ahead ws a) ≡ joined s (ahead ws c) = ap (joined s) (t .is) ∙ joined-settled s (ahead ws c) in
     rw (x, y)
 
@@ -116,7 +118,8 @@ flowing-settled {s} {d} {gs} {ws} {c} {a} t f =
     record {
       ranges = rw (t .is) (ranges-settled s (ahead ws c) (f .ranges));
       alone = λ e. (rw (t .is) (whole-settled s d g (ahead ws c) (f .alone e .0)), f .alone e .1);
-      several = λ o. (f .several o .0, rw (t .is, size-settled (ahead ws c)) (f .several o .1), rw y (f .several o .2)) }
+      several = λ o. (f .several o .0, rw (t .is, size-settled (ahead ws c)) (f .several o .1), rw y (f .several o .2));
+    }
 
 -- ---- no bytes, no records
 either : {A : Type 0} (m n : ℕ) (a : A) → ifEq m n a a ≡ a
@@ -158,7 +161,7 @@ size-none = refl
 pub start-words : (ws : List ℕ) → 0 < sizeOf (fragmentsOf ws) → 3 ≤ length ws
 start-words ws h =
     ⊎-elim (λ l. let e : sizeOf (fragmentsOf ws) ≡ 0 = ap sizeOf (later-all ws ∙ later-none ws 0 (omega arith)) ∙ size-none
-        in absurd (omega arith)) (λ l. l)
+    in absurd (omega arith)) (λ l. l)
     (lt-or-le (length ws) 3)
 
 start-ahead : (ws : List ℕ) → 3 ≤ length ws → ahead ws (nextOf ws start) ≡ fragmentsOf ws
@@ -170,30 +173,34 @@ module _ (s : List ℕ) (d : ℕ) (gs ws : List ℕ) {k : Cursor} (b : k ≡ nex
   at-start = ap (ahead ws) b ∙ start-ahead ws w
 
   pub rows-start-alone : (g : ℕ) → length gs ≡ 1 → getD gs 0 0 ≡ g → sortedIn s d g (fragmentsOf ws) ≡ fine → 0 < samples s g + invalBytes s g
-    → Flowing s d gs ws k × (rowsFrom s d gs ws k ≡ aloneRows (sortedRecords s d g (runs (fragmentsOf ws))))
+      → Flowing s d gs ws k × (rowsFrom s d gs ws k ≡ aloneRows (sortedRecords s d g (runs (fragmentsOf ws))))
   rows-start-alone g one e v z =
       let fs : List Fragment = fragmentsOf ws in
-      let a = at-start in
-      (record {
-         ranges = rw a (sorted-ranges s d g fs v);
-         alone = λ _. (rw (a, e) (whole-sorted s d g fs z v), rw e z);
-         several = λ o. absurd (o one) },
-       rows-alone s d gs ws k one ∙ rw (a, e))
+      let a = at-start in (
+        record {
+          ranges = rw a (sorted-ranges s d g fs v);
+          alone = λ _. (rw (a, e) (whole-sorted s d g fs z v), rw e z);
+          several = λ o. absurd (o one);
+        },
+        rows-alone s d gs ws k one ∙ rw (a, e),
+      )
 
   pub rows-start-several : {rs : List Frame} → (length gs ≡ 1 → ⊥) → unsortedFrames s d gs (fragmentsOf ws) ≡ ok rs
-    → Flowing s d gs ws k × (rowsFrom s d gs ws k ≡ rs)
+      → Flowing s d gs ws k × (rowsFrom s d gs ws k ≡ rs)
   rows-start-several {rs} o e =
       let fs : List Fragment = fragmentsOf ws in
       let a = at-start in
       let v = unsorted-several s d gs fs e in
       let u = unsorted-frames s d gs fs e in
       let r : Read s (idSize s d) gs (joined s fs) rs = frames-read s (idSize s d) gs fs (v .ids) (u .1) in
-      let r' : Read s (idSize s d) gs (joined s (ahead ws k)) rs = rw a r in
-      (record {
-         ranges = rw a (v .ranges);
-         alone = λ one. absurd (o one);
-         several = λ _. (v .ids, rw a (u .0), record { frames = rs; read = r'; known = v .known }) },
-       rows-read s d gs ws k o (v .ids) r')
+      let r' : Read s (idSize s d) gs (joined s (ahead ws k)) rs = rw a r in (
+        record {
+          ranges = rw a (v .ranges);
+          alone = λ one. absurd (o one);
+          several = λ _. (v .ids, rw a (u .0), record { frames = rs; read = r'; known = v .known });
+        },
+        rows-read s d gs ws k o (v .ids) r',
+      )
 
 -- ---- the first record: n id bytes, then its m own
 pub record FirstRow (s : List ℕ) (d : ℕ) (gs ws : List ℕ) (k : Cursor) (n j m : ℕ) : Type 0 where
@@ -204,14 +211,14 @@ pub record FirstRow (s : List ℕ) (d : ℕ) (gs ws : List ℕ) (k : Cursor) (n 
   pub group : first .group ≡ j
   pub bytes : first .bytes ≡ part n m (joined s (ahead ws k))
   pub next : (r : Cursor) → ahead ws r ≡ past (n + m) (ahead ws k)
-    → (rowsFrom s d gs ws k ≡ first ∷ rowsFrom s d gs ws r) × Flowing s d gs ws r
+      → (rowsFrom s d gs ws k ≡ first ∷ rowsFrom s d gs ws r) × Flowing s d gs ws r
 
 pub row-room : {s : List ℕ} {d : ℕ} {gs ws : List ℕ} {k : Cursor} {n j m : ℕ} → FirstRow s d gs ws k n j m
-  → (rangesIn s (ahead ws k) ≡ fine) × (n ≤ sizeOf (ahead ws k))
+    → (rangesIn s (ahead ws k) ≡ fine) × (n ≤ sizeOf (ahead ws k))
 row-room t = let l = t .enough in (t .ranges, omega arith)
 
 pub row-past : {s : List ℕ} {d : ℕ} {gs ws : List ℕ} {k b : Cursor} {n j m : ℕ} → FirstRow s d gs ws k n j m
-  → ahead ws b ≡ past n (ahead ws k) → RowAt s d gs ws k b j m
+    → ahead ws b ≡ past n (ahead ws k) → RowAt s d gs ws k b j m
 unfolding part
 row-past {s} {d} {gs} {ws} {k} {b} {n} {j} {m} t e =
     let l = t .enough in
@@ -224,7 +231,8 @@ row-past {s} {d} {gs} {ws} {k} {b} {n} {j} {m} t e =
       first = t .first;
       group = t .group;
       bytes = t .bytes ∙ ap (take m) (sym y);
-      next = λ r q. t .next r (q ∙ ap (past m) e ∙ past-past m n (ahead ws k)) }
+      next = λ r q. t .next r (q ∙ ap (past m) e ∙ past-past m n (ahead ws k));
+    }
 
 -- ---- of the only group
 id-by : (s : List ℕ) (d : ℕ) (k : Kind) → idBytes s d k ≡ idIn k (idSize s d)
@@ -232,7 +240,7 @@ id-by s d dt = refl
 id-by s d dv = refl
 
 first-ahead : (s ws : List ℕ) (d g : ℕ) (k : Cursor) → Whole s d g (runs (ahead ws k)) → rangesIn s (ahead ws k) ≡ fine
-  → 0 < samples s g + invalBytes s g → 0 < k .left → FirstRecord s d g (kindOf (getD ws (k .at - 1) 0)) (ahead ws k)
+    → 0 < samples s g + invalBytes s g → 0 < k .left → FirstRecord s d g (kindOf (getD ws (k .at - 1) 0)) (ahead ws k)
 unfolding ahead
 first-ahead s ws d g k v r l z = first-record s d g (here ws k) (later ws (k .at)) v r l z
 
@@ -241,7 +249,7 @@ unfolding aloneRows
 alone-cons r rs = refl
 
 pub alone-first : {s gs ws : List ℕ} {k : Cursor} {z : Sizes} {n : ℕ} → SizesOf s gs z → Flowing s (z .parent) gs ws k → 0 < k .left
-  → length gs ≡ 1 → n ≡ idIn (kindOf (getD ws (k .at - 1) 0)) (z .id) → FirstRow s (z .parent) gs ws k n 0 (z .length)
+    → length gs ≡ 1 → n ≡ idIn (kindOf (getD ws (k .at - 1) 0)) (z .id) → FirstRow s (z .parent) gs ws k n 0 (z .length)
 alone-first {s} {gs} {ws} {k} {z} {n} q f l one e =
     let d : ℕ = z .parent in
     let g : ℕ = getD gs 0 0 in
@@ -265,12 +273,15 @@ alone-first {s} {gs} {ws} {k} {z} {n} q f l one e =
       bytes = refl;
       next = λ b p. (
         rows-alone s d gs ws k one ∙ ap aloneRows is ∙ alone-cons r (sortedRecords s d g (runs (past (n + m) fs)))
-        ∙ ap (λ (x : List Fragment). a ∷ aloneRows (sortedRecords s d g (runs x))) (sym p)
-        ∙ ap (λ (x : List Frame). a ∷ x) (sym (rows-alone s d gs ws b one)),
+            ∙ ap (λ (x : List Fragment). a ∷ aloneRows (sortedRecords s d g (runs x))) (sym p)
+            ∙ ap (λ (x : List Frame). a ∷ x) (sym (rows-alone s d gs ws b one)),
         record {
           ranges = rw p (ranges-past s (n + m) fs (f .ranges));
           alone = λ _. (rw p v, w .1);
-          several = λ o. absurd (o one) }) }
+          several = λ o. absurd (o one);
+        },
+      );
+    }
 
 -- ---- of one of several groups
 record OneFrame (s : List ℕ) (n : ℕ) (gs l : List ℕ) : Type 0 where
@@ -321,11 +332,11 @@ module _ (s : List ℕ) (n : ℕ) (gs ws : List ℕ) (k : Cursor) {v : Frame} (r
   unfolding stepAt
   step-is {j} {m} {x} {p} {l} q =
       let y : stepped j m (records.ahead s ws (x .at) p l) ≡ stepAt s n gs (records.ahead s ws (k .at) (k .position) (k .left)) =
-          sym (ap (steppedOf s ws) q) ∙ e in
+      sym (ap (steppedOf s ws) q) ∙ e in
       go (skip (v .size) (records.ahead s ws (k .at) (k .position) (k .left))) (rw same-frame at y)
     where
       go : (o : Skipped) → stepped j m (records.ahead s ws (x .at) p l) ≡ records.past o (v .group) (v .size - n)
-        → (v .group ≡ j) × (v .size - n ≡ m)
+          → (v .group ≡ j) × (v .size - n ≡ m)
       go short y = absurd (stuck≢stepped (sym y))
       go (onto bs) y = same-step (sym y)
 
@@ -338,7 +349,7 @@ module _ {s : List ℕ} {d : ℕ} {gs ws : List ℕ} {k : Cursor} (f : Flowing s
 
   -- past it
   frame-next : (m : ℕ) → frame-here .frame .size ≡ idSize s d + m → (r : Cursor) → ahead ws r ≡ past (idSize s d + m) (ahead ws k)
-    → (rowsFrom s d gs ws k ≡ frame-here .frame ∷ rowsFrom s d gs ws r) × Flowing s d gs ws r
+      → (rowsFrom s d gs ws k ≡ frame-here .frame ∷ rowsFrom s d gs ws r) × Flowing s d gs ws r
   frame-next m e r q =
       let t = frame-here in
       let n : ℕ = idSize s d + m in
@@ -347,12 +358,14 @@ module _ {s : List ℕ} {d : ℕ} {gs ws : List ℕ} {k : Cursor} (f : Flowing s
       let i = frame-fits s (idSize s d) gs (joined s (ahead ws k)) (t .is) .within in
       let h = joined-length s (ahead ws k) (f .ranges) in
       let z : sizeOf (past n (ahead ws k)) ≡ sizeOf (ahead ws k) - n = size-past n (ahead ws k) (omega (arith, e, i, h)) in
-      let v : Read s (idSize s d) gs (joined s (ahead ws r)) (t .rest) = rw (y, ← e) (t .read) in
-      (rows-read s d gs ws k o (w .0) (t .all) ∙ ap (λ (x : List Frame). t .frame ∷ x) (sym (rows-read s d gs ws r o (w .0) v)),
-       record {
-         ranges = rw q (ranges-past s n (ahead ws k) (f .ranges));
-         alone = λ one. absurd (o one);
-         several = λ _. (w .0, rw (q, z) (omega (arith, w .1)), record { frames = t .rest; read = v; known = t .known }) })
+      let v : Read s (idSize s d) gs (joined s (ahead ws r)) (t .rest) = rw (y, ← e) (t .read) in (
+        rows-read s d gs ws k o (w .0) (t .all) ∙ ap (λ (x : List Frame). t .frame ∷ x) (sym (rows-read s d gs ws r o (w .0) v)),
+        record {
+          ranges = rw q (ranges-past s n (ahead ws k) (f .ranges));
+          alone = λ one. absurd (o one);
+          several = λ _. (w .0, rw (q, z) (omega (arith, w .1)), record { frames = t .rest; read = v; known = t .known });
+        },
+      )
 
   module _ (n : ℕ) (id : n ≡ idSize s d) (r : Step) (e : steppedOf s ws r ≡ stepAt s n gs (records.ahead s ws (k .at) (k .position) (k .left))) where
     own-step : steppedOf s ws r ≡ stepAt s (idSize s d) gs (records.ahead s ws (k .at) (k .position) (k .left))
@@ -379,12 +392,13 @@ module _ {s : List ℕ} {d : ℕ} {gs ws : List ℕ} {k : Cursor} (f : Flowing s
           first = t .frame;
           group = a .0;
           bytes = b .bytes ∙ ap (λ (i : ℕ). part (idSize s d) i (joined s (ahead ws k))) c ∙ rw id;
-          next = λ v w. frame-next m u v (w ∙ ap (λ (i : ℕ). past (i + m) (ahead ws k)) id) }
+          next = λ v w. frame-next m u v (w ∙ ap (λ (i : ℕ). past (i + m) (ahead ws k)) id);
+        }
 
 -- ---- a tile, one record longer
 tile-snoc : {s : List ℕ} {rs : List Frame} {ns ps : List ℕ} (r : Frame) (n p : ℕ) → TileOf s rs ns ps → r .group ≡ n
-  → r .bytes ≡ part p (length (r .bytes)) s → p + length (r .bytes) ≤ length s
-  → TileOf s (rs ++ (r ∷ [])) (ns ++ (n ∷ [])) (ps ++ (p ∷ []))
+    → r .bytes ≡ part p (length (r .bytes)) s → p + length (r .bytes) ≤ length s
+    → TileOf s (rs ++ (r ∷ [])) (ns ++ (n ∷ [])) (ps ++ (p ∷ []))
 tile-snoc r n p TileOf.none a b c = TileOf.more n p a b c TileOf.none
 tile-snoc r n p (TileOf.more m q x y z t) a b c = TileOf.more m q x y z (tile-snoc r n p t a b c)
 
@@ -394,12 +408,12 @@ take-set (y ∷ l) zero x h = refl
 take-set (y ∷ l) (suc i) x h = ap (λ (z : List ℕ). y ∷ z) (take-set l i x (omega arith))
 
 pub gathered-none : {s : List ℕ} {d : ℕ} {gs ws : List ℕ} {k : Cursor} {numbers places : List ℕ} → Flowing s d gs ws k
-  → Gathered s d gs ws k k 0 numbers places
+    → Gathered s d gs ws k k 0 numbers places
 gathered-none f = record { fewer = omega arith; few = omega arith; rows = []; tile = TileOf.none; is = refl; going = f }
 
 pub gathered-more : {s : List ℕ} {d : ℕ} {gs ws : List ℕ} {k c a b : Cursor} {n j m : ℕ} {numbers places : List ℕ}
-  → Gathered s d gs ws k c n numbers places → Settled ws c a → RowAt s d gs ws a b j m → m ≤ b .left → n < length numbers → n < length places
-  → Gathered s d gs ws k (moved b m) (n + 1) (set numbers n j) (set places n (b .position))
+    → Gathered s d gs ws k c n numbers places → Settled ws c a → RowAt s d gs ws a b j m → m ≤ b .left → n < length numbers → n < length places
+    → Gathered s d gs ws k (moved b m) (n + 1) (set numbers n j) (set places n (b .position))
 gathered-more {s} {d} {gs} {ws} {k} {c} {a} {b} {n} {j} {m} {numbers} {places} t u r l h i =
     let x = r .next (moved b m) (sym (past-here ws b m l)) in
     let e = r .enough in
@@ -407,15 +421,16 @@ gathered-more {s} {d} {gs} {ws} {k} {c} {a} {b} {n} {j} {m} {numbers} {places} t
     let o : length (joined s (ahead ws b)) ≡ sizeOf (ahead ws b) = joined-length s (ahead ws b) (r .ranges) in
     let w : length (r .first .bytes) ≡ m = ap length (r .bytes) ∙ length-take-le m (joined s (ahead ws b)) (omega arith) in
     let y : r .first .bytes ≡ part (b .position) (length (r .first .bytes)) s =
-        r .bytes ∙ take-here s ws b m (r .ranges) l ∙ ap (λ (v : ℕ). part (b .position) v s) (sym w) in
+    r .bytes ∙ take-here s ws b m (r .ranges) l ∙ ap (λ (v : ℕ). part (b .position) v s) (sym w) in
     let v : n + 1 ≡ suc n = omega arith in
     let q : TileOf s (t .rows ++ (r .first ∷ [])) (take n numbers ++ (j ∷ [])) (take n places ++ (b .position ∷ [])) =
-        tile-snoc (r .first) j (b .position) (t .tile) (r .group) y (omega arith) in
+    tile-snoc (r .first) j (b .position) (t .tile) (r .group) y (omega arith) in
     record {
       fewer = simp length-set (omega arith);
       few = simp length-set (omega arith);
       rows = t .rows ++ (r .first ∷ []);
       tile = rw (v, take-set numbers n j h, take-set places n (b .position) i) q;
       is = t .is ∙ ap (λ (p : List Frame). t .rows ++ p) (rows-settled s d gs u ∙ x .0)
-        ∙ sym (append-assoc (t .rows) (r .first ∷ []) (rowsFrom s d gs ws (moved b m)));
-      going = x .1 }
+          ∙ sym (append-assoc (t .rows) (r .first ∷ []) (rowsFrom s d gs ws (moved b m)));
+      going = x .1;
+    }

@@ -97,15 +97,17 @@ runs-lead f (e ∷ fs) = go (same (f .kind) (e .kind)) refl (runs-lead e fs)
   where
     r : Run
     r = run (e .kind) (e ∷ lead (e .kind) fs)
+
     rs : List Run
     rs = runs (others (e .kind) fs)
+
     go : (t : Bool) → same (f .kind) (e .kind) ≡ t → runs (e ∷ fs) ≡ r ∷ rs
-      → inFront f (runs (e ∷ fs)) ≡ run (f .kind) (f ∷ lead (f .kind) (e ∷ fs)) ∷ runs (others (f .kind) (e ∷ fs))
+        → inFront f (runs (e ∷ fs)) ≡ run (f .kind) (f ∷ lead (f .kind) (e ∷ fs)) ∷ runs (others (f .kind) (e ∷ fs))
     go true q ih =
         let k : e .kind ≡ f .kind = sym (same-kind (f .kind) (e .kind) q) in
         let a : inFront f (runs (e ∷ fs)) ≡ run (e .kind) (f ∷ e ∷ lead (e .kind) fs) ∷ rs = ap (inFront f) ih ∙ front-same f r rs q in
         let b : run (e .kind) (f ∷ e ∷ lead (e .kind) fs) ∷ rs ≡ run (f .kind) (f ∷ e ∷ lead (f .kind) fs) ∷ runs (others (f .kind) fs) =
-            ap (λ (j : Kind). run j (f ∷ e ∷ lead j fs) ∷ runs (others j fs)) k in
+        ap (λ (j : Kind). run j (f ∷ e ∷ lead j fs) ∷ runs (others j fs)) k in
         a ∙ b ∙ rw (lead-same (f .kind) e fs q, others-same (f .kind) e fs q)
     go false q ih =
         ap (inFront f) ih ∙ front-apart f r rs q ∙ ap (λ (x : List Run). run (f .kind) (f ∷ []) ∷ x) (sym ih)
@@ -123,7 +125,7 @@ module _ (k : Kind) where
   joined-lead s (f ∷ fs) = go (same k (f .kind)) refl (joined-lead s fs)
     where
       go : (t : Bool) → same k (f .kind) ≡ t → joined s fs ≡ joined s (lead k fs) ++ joined s (others k fs)
-        → part (f .offset) (f .size) s ++ joined s fs ≡ joined s (lead k (f ∷ fs)) ++ joined s (others k (f ∷ fs))
+          → part (f .offset) (f .size) s ++ joined s fs ≡ joined s (lead k (f ∷ fs)) ++ joined s (others k (f ∷ fs))
       go true q ih = rw q (ap (λ (x : List ℕ). part (f .offset) (f .size) s ++ x) ih ∙
           sym (append-assoc (part (f .offset) (f .size) s) (joined s (lead k fs)) (joined s (others k fs))))
       go false q ih = rw q
@@ -155,12 +157,12 @@ unfolding sizeOf lead
 beyond-none k m f b l = omega arith
 
 beyond-apart : (k : Kind) (m : ℕ) (f g : Fragment) (gs : List Fragment) → m ≤ sizeOf (f ∷ lead k (g ∷ gs)) → f .size < m
-  → same k (g .kind) ≡ false → ⊥
+    → same k (g .kind) ≡ false → ⊥
 unfolding sizeOf lead
 beyond-apart k m f g gs b l q = let c : m ≤ f .size + 0 = rw q at b in omega arith
 
 beyond-some : (k : Kind) (m : ℕ) (f g : Fragment) (gs : List Fragment) → m ≤ sizeOf (f ∷ lead k (g ∷ gs)) → same k (g .kind) ≡ true
-  → m - f .size ≤ sizeOf (g ∷ lead k gs)
+    → m - f .size ≤ sizeOf (g ∷ lead k gs)
 unfolding sizeOf lead
 beyond-some k m f g gs b q = let c : m ≤ f .size + (g .size + sizeOf (lead k gs)) = rw q at b in omega arith
 
@@ -168,31 +170,33 @@ past-lead : (k : Kind) (m : ℕ) (f : Fragment) (fs : List Fragment) → f .kind
 past-lead k m f [] e h = ⊎-elim (λ l. absurd (beyond-none k m f h l)) (λ l. within k m f [] e l) (lt-or-le (f .size) m)
 past-lead k m f (g ∷ gs) e h =
     ⊎-elim (λ l. go (same k (g .kind)) refl l (λ a b. past-lead k (m - f .size) g gs a b)) (λ l. within k m f (g ∷ gs) e l)
-        (lt-or-le (f .size) m)
+    (lt-or-le (f .size) m)
   where
     go : (t : Bool) → same k (g .kind) ≡ t → f .size < m →
         (g .kind ≡ k → m - f .size ≤ sizeOf (g ∷ lead k gs) → PastLead k (m - f .size) g gs)
-      → PastLead k m f (g ∷ gs)
+        → PastLead k m f (g ∷ gs)
     go true q l ih =
         let p = ih (sym (same-kind k (g .kind) q)) (beyond-some k m f g gs h q) in
         record {
-          head = p .head; tail = p .tail;
+          head = p .head;
+          tail = p .tail;
           is = past-on m f (g ∷ gs) l ∙ p .is;
           kind = p .kind;
           run-is = p .run-is ∙ sym (rw (lead-same k g gs q) (past-on m f (g ∷ lead k gs) l));
-          after-is = p .after-is ∙ sym (others-same k g gs q) }
+          after-is = p .after-is ∙ sym (others-same k g gs q);
+        }
     go false q l ih = absurd (beyond-apart k m f g gs h l q)
 
 runs-past : (m : ℕ) (f : Fragment) (fs : List Fragment) → m ≤ sizeOf (f ∷ lead (f .kind) fs)
-  → runs (past m (f ∷ fs)) ≡ run (f .kind) (past m (f ∷ lead (f .kind) fs)) ∷ runs (others (f .kind) fs)
+    → runs (past m (f ∷ fs)) ≡ run (f .kind) (past m (f ∷ lead (f .kind) fs)) ∷ runs (others (f .kind) fs)
 runs-past m f fs h =
     let p = past-lead (f .kind) m f fs refl h in
     let a : runs (past m (f ∷ fs)) ≡ run (p .head .kind) (p .head ∷ lead (p .head .kind) (p .tail)) ∷ runs
-        (others (p .head .kind) (p .tail)) =
-        ap runs (p .is) ∙ runs-lead (p .head) (p .tail) in
+    (others (p .head .kind) (p .tail)) =
+    ap runs (p .is) ∙ runs-lead (p .head) (p .tail) in
     let b : run (p .head .kind) (p .head ∷ lead (p .head .kind) (p .tail)) ∷ runs (others (p .head .kind) (p .tail))
-          ≡ run (f .kind) (p .head ∷ lead (f .kind) (p .tail)) ∷ runs (others (f .kind) (p .tail)) =
-        ap (λ (k : Kind). run k (p .head ∷ lead k (p .tail)) ∷ runs (others k (p .tail))) (p .kind) in
+    ≡ run (f .kind) (p .head ∷ lead (f .kind) (p .tail)) ∷ runs (others (f .kind) (p .tail)) =
+    ap (λ (k : Kind). run k (p .head ∷ lead k (p .tail)) ∷ runs (others k (p .tail))) (p .kind) in
     a ∙ b ∙ rw (p .run-is, p .after-is)
 
 -- ---- the first record of a run
@@ -204,8 +208,8 @@ pieces-first n z l h k =
 
 run-first : (s : List ℕ) (d g : ℕ) (k : Kind) (fs : List Fragment) → 0 < recordSize s d g k → recordSize s d g k ≤ sizeOf fs → rangesIn s
     fs ≡ fine
-  → runRecords s d g (run k fs)
-  ≡ drop (idBytes s d k) (take (recordSize s d g k) (joined s fs)) ∷ runRecords s d g (run k (past (recordSize s d g k) fs))
+    → runRecords s d g (run k fs)
+    ≡ drop (idBytes s d k) (take (recordSize s d g k) (joined s fs)) ∷ runRecords s d g (run k (past (recordSize s d g k) fs))
 unfolding runRecords withoutIds
 run-first s d g k fs h l r =
     let n : ℕ = recordSize s d g k in
@@ -215,7 +219,7 @@ run-first s d g k fs h l r =
 pub data Whole (s : List ℕ) (d g : ℕ) : List Run → Type 0 where
   end : Whole s d g []
   more : {r : Run} {rs : List Run} → sizeOf (r .fragments) % recordSize s d g (r .kind) ≡ 0
-    → recordSize s d g (r .kind) ≡ idBytes s d (r .kind) + (samples s g + invalBytes s g) → Whole s d g rs → Whole s d g (r ∷ rs)
+      → recordSize s d g (r .kind) ≡ idBytes s d (r .kind) + (samples s g + invalBytes s g) → Whole s d g rs → Whole s d g (r ∷ rs)
 
 record FirstWhole (s : List ℕ) (d g : ℕ) (r : Run) (rs : List Run) : Type 0 where
   divides : sizeOf (r .fragments) % recordSize s d g (r .kind) ≡ 0
@@ -229,8 +233,8 @@ first-whole (more a b w) = record { divides = a; size = b; rest = w }
 pub record FirstRecord (s : List ℕ) (d g : ℕ) (k : Kind) (fs : List Fragment) : Type 0 where
   pub enough : idBytes s d k + (samples s g + invalBytes s g) ≤ sizeOf fs
   pub is : sortedRecords s d g (runs fs)
-    ≡ part (idBytes s d k) (samples s g + invalBytes s g) (joined s fs)
-    ∷ sortedRecords s d g (runs (past (idBytes s d k + (samples s g + invalBytes s g)) fs))
+      ≡ part (idBytes s d k) (samples s g + invalBytes s g) (joined s fs)
+      ∷ sortedRecords s d g (runs (past (idBytes s d k + (samples s g + invalBytes s g)) fs))
   pub whole : Whole s d g (runs (past (idBytes s d k + (samples s g + invalBytes s g)) fs))
 
 divided : (z n : ℕ) → z % n ≡ 0 → 0 < z → n ≤ z
@@ -262,7 +266,7 @@ unfolding joined
 joined-cons s f fs = refl
 
 pub first-record : (s : List ℕ) (d g : ℕ) (f : Fragment) (fs : List Fragment) → Whole s d g (runs (f ∷ fs)) → rangesIn s (f ∷ fs) ≡ fine
-  → 0 < samples s g + invalBytes s g → 0 < f .size → FirstRecord s d g (f .kind) (f ∷ fs)
+    → 0 < samples s g + invalBytes s g → 0 < f .size → FirstRecord s d g (f .kind) (f ∷ fs)
 first-record s d g f fs w r h z =
     let k : Kind = f .kind in
     let id : ℕ = idBytes s d k in
@@ -278,13 +282,13 @@ first-record s d g f fs w r h z =
     let l : id + len ≤ sizeOf own = divided (sizeOf own) (id + len) dv (omega arith) in
     let ro : rangesIn s own ≡ fine = ranges-cons s f (lead k fs) (ranges-head s f fs r) (ranges-lead k s fs (ranges-tail s f fs r)) in
     let one : runRecords s d g (run k own) ≡ drop id (take (id + len) (joined s own)) ∷ runRecords s d g (run k (past (id + len) own)) =
-        rw n at (run-first s d g k own (rw n (omega arith)) (rw n l) ro) in
+    rw n at (run-first s d g k own (rw n (omega arith)) (rw n l) ro) in
     let all : joined s (f ∷ fs) ≡ joined s own ++ joined s rest =
-        joined-cons s f fs ∙ ap (λ (x : List ℕ). part (f .offset) (f .size) s ++ x) (joined-lead k s fs)
-        ∙ sym (append-assoc (part (f .offset) (f .size) s) (joined s (lead k fs)) (joined s rest))
-        ∙ ap (λ (x : List ℕ). x ++ joined s rest) (sym (joined-cons s f (lead k fs))) in
+    joined-cons s f fs ∙ ap (λ (x : List ℕ). part (f .offset) (f .size) s ++ x) (joined-lead k s fs)
+    ∙ sym (append-assoc (part (f .offset) (f .size) s) (joined s (lead k fs)) (joined s rest))
+    ∙ ap (λ (x : List ℕ). x ++ joined s rest) (sym (joined-cons s f (lead k fs))) in
     let tk : take (id + len) (joined s own) ≡ take (id + len) (joined s (f ∷ fs)) =
-        sym (ap (take (id + len)) all ∙ take-append-le (id + len) (joined s own) (joined s rest) (rw (joined-length s own ro) l)) in
+    sym (ap (take (id + len)) all ∙ take-append-le (id + len) (joined s own) (joined s rest) (rw (joined-length s own ro) l)) in
     let after = runs-past (id + len) f fs l in
     let m : (sizeOf own - (id + len)) % (id + len) ≡ 0 = sym (mod-eq-sub-mod l) ∙ dv in
     let ws : sizeOf (past (id + len) own) % recordSize s d g k ≡ 0 = rw (n, size-past (id + len) own l) m in
@@ -292,8 +296,9 @@ first-record s d g f fs w r h z =
     record {
       enough = omega arith;
       is = ap (sortedRecords s d g) (runs-lead f fs) ∙ sorted-cons s d g (run k own) (runs rest)
-        ∙ rw (one, tk, part-drop id len (joined s (f ∷ fs)), after, sorted-cons s d g (run k (past (id + len) own)) (runs rest));
-      whole = rw after wp }
+          ∙ rw (one, tk, part-drop id len (joined s (f ∷ fs)), after, sorted-cons s d g (run k (past (id + len) own)) (runs rest));
+      whole = rw after wp;
+    }
 
 -- ---- a fragment without bytes in front
 data Front (f : Fragment) (fs : List Fragment) : Type 0 where
@@ -309,14 +314,14 @@ front-of f (e ∷ fs) = go (same (f .kind) (e .kind)) refl
     go true q =
         let k : e .kind ≡ f .kind = sym (same-kind (f .kind) (e .kind) q) in
         let a : runs (f ∷ e ∷ fs) ≡ run (f .kind) (f ∷ e ∷ lead (f .kind) fs) ∷ runs (others (f .kind) fs) =
-            runs-lead f (e ∷ fs) ∙ rw (lead-same (f .kind) e fs q, others-same (f .kind) e fs q) in
+        runs-lead f (e ∷ fs) ∙ rw (lead-same (f .kind) e fs q, others-same (f .kind) e fs q) in
         let b : runs (e ∷ fs) ≡ run (f .kind) (e ∷ lead (f .kind) fs) ∷ runs (others (f .kind) fs) =
-            runs-lead e fs ∙ ap (λ (j : Kind). run j (e ∷ lead j fs) ∷ runs (others j fs)) k in
+        runs-lead e fs ∙ ap (λ (j : Kind). run j (e ∷ lead j fs) ∷ runs (others j fs)) k in
         joins (e ∷ lead (f .kind) fs) (runs (others (f .kind) fs)) a b
     go false q = alone (runs-lead f (e ∷ fs) ∙ rw (lead-apart (f .kind) e fs q, others-apart (f .kind) e fs q))
 
 run-zero : (s : List ℕ) (d g : ℕ) (f : Fragment) (xs : List Fragment) → f .size ≡ 0
-  → runRecords s d g (run (f .kind) (f ∷ xs)) ≡ runRecords s d g (run (f .kind) xs)
+    → runRecords s d g (run (f .kind) (f ∷ xs)) ≡ runRecords s d g (run (f .kind) xs)
 unfolding runRecords
 run-zero s d g f xs z =
     let e : sizeOf (f ∷ xs) ≡ sizeOf xs = size-cons f xs ∙ omega arith in
@@ -327,7 +332,7 @@ unfolding runRecords sizeOf pieces withoutIds
 run-none s d g k = rw zero-div
 
 records-zero : (s : List ℕ) (d g : ℕ) (f : Fragment) (fs : List Fragment) → f .size ≡ 0
-  → sortedRecords s d g (runs (f ∷ fs)) ≡ sortedRecords s d g (runs fs)
+    → sortedRecords s d g (runs (f ∷ fs)) ≡ sortedRecords s d g (runs fs)
 unfolding sortedRecords
 records-zero s d g f fs z = go (front-of f fs)
   where
@@ -352,14 +357,14 @@ module _ (s : List ℕ) (d g : ℕ) where
   records-settled [] = refl
   records-settled (f ∷ fs) =
       ⊎-elim (λ z. rw (settled-none f fs z) (records-settled fs ∙ sym (records-zero s d g f fs z))) (λ l. rw (settled-some f fs l))
-          (zero-or-more (f .size))
+      (zero-or-more (f .size))
 
   pub whole-settled : (fs : List Fragment) → Whole s d g (runs fs) → Whole s d g (runs (settled fs))
   unfolding settled
   whole-settled [] w = w
   whole-settled (f ∷ fs) w =
       ⊎-elim (λ z. rw (settled-none f fs z) (whole-settled fs (whole-zero s d g f fs z w))) (λ l. rw (settled-some f fs l) w)
-          (zero-or-more (f .size))
+      (zero-or-more (f .size))
 
   no-records : (fs : List Fragment) → sizeOf fs ≡ 0 → sortedRecords s d g (runs fs) ≡ []
   unfolding sizeOf runs sortedRecords
@@ -370,7 +375,7 @@ module _ (s : List ℕ) (d g : ℕ) where
   pub some-bytes : (fs : List Fragment) → 0 < length (sortedRecords s d g (runs fs)) → 0 < sizeOf fs
   some-bytes fs h =
       ⊎-elim (λ z. let e : length (sortedRecords s d g (runs fs)) ≡ 0 = ap length (no-records fs z) in absurd (omega arith)) (λ l. l)
-          (zero-or-more (sizeOf fs))
+      (zero-or-more (sizeOf fs))
 
 -- ---- what the checks of a group alone in its DG give
 data Fit (inval : ℕ) : List Run → Type 0 where

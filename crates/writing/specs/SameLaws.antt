@@ -41,7 +41,7 @@ module _ (f bs : List ℕ) (x : ℕ) (is : part x (length bs) f ≡ bs) where
       let k : ℕ = p - x in
       let e : p ≡ x + k = omega arith in
       rw e (getD-blit-in bs x k out (omega arith) h ∙ ap (λ (l : List ℕ). getD l k 0) (sym is) ∙ getD-take (length bs) (drop x f) k 0 (omega arith)
-        ∙ getD-drop x f k 0)
+      ∙ getD-drop x f k 0)
 
   pub blit-keeps : (out : List ℕ) → x + length bs ≤ length out → Keeps f out (blit x bs out)
   blit-keeps out h p e =

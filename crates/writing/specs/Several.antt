@@ -21,7 +21,7 @@ framesIn (suc turns) s n gs l =
 pub data Read (s : List ℕ) (n : ℕ) (gs : List ℕ) : List ℕ → List Frame → Type 0 where
   end : {l : List ℕ} → length l ≡ 0 → Read s n gs l []
   more : {l : List ℕ} {r : Frame} {rs : List Frame} → 0 < length l → frameAt s n gs l ≡ framed r → Read s n gs (drop (r .size) l) rs
-    → Read s n gs l (r ∷ rs)
+      → Read s n gs l (r ∷ rs)
 
 pub record WholeFrames (s : List ℕ) (n : ℕ) (gs l : List ℕ) : Type 0 where
   pub frames : List Frame

@@ -44,8 +44,8 @@ module _ (s : List ℕ) (n : ℕ) (gs l : List ℕ) where
       subst (Fits n l) (same-frame (q .1)) (record { size = rw p; within = h; bytes = rw p })
 
   kind-fits : (k g : ℕ) (b : Bool) {r : Frame}
-    → pick b (ifLe (n + 4) (length l) (ofBytes l n k (4 + leAt 4 l n)) broken) (ofBytes l n k (samples s g + invalBytes s g)) ≡ framed r
-    → Fits n l r
+      → pick b (ifLe (n + 4) (length l) (ofBytes l n k (4 + leAt 4 l n)) broken) (ofBytes l n k (samples s g + invalBytes s g)) ≡ framed r
+      → Fits n l r
   kind-fits k g true e = sized-fits k _ (le-first _ _ _ _ e broken≢framed .1)
   kind-fits k g false e = sized-fits k _ e
 
@@ -74,7 +74,7 @@ module _ {s : List ℕ} {n : ℕ} {gs : List ℕ} (some : 0 < n) where
 
 -- ---- what the framing gives
 onFramed-ok : (o : Framed) (n p : ℕ) (f : Frame → Checked (List Frame)) {rs : List Frame} → onFramed o (refused n p) f ≡ ok rs
-  → (r : Frame) × (o ≡ framed r) × (f r ≡ ok rs)
+    → (r : Frame) × (o ≡ framed r) × (f r ≡ ok rs)
 onFramed-ok broken n p f e = absurd (refused≢ok e)
 onFramed-ok (framed r) n p f e = (r, refl, e)
 
@@ -85,7 +85,7 @@ record After (s : List ℕ) (n : ℕ) (gs l : List ℕ) (done rs : List Frame) :
   read : Read s n gs l new
 
 after-frames : (turns : ℕ) (s : List ℕ) (n : ℕ) (gs : List ℕ) (fs : List Fragment) (l : List ℕ) (p : ℕ) (done : List Frame) {rs : List Frame}
-  → 0 < n → length l < turns → framesFrom turns s n gs fs l p done ≡ ok rs → After s n gs l done rs
+    → 0 < n → length l < turns → framesFrom turns s n gs fs l p done ≡ ok rs → After s n gs l done rs
 unfolding framesFrom
 after-frames zero s n gs fs l p done some h e = absurd (omega arith)
 after-frames (suc turns) s n gs fs l p done {rs} some h e =
@@ -93,9 +93,10 @@ after-frames (suc turns) s n gs fs l p done {rs} some h e =
   where
     later : Frame → Checked (List Frame)
     later r = framesFrom turns s n gs fs (drop (r .size) l) (p + r .size) (done ++ (r ∷ []))
+
     go : ((length l ≡ 0) × (ok done ≡ ok rs)) ⊎ ((length l ≡ 0 → ⊥) × (onFramed (frameAt s n gs l) (refused 15 (placeOf fs p)) later ≡ ok rs))
-      → ((r : Frame) → length (drop (r .size) l) < turns → later r ≡ ok rs → After s n gs (drop (r .size) l) (done ++ (r ∷ [])) rs)
-      → After s n gs l done rs
+        → ((r : Frame) → length (drop (r .size) l) < turns → later r ≡ ok rs → After s n gs (drop (r .size) l) (done ++ (r ∷ [])) rs)
+        → After s n gs l done rs
     go (inl q) ih = record { new = []; is = sym (ok-same (q .1)) ∙ sym (append-nil done); read = end (q .0) }
     go (inr q) ih =
         let f = onFramed-ok (frameAt s n gs l) 15 (placeOf fs p) later (q .1) in
@@ -108,7 +109,7 @@ after-frames (suc turns) s n gs fs l p done {rs} some h e =
         record { new = r ∷ i .new; is = i .is ∙ append-assoc done (r ∷ []) (i .new); read = more x (f .1) (i .read) }
 
 pub frames-read : (s : List ℕ) (n : ℕ) (gs : List ℕ) (fs : List Fragment) {rs : List Frame} → 0 < n → frames s n gs fs ≡ ok rs
-  → Read s n gs (joined s fs) rs
+    → Read s n gs (joined s fs) rs
 unfolding frames
 frames-read s n gs fs {rs} some e =
     let a = after-frames (length (joined s fs) + 1) s n gs fs (joined s fs) 0 [] some (omega arith) e in
@@ -116,7 +117,7 @@ frames-read s n gs fs {rs} some e =
 
 -- the framing of a DG, and its bytes
 pub unsorted-frames : (s : List ℕ) (d : ℕ) (gs : List ℕ) (fs : List Fragment) {rs : List Frame} → unsortedFrames s d gs fs ≡ ok rs
-  → (sizeOf fs ≤ most64) × (frames s (idSize s d) gs fs ≡ ok rs)
+    → (sizeOf fs ≤ most64) × (frames s (idSize s d) gs fs ≡ ok rs)
 unfolding unsortedFrames
 unsorted-frames s d gs fs {rs} e =
     let read : Checked (List Frame) = frames s (idSize s d) gs fs in

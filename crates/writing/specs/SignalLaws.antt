@@ -31,7 +31,7 @@ later-all ws = refl
 module _ (s ws : List ℕ) (i sum v : ℕ) (t : (sum + length (joined s (later ws i))) % 2 ^ 64 ≡ v) where
   pub sum-turn : i + 3 ≤ length ws → {here more : ℕ} → here ≡ length (part (getD ws i 0) (getD ws (i + 1) 0) s) → more ≡ (sum + here) % 2
       ^ 64
-    → (more + length (joined s (later ws (i + 3)))) % 2 ^ 64 ≡ v
+      → (more + length (joined s (later ws (i + 3)))) % 2 ^ 64 ≡ v
   unfolding joined
   sum-turn h {here} {more} e q =
       let rest : ℕ = length (joined s (later ws (i + 3))) in
@@ -50,17 +50,17 @@ module _ (s ws : List ℕ) (i to : ℕ) (d g : List ℕ) (t : blit to (joined s 
   copy-lost h = sym (blit-past (joined s (later ws i)) to d h) ∙ t
 
   copy-on : i + 3 ≤ length ws
-    → blit (to + length (part (getD ws i 0) (getD ws (i + 1) 0) s)) (joined s (later ws (i + 3)))
-        (blit to (part (getD ws i 0) (getD ws (i + 1) 0) s) d) ≡ g
+      → blit (to + length (part (getD ws i 0) (getD ws (i + 1) 0) s)) (joined s (later ws (i + 3)))
+      (blit to (part (getD ws i 0) (getD ws (i + 1) 0) s) d) ≡ g
   unfolding joined
   copy-on h = rw (later-more ws i h, blit-append) at t
 
   pub copy-turn : i + 3 ≤ length ws → {here : ℕ} {e : List ℕ} → here ≡ length (part (getD ws i 0) (getD ws (i + 1) 0) s)
-    → e ≡ blit to (part (getD ws i 0) (getD ws (i + 1) 0) s) d → blit (to + here) (joined s (later ws (i + 3))) e ≡ g
+      → e ≡ blit to (part (getD ws i 0) (getD ws (i + 1) 0) s) d → blit (to + here) (joined s (later ws (i + 3))) e ≡ g
   copy-turn h p q = rw (p, q) (copy-on h)
 
   pub copy-full : i + 3 ≤ length ws → {here : ℕ} {e : List ℕ} → here ≡ length (part (getD ws i 0) (getD ws (i + 1) 0) s)
-    → e ≡ blit to (part (getD ws i 0) (getD ws (i + 1) 0) s) d → length e ≤ to + here → e ≡ g
+      → e ≡ blit to (part (getD ws i 0) (getD ws (i + 1) 0) s) d → length e ≤ to + here → e ≡ g
   copy-full h {here} {e} p q l = sym (blit-past (joined s (later ws (i + 3))) (to + here) e l) ∙ copy-turn h p q
 
   pub copy-end : length ws < i + 3 → d ≡ g
@@ -76,7 +76,7 @@ unfolding header
 header-same kind x y links e = rw (le-same x y e)
 
 pub signal-is : (kind : ℕ) (p d e f : List ℕ) (r x : ℕ) → r % 2 ^ 64 ≡ length p % 2 ^ 64 → x ≡ (24 + r) % 2 ^ 64
-  → e ≡ blit 0 (header kind x 0) d → f ≡ blit 24 p e → f ≡ blit 0 (framed kind p) d
+    → e ≡ blit 0 (header kind x 0) d → f ≡ blit 24 p e → f ≡ blit 0 (framed kind p) d
 unfolding framed
 signal-is kind p d e f r x a b c q =
     let m : (24 + r) % 2 ^ 64 ≡ (24 + length p) % 2 ^ 64 = sym (add-mod-mod 24 r (2 ^ 64)) ∙ rw a (add-mod-mod 24 (length p) (2 ^ 64)) in

@@ -34,18 +34,19 @@ nextPlace memo n k = ifLt (k + 1) n (getD memo (placedAt + 3 * (k + 1)) 0) 0
 -- column number k of n
 unfoldable pub columnOf : List ℕ → ℕ → List ℕ → List ℕ → ℕ → ℕ → PlacedColumn
 columnOf s size columns memo n k = record {
-    channel = getD columns (8 * k) 0;
-    group = getD columns (8 * k + 1) 0;
-    parent = getD columns (8 * k + 2) 0;
-    records = getD columns (8 * k + 3) 0;
-    remote = hasMaster (masterIn (getD columns (8 * k + 5) 0));
-    master = masterPlace memo n (getD columns (8 * k + 5) 0);
-    dg = getD memo (placedAt + 3 * k) 0;
-    cn = getD memo (placedAt + 3 * k) 0 + 64 + cgSize (masterIn (getD columns (8 * k + 5) 0));
-    first = getD memo (placedAt + 3 * k + 1) 0;
-    sd = sdLink (signalIn (getD columns (8 * k + 6) 0)) (getD memo (placedAt + 3 * k + 2) 0);
-    blocks = blockCount size (width s (getD columns (8 * k + 1) 0) (getD columns (8 * k) 0)) (getD columns (8 * k + 3) 0);
-    payload = blockPayload size (width s (getD columns (8 * k + 1) 0) (getD columns (8 * k) 0)) (getD columns (8 * k + 3) 0) }
+  channel = getD columns (8 * k) 0;
+  group = getD columns (8 * k + 1) 0;
+  parent = getD columns (8 * k + 2) 0;
+  records = getD columns (8 * k + 3) 0;
+  remote = hasMaster (masterIn (getD columns (8 * k + 5) 0));
+  master = masterPlace memo n (getD columns (8 * k + 5) 0);
+  dg = getD memo (placedAt + 3 * k) 0;
+  cn = getD memo (placedAt + 3 * k) 0 + 64 + cgSize (masterIn (getD columns (8 * k + 5) 0));
+  first = getD memo (placedAt + 3 * k + 1) 0;
+  sd = sdLink (signalIn (getD columns (8 * k + 6) 0)) (getD memo (placedAt + 3 * k + 2) 0);
+  blocks = blockCount size (width s (getD columns (8 * k + 1) 0) (getD columns (8 * k) 0)) (getD columns (8 * k + 3) 0);
+  payload = blockPayload size (width s (getD columns (8 * k + 1) 0) (getD columns (8 * k) 0)) (getD columns (8 * k + 3) 0);
+}
 
 -- the words hold the places of n columns, all near
 pub record Near (memo : List ℕ) (n : ℕ) : Type 0 where

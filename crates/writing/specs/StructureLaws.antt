@@ -22,8 +22,21 @@ use Rattle.plan.specs.Copies.{Copy, copyOf}
 use Rattle.plan.specs.CopyWords.{placedAt}
 use Rattle.plan.specs.Geometry.{powerIn, stepOf, perBlock, perFull, blockCount, blockPayload}
 use Rattle.plan.specs.Layout.{columnWidth, columnBlocks, cgSize, dlSize, Placed, cgOf, cnOf}
-use Rattle.result.specs.Fill.{Block, block, orZero, newLink, sdLink, nextDG, cgAt, dgBytes, cgBytes, cnBytes, dlBlocks, columnPayload,
-  structureBlocks}
+use Rattle.result.specs.Fill.{
+  Block,
+  block,
+  orZero,
+  newLink,
+  sdLink,
+  nextDG,
+  cgAt,
+  dgBytes,
+  cgBytes,
+  cnBytes,
+  dlBlocks,
+  columnPayload,
+  structureBlocks,
+}
 use Rattle.result.specs.Ordered.{Ordered}
 use Rattle.copies_laws.specs.AnswerLaws.{on-eq}
 use Rattle.copies_laws.specs.LengthLaws.{InImage, length-header, length-blockLinks}
@@ -35,8 +48,21 @@ use Rattle.puts.specs.PutLaws.{lent-is}
 use Rattle.writing.specs.declared.placed.PlacedColumn.{PlacedColumn}
 use Rattle.writing.specs.AheadLaws.{lt-or-le}
 use Rattle.writing.specs.PlacedIn.{masterIn, signalIn, columnIn, placedOne, placedIn}
-use Rattle.writing.specs.Structure.{masterPlace, nextPlace, columnOf, Near, columnDG, columnCG, columnCN, columnDL, columnDLs,
-  columnParts, cgLength, Room, StructureReady}
+use Rattle.writing.specs.Structure.{
+  masterPlace,
+  nextPlace,
+  columnOf,
+  Near,
+  columnDG,
+  columnCG,
+  columnCN,
+  columnDL,
+  columnDLs,
+  columnParts,
+  cgLength,
+  Room,
+  StructureReady,
+}
 use Rattle.writing.specs.Wrote.{endOf, Wrote}
 use Rattle.writing.specs.WroteLaws.{ordered-end, ordered-back, ordered-first, wrote-none, wrote-block, wrote-append}
 
@@ -113,11 +139,11 @@ unfolding perBlock
 per-near size w h k =
     ⊎-elim
     (λ l.
-      let q : max (stepOf w) (size / w / stepOf w * stepOf w) ≡ stepOf w = max-eq-left (omega arith) in
-      rw q (omega (arith, mul-le-mul-right w (step-near w))))
+    let q : max (stepOf w) (size / w / stepOf w * stepOf w) ≡ stepOf w = max-eq-left (omega arith) in
+    rw q (omega (arith, mul-le-mul-right w (step-near w))))
     (λ l.
-      let q : max (stepOf w) (size / w / stepOf w * stepOf w) ≡ size / w / stepOf w * stepOf w = max-eq-right l in
-      rw q (omega (arith, fit-near size w (stepOf w))))
+    let q : max (stepOf w) (size / w / stepOf w * stepOf w) ≡ size / w / stepOf w * stepOf w = max-eq-right l in
+    rw q (omega (arith, fit-near size w (stepOf w))))
     (lt-or-le (size / w / stepOf w * stepOf w) (stepOf w))
 
 pub payload-near : (size w n : ℕ) {m : ℕ} → m ≡ perFull size w n → size < 2 ^ 64 → w < 256 ^ 5 → m * w < 2 ^ 64
@@ -134,14 +160,24 @@ size-near (some m) = le-refl 112
 
 module _ (s : List ℕ) (size : ℕ) (columns memo : List ℕ) (n k : ℕ) where
   pub column-made : {remote : Bool} {master x sd blocks payload : ℕ} → remote ≡ hasMaster (masterIn (getD columns (8 * k + 5) 0))
-    → master ≡ masterPlace memo n (getD columns (8 * k + 5) 0) → x ≡ cgSize (masterIn (getD columns (8 * k + 5) 0))
-    → sd ≡ sdLink (signalIn (getD columns (8 * k + 6) 0)) (getD memo (placedAt + 3 * k + 2) 0)
-    → blocks ≡ blockCount size (width s (getD columns (8 * k + 1) 0) (getD columns (8 * k) 0)) (getD columns (8 * k + 3) 0)
-    → payload ≡ blockPayload size (width s (getD columns (8 * k + 1) 0) (getD columns (8 * k) 0)) (getD columns (8 * k + 3) 0)
-    → record {
-        channel = getD columns (8 * k) 0; group = getD columns (8 * k + 1) 0; parent = getD columns (8 * k + 2) 0;
-        records = getD columns (8 * k + 3) 0; remote = remote; master = master; dg = getD memo (placedAt + 3 * k) 0;
-        cn = getD memo (placedAt + 3 * k) 0 + 64 + x; first = getD memo (placedAt + 3 * k + 1) 0; sd = sd; blocks = blocks; payload = payload }
+      → master ≡ masterPlace memo n (getD columns (8 * k + 5) 0) → x ≡ cgSize (masterIn (getD columns (8 * k + 5) 0))
+      → sd ≡ sdLink (signalIn (getD columns (8 * k + 6) 0)) (getD memo (placedAt + 3 * k + 2) 0)
+      → blocks ≡ blockCount size (width s (getD columns (8 * k + 1) 0) (getD columns (8 * k) 0)) (getD columns (8 * k + 3) 0)
+      → payload ≡ blockPayload size (width s (getD columns (8 * k + 1) 0) (getD columns (8 * k) 0)) (getD columns (8 * k + 3) 0)
+      → record {
+        channel = getD columns (8 * k) 0;
+        group = getD columns (8 * k + 1) 0;
+        parent = getD columns (8 * k + 2) 0;
+        records = getD columns (8 * k + 3) 0;
+        remote = remote;
+        master = master;
+        dg = getD memo (placedAt + 3 * k) 0;
+        cn = getD memo (placedAt + 3 * k) 0 + 64 + x;
+        first = getD memo (placedAt + 3 * k + 1) 0;
+        sd = sd;
+        blocks = blocks;
+        payload = payload;
+      }
       ≡ columnOf s size columns memo n k
   unfolding columnOf
   column-made a b c d e f = rw (a, b, c, d, e, f)
@@ -158,22 +194,22 @@ link-new m a b e q = e ∙ link-or (copyOf b m) ∙ rw q
 -- ---- the blocks' bytes over what was laid
 module _ (s : List ℕ) (m : List Copy) (h : PlacedColumn) (d e : List ℕ) where
   pub filled-dg : (next : ℕ) {dl comment : ℕ} → e ≡ blit 0 (dgFrom next (h .dg + 64) dl comment) d → dl ≡ ifEq (h .blocks) 0 0 (h .cn + 160)
-    → comment ≡ newLink m (linkAt s (h .parent) 3) → e ≡ blit 0 (columnDG s m h next) d
+      → comment ≡ newLink m (linkAt s (h .parent) 3) → e ≡ blit 0 (columnDG s m h next) d
   unfolding columnDG
   filled-dg next i a b = i ∙ rw (a, b)
 
   pub filled-cg : {name source comment bytes : ℕ} {inval : Bool}
-    → e ≡ blit 0 (cgFrom s (h .group) (h .cn) name source comment (h .remote) (h .master) (h .records) bytes inval) d
-    → name ≡ newLink m (linkAt s (h .group) 2) → source ≡ newLink m (linkAt s (h .group) 3) → comment ≡ newLink m (linkAt s (h .group) 5)
-    → bytes ≡ channelBytes s (h .channel) → inval ≡ keepsInval s (h .group) (h .channel) → e ≡ blit 0 (columnCG s m h) d
+      → e ≡ blit 0 (cgFrom s (h .group) (h .cn) name source comment (h .remote) (h .master) (h .records) bytes inval) d
+      → name ≡ newLink m (linkAt s (h .group) 2) → source ≡ newLink m (linkAt s (h .group) 3) → comment ≡ newLink m (linkAt s (h .group) 5)
+      → bytes ≡ channelBytes s (h .channel) → inval ≡ keepsInval s (h .group) (h .channel) → e ≡ blit 0 (columnCG s m h) d
   unfolding columnCG
   filled-cg i a b c x y = i ∙ rw (a, b, c, x, y)
 
   pub filled-cn : {name source conversion unit comment : ℕ} {keeps : Bool}
-    → e ≡ blit 0 (cnFrom s (h .channel) keeps name source conversion (h .sd) unit comment) d
-    → name ≡ newLink m (linkAt s (h .channel) 2) → source ≡ newLink m (linkAt s (h .channel) 3) → conversion ≡ newLink m (linkAt s (h .channel) 4)
-    → unit ≡ newLink m (linkAt s (h .channel) 6) → comment ≡ newLink m (linkAt s (h .channel) 7) → keeps ≡ keepsInval s (h .group) (h .channel)
-    → e ≡ blit 0 (columnCN s m h) d
+      → e ≡ blit 0 (cnFrom s (h .channel) keeps name source conversion (h .sd) unit comment) d
+      → name ≡ newLink m (linkAt s (h .channel) 2) → source ≡ newLink m (linkAt s (h .channel) 3) → conversion ≡ newLink m (linkAt s (h .channel) 4)
+      → unit ≡ newLink m (linkAt s (h .channel) 6) → comment ≡ newLink m (linkAt s (h .channel) 7) → keeps ≡ keepsInval s (h .group) (h .channel)
+      → e ≡ blit 0 (columnCN s m h) d
   unfolding columnCN
   filled-cn i a b c x y z = i ∙ rw (a, b, c, x, y, z)
 
@@ -183,7 +219,7 @@ unfolding columnDG dgFrom
 length-columnDG s memo h next = simp (length-append, length-header, length-le)
 
 length-cgFrom : (s : List ℕ) (g cn name source comment : ℕ) (remote : Bool) (master records bytes : ℕ) (inval : Bool) → dataAt s g + 32 ≤ length s
-  → length (cgFrom s g cn name source comment remote master records bytes inval) ≡ cgLength remote
+    → length (cgFrom s g cn name source comment remote master records bytes inval) ≡ cgLength remote
 unfolding cgFrom cgFront cgHeader cgDataFrom cgCounts
 length-cgFrom s g cn name source comment true master records bytes inval h =
     simp (length-append, length-header, length-le, length-part (dataAt s g + 18) 2 s (omega arith))
@@ -191,17 +227,23 @@ length-cgFrom s g cn name source comment false master records bytes inval h =
     simp (length-append, length-header, length-le, length-part (dataAt s g + 18) 2 s (omega arith))
 
 pub length-columnCG : (s : List ℕ) (memo : List Copy) (h : PlacedColumn) → dataAt s (h .group) + 32 ≤ length s
-  → length (columnCG s memo h) ≡ cgLength (h .remote)
+    → length (columnCG s memo h) ≡ cgLength (h .remote)
 unfolding columnCG
 length-columnCG s memo h i = length-cgFrom s (h .group) _ _ _ _ (h .remote) _ _ _ _ i
 
 pub length-columnCN : (s : List ℕ) (memo : List Copy) (h : PlacedColumn) → dataAt s (h .channel) + 72 ≤ length s
-  → length (columnCN s memo h) ≡ 160
+    → length (columnCN s memo h) ≡ 160
 unfolding columnCN cnFrom cnLinks cnTypes cnRest
 length-columnCN s memo h i =
-    simp (length-append, length-header, length-le, length-part (dataAt s (h .channel) + 1) 3 s (omega arith),
-      length-part (dataAt s (h .channel) + 8) 4 s (omega arith), length-part (dataAt s (h .channel) + 20) 2 s (omega arith),
-      length-part (dataAt s (h .channel) + 24) 48 s (omega arith))
+    simp (
+      length-append,
+      length-header,
+      length-le,
+      length-part (dataAt s (h .channel) + 1) 3 s (omega arith),
+      length-part (dataAt s (h .channel) + 8) 4 s (omega arith),
+      length-part (dataAt s (h .channel) + 20) 2 s (omega arith),
+      length-part (dataAt s (h .channel) + 24) 48 s (omega arith),
+    )
 
 pub length-columnDL : (h : PlacedColumn) → length (columnDL h) ≡ 48 + 8 * h .blocks
 unfolding columnDL dlFrom
@@ -213,31 +255,31 @@ dl-some n h = sym (eq-no n 0 _ _ h (omega arith))
 
 -- ---- one block: zeros up to its place, then what was laid over the rest
 pub wrote-at : (a to r : ℕ) (bs out mid ys : List ℕ) → a ≤ to → r ≡ to + length bs → mid ≡ blit a (replicate (to - a) 0) out
-  → ys ≡ blit 0 bs (midOf to (length mid - to) mid) → Wrote a (block to bs ∷ []) r out (putMid to (length mid - to) mid ys)
+    → ys ≡ blit 0 bs (midOf to (length mid - to) mid) → Wrote a (block to bs ∷ []) r out (putMid to (length mid - to) mid ys)
 wrote-at a to r bs out mid ys h l g e =
     rw l (wrote-block (block to bs) h (lent-is to bs mid ys e ∙ ap (blit to bs) g))
 
 module _ (s : List ℕ) (m : List Copy) (h : PlacedColumn) (a : ℕ) (out mid ys : List ℕ) where
   pub wrote-dg : (next : ℕ) → mid ≡ blit a (replicate (h .dg - a) 0) out
-    → ys ≡ blit 0 (columnDG s m h next) (midOf (h .dg) (length mid - h .dg) mid) → a ≤ h .dg
-    → Wrote a (block (h .dg) (columnDG s m h next) ∷ []) (h .dg + 64) out (putMid (h .dg) (length mid - h .dg) mid ys)
+      → ys ≡ blit 0 (columnDG s m h next) (midOf (h .dg) (length mid - h .dg) mid) → a ≤ h .dg
+      → Wrote a (block (h .dg) (columnDG s m h next) ∷ []) (h .dg + 64) out (putMid (h .dg) (length mid - h .dg) mid ys)
   wrote-dg next g e l = wrote-at a (h .dg) (h .dg + 64) (columnDG s m h next) out mid ys l (rw (length-columnDG s m h next)) g e
 
   pub wrote-cg : mid ≡ blit a (replicate (h .dg + 64 - a) 0) out
-    → ys ≡ blit 0 (columnCG s m h) (midOf (h .dg + 64) (length mid - (h .dg + 64)) mid) → a ≤ h .dg + 64
-    → h .cn ≡ h .dg + 64 + cgLength (h .remote) → dataAt s (h .group) + 32 ≤ length s
-    → Wrote a (block (h .dg + 64) (columnCG s m h) ∷ []) (h .cn) out (putMid (h .dg + 64) (length mid - (h .dg + 64)) mid ys)
+      → ys ≡ blit 0 (columnCG s m h) (midOf (h .dg + 64) (length mid - (h .dg + 64)) mid) → a ≤ h .dg + 64
+      → h .cn ≡ h .dg + 64 + cgLength (h .remote) → dataAt s (h .group) + 32 ≤ length s
+      → Wrote a (block (h .dg + 64) (columnCG s m h) ∷ []) (h .cn) out (putMid (h .dg + 64) (length mid - (h .dg + 64)) mid ys)
   wrote-cg g e l q i = wrote-at a (h .dg + 64) (h .cn) (columnCG s m h) out mid ys l (q ∙ rw (length-columnCG s m h i)) g e
 
   pub wrote-cn : mid ≡ blit a (replicate (h .cn - a) 0) out
-    → ys ≡ blit 0 (columnCN s m h) (midOf (h .cn) (length mid - h .cn) mid) → a ≤ h .cn → dataAt s (h .channel) + 72 ≤ length s
-    → Wrote a (block (h .cn) (columnCN s m h) ∷ []) (h .cn + 160) out (putMid (h .cn) (length mid - h .cn) mid ys)
+      → ys ≡ blit 0 (columnCN s m h) (midOf (h .cn) (length mid - h .cn) mid) → a ≤ h .cn → dataAt s (h .channel) + 72 ≤ length s
+      → Wrote a (block (h .cn) (columnCN s m h) ∷ []) (h .cn + 160) out (putMid (h .cn) (length mid - h .cn) mid ys)
   wrote-cn g e l i = wrote-at a (h .cn) (h .cn + 160) (columnCN s m h) out mid ys l (rw (length-columnCN s m h i)) g e
 
 pub wrote-dl : (h : PlacedColumn) (a : ℕ) (out mid ys : List ℕ) → mid ≡ blit a (replicate (h .cn + 160 - a) 0) out
-  → ys ≡ blit 0 (dlFrom (h .payload) (h .blocks) (h .first)) (midOf (h .cn + 160) (length mid - (h .cn + 160)) mid) → a ≤ h .cn + 160
-  → (h .blocks ≡ 0 → ⊥)
-  → Wrote a (columnDLs h) (h .cn + 160 + (48 + 8 * h .blocks)) out (putMid (h .cn + 160) (length mid - (h .cn + 160)) mid ys)
+    → ys ≡ blit 0 (dlFrom (h .payload) (h .blocks) (h .first)) (midOf (h .cn + 160) (length mid - (h .cn + 160)) mid) → a ≤ h .cn + 160
+    → (h .blocks ≡ 0 → ⊥)
+    → Wrote a (columnDLs h) (h .cn + 160 + (48 + 8 * h .blocks)) out (putMid (h .cn + 160) (length mid - (h .cn + 160)) mid ys)
 unfolding columnDLs columnDL
 wrote-dl h a out mid ys g e l z =
     subst (λ (bs : List Block). Wrote a bs (h .cn + 160 + (48 + 8 * h .blocks)) out (putMid (h .cn + 160) (length mid - (h .cn + 160)) mid ys))
@@ -268,14 +310,21 @@ module _ {s : List ℕ} (memo : List Copy) {h : PlacedColumn} {a e : ℕ} (next 
   pub parts-ordered : Ordered a (columnParts s memo h next) e
   unfolding columnParts Ordered
   parts-ordered =
-      let g = o .cn in
-      (o .begins, rw (length-columnDG s memo h next) (le-refl _, rw (length-columnCG s memo h (o .group), ← g) (le-refl _,
-        rw (length-columnCN s memo h (o .channel)) (dls-ordered h e (o .ends)))))
+      let g = o .cn in (
+        o .begins,
+        rw (length-columnDG s memo h next) (
+          le-refl _,
+          rw (length-columnCG s memo h (o .group), ← g) (
+            le-refl _,
+            rw (length-columnCN s memo h (o .channel)) (dls-ordered h e (o .ends)),
+          ),
+        ),
+      )
 
   -- one after the other
   pub wrote-column : {p q t r : ℕ} {out x y z last : List ℕ} → Wrote a (block (h .dg) (columnDG s memo h next) ∷ []) p out x
-    → Wrote p (block (h .dg + 64) (columnCG s memo h) ∷ []) q x y → Wrote q (block (h .cn) (columnCN s memo h) ∷ []) t y z
-    → Wrote t (columnDLs h) r z last → Wrote a (columnParts s memo h next) r out last
+      → Wrote p (block (h .dg + 64) (columnCG s memo h) ∷ []) q x y → Wrote q (block (h .cn) (columnCN s memo h) ∷ []) t y z
+      → Wrote t (columnDLs h) r z last → Wrote a (columnParts s memo h next) r out last
   unfolding columnParts
   wrote-column v w u d =
       let i = parts-ordered in
@@ -340,23 +389,27 @@ module _ (s : List ℕ) (size : ℕ) (m : List Copy) (columns memo : List ℕ) (
   dl-same = rw (dl-from s size m (placedOne columns memo k))
 
   parts-open : (next : ℕ) (bs : List Block)
-    → block (placedOne columns memo k .dg) (columnDG s m (columnOf s size columns memo n k) next)
+      → block (placedOne columns memo k .dg) (columnDG s m (columnOf s size columns memo n k) next)
       ∷ block (cgOf (placedOne columns memo k)) (columnCG s m (columnOf s size columns memo n k))
       ∷ block (cnOf (placedOne columns memo k)) (columnCN s m (columnOf s size columns memo n k)) ∷ (columnDLs (columnOf s size columns memo n k) ++ bs)
-    ≡ columnParts s m (columnOf s size columns memo n k) next ++ bs
+      ≡ columnParts s m (columnOf s size columns memo n k) next ++ bs
   unfolding columnParts columnOf placedOne columnIn
   parts-open next bs = refl
 
 -- one column's blocks, then the others'
 pub structure-cons : (s : List ℕ) (size : ℕ) (m : List Copy) (columns memo : List ℕ) (n k j : ℕ) → k + suc j ≡ n
-  → structureBlocks s size m (placedIn columns memo 0 n) (placedIn columns memo k (suc j))
-  ≡ columnParts s m (columnOf s size columns memo n k) (nextPlace memo n k)
+    → structureBlocks s size m (placedIn columns memo 0 n) (placedIn columns memo k (suc j))
+    ≡ columnParts s m (columnOf s size columns memo n k) (nextPlace memo n k)
     ++ structureBlocks s size m (placedIn columns memo 0 n) (placedIn columns memo (k + 1) j)
 unfolding structureBlocks
 structure-cons s size m columns memo n k j e =
     ap (structureBlocks s size m (placedIn columns memo 0 n)) (placed-cons columns memo k j)
-    ∙ rw (dg-same s size m columns memo n k (next-in columns memo n k j e), cg-same s size m columns memo n k, cn-same s size m columns memo n k,
-      dl-same s size m columns memo n k) (parts-open s size m columns memo n k (nextPlace memo n k) _)
+    ∙ rw (
+      dg-same s size m columns memo n k (next-in columns memo n k j e),
+      cg-same s size m columns memo n k,
+      cn-same s size m columns memo n k,
+      dl-same s size m columns memo n k,
+    ) (parts-open s size m columns memo n k (nextPlace memo n k) _)
 
 -- ---- room, by the order of blocks
 dl-none : (n : ℕ) → n ≡ 0 → dlSize n ≡ 0
@@ -379,7 +432,7 @@ dls-end h e =
     (λ z o. omega (arith, some-end _ _ (columnDL h) o, length-columnDL h, dl-some (h .blocks) z))
 
 parts-room : (s : List ℕ) (memo : List Copy) (h : PlacedColumn) (a e next : ℕ) → Ordered a (columnParts s memo h next) e
-  → h .cn ≡ h .dg + 64 + cgLength (h .remote) → dataAt s (h .group) + 32 ≤ length s → dataAt s (h .channel) + 72 ≤ length s → Room s h a e
+    → h .cn ≡ h .dg + 64 + cgLength (h .remote) → dataAt s (h .group) + 32 ≤ length s → dataAt s (h .channel) + 72 ≤ length s → Room s h a e
 unfolding columnParts Ordered
 parts-room s memo h a e next o q g c =
     record {
@@ -387,18 +440,19 @@ parts-room s memo h a e next o q g c =
       cn = q;
       ends = dls-end h e (rw (length-columnCN s memo h c) at (o .1 .1 .1));
       group = g;
-      channel = c }
+      channel = c;
+    }
 
 module _ (s : List ℕ) (size : ℕ) (m : List Copy) (columns memo : List ℕ) (n : ℕ) where
   -- column number k has room
   pub room-of : (k j a e : ℕ) → k + suc j ≡ n → InImage s (columnIn columns (8 * k))
-    → Ordered a (structureBlocks s size m (placedIn columns memo 0 n) (placedIn columns memo k (suc j))) e
-    → Room s (columnOf s size columns memo n k) a e
+      → Ordered a (structureBlocks s size m (placedIn columns memo 0 n) (placedIn columns memo k (suc j))) e
+      → Room s (columnOf s size columns memo n k) a e
   unfolding columnOf columnIn
   room-of k j a e q i o =
       let t : Ordered a (columnParts s m (columnOf s size columns memo n k) (nextPlace memo n k)
-              ++ structureBlocks s size m (placedIn columns memo 0 n) (placedIn columns memo (k + 1) j)) e =
-          rw (structure-cons s size m columns memo n k j q) at o in
+      ++ structureBlocks s size m (placedIn columns memo 0 n) (placedIn columns memo (k + 1) j)) e =
+      rw (structure-cons s size m columns memo n k j q) at o in
       parts-room s m (columnOf s size columns memo n k) a e (nextPlace memo n k)
       (ordered-first a (columnParts s m (columnOf s size columns memo n k) (nextPlace memo n k)) _ e t)
       (ap (λ (x : ℕ). getD memo (placedAt + 3 * k) 0 + 64 + x) (size-master (masterIn (getD columns (8 * k + 5) 0)))) (i .group) (i .channel)
@@ -413,7 +467,7 @@ ordered-next a e b bs o = o .1
 
 -- every column's DG lies before the end
 dg-in : (s : List ℕ) (size : ℕ) (m : List Copy) (all : List Placed) (columns memo : List ℕ) (k n i a e : ℕ)
-  → Ordered a (structureBlocks s size m all (placedIn columns memo k n)) e → i < n → getD memo (placedAt + 3 * (k + i)) 0 ≤ e
+    → Ordered a (structureBlocks s size m all (placedIn columns memo k n)) e → i < n → getD memo (placedAt + 3 * (k + i)) 0 ≤ e
 unfolding structureBlocks placedIn placedOne
 dg-in s size m all columns memo k zero i a e o h = absurd (omega arith)
 dg-in s size m all columns memo k (suc n) zero a e o h = rw add-zero (ordered-here a e _ _ o)
@@ -423,15 +477,16 @@ dg-in s size m all columns memo k (suc n) (suc i) a e o h =
     rw q (dg-in s size m all columns memo (k + 1) n i _ e (ordered-back _ (dlBlocks s size (placedOne columns memo k)) _ e x) (omega arith))
 
 pub near-ready : {s : List ℕ} {size : ℕ} {columns memo : List ℕ} {n used a e : ℕ} → StructureReady s size columns memo n used a e
-  → e < 9223372036854775808 → Near memo n
+    → e < 9223372036854775808 → Near memo n
 near-ready {s} {size} {columns} {memo} {n} {used} {a} {e} q h =
     record {
       few = q .few;
       long = q .placed;
       below = λ i l.
-        let x : getD memo (placedAt + 3 * i) 0 ≤ e =
-            rw zero-add at (dg-in s size (copiesIn memo used) (placedIn columns memo 0 n) columns memo 0 n i a e (q .ordered) l) in
-        omega (arith, x, h) }
+          let x : getD memo (placedAt + 3 * i) 0 ≤ e =
+          rw zero-add at (dg-in s size (copiesIn memo used) (placedIn columns memo 0 n) columns memo 0 n i a e (q .ordered) l) in
+          omega (arith, x, h);
+    }
 
 -- ---- all columns, the first of which is number k, are left to be written; written, they give what all give
 pub record Structures (s : List ℕ) (size : ℕ) (columns memo : List ℕ) (n used a : ℕ) (out₀ : List ℕ) (k to : ℕ) (out : List ℕ) : Type 0 where
@@ -439,8 +494,8 @@ pub record Structures (s : List ℕ) (size : ℕ) (columns memo : List ℕ) (n u
   pub same : length out ≡ length out₀
   pub ordered : Ordered to (structureBlocks s size (copiesIn memo used) (placedIn columns memo 0 n) (placedIn columns memo k (n - k))) (length out)
   pub rest : (r : ℕ) (last : List ℕ)
-    → Wrote to (structureBlocks s size (copiesIn memo used) (placedIn columns memo 0 n) (placedIn columns memo k (n - k))) r out last
-    → Wrote a (structureBlocks s size (copiesIn memo used) (placedIn columns memo 0 n) (placedIn columns memo 0 n)) r out₀ last
+      → Wrote to (structureBlocks s size (copiesIn memo used) (placedIn columns memo 0 n) (placedIn columns memo k (n - k))) r out last
+      → Wrote a (structureBlocks s size (copiesIn memo used) (placedIn columns memo 0 n) (placedIn columns memo 0 n)) r out₀ last
 
 module _ {s : List ℕ} {size : ℕ} {columns memo : List ℕ} {n used a : ℕ} {out₀ : List ℕ} where
   pub structures-begin : StructureReady s size columns memo n used a (length out₀) → Structures s size columns memo n used a out₀ 0 a out₀
@@ -448,22 +503,22 @@ module _ {s : List ℕ} {size : ℕ} {columns memo : List ℕ} {n used a : ℕ} 
       record { few = omega arith; same = refl; ordered = rw sub-zero (q .ordered); rest = λ r last w. rw sub-zero at w }
 
   pub structures-end : {k to : ℕ} {out : List ℕ} → Structures s size columns memo n used a out₀ k to out → n ≤ k
-    → Wrote a (structureBlocks s size (copiesIn memo used) (placedIn columns memo 0 n) (placedIn columns memo 0 n)) to out₀ out
+      → Wrote a (structureBlocks s size (copiesIn memo used) (placedIn columns memo 0 n) (placedIn columns memo 0 n)) to out₀ out
   unfolding placedIn structureBlocks
   structures-end {k} {to} {out} t h =
       let e : n - k ≡ 0 = omega arith in
       t .rest to out (rw e (wrote-none to out))
 
   pub structures-room : {k to : ℕ} {out : List ℕ} {e : ℕ} → StructureReady s size columns memo n used a e
-    → Structures s size columns memo n used a out₀ k to out → k < n → Room s (columnOf s size columns memo n k) to (length out)
+      → Structures s size columns memo n used a out₀ k to out → k < n → Room s (columnOf s size columns memo n k) to (length out)
   structures-room {k} {to} {out} q t h =
       let e : n - k ≡ suc (n - (k + 1)) = omega arith in
       room-of s size (copiesIn memo used) columns memo n k (n - (k + 1)) to (length out) (omega arith) (q .seen k h) (rw e at (t .ordered))
 
   pub structures-turn : {k to r next : ℕ} {h : PlacedColumn} {out last : List ℕ} → Structures s size columns memo n used a out₀ k to out → k < n
-    → h ≡ columnOf s size columns memo n k → next ≡ nextPlace memo n k
-    → Wrote to (columnParts s (copiesIn memo used) h next) r out last → length last ≡ length out
-    → Structures s size columns memo n used a out₀ (k + 1) r last
+      → h ≡ columnOf s size columns memo n k → next ≡ nextPlace memo n k
+      → Wrote to (columnParts s (copiesIn memo used) h next) r out last → length last ≡ length out
+      → Structures s size columns memo n used a out₀ (k + 1) r last
   structures-turn {k} {to} {r} {out = out} {last = last} t h c x v l =
       let w : Wrote to (columnParts s (copiesIn memo used) (columnOf s size columns memo n k) (nextPlace memo n k)) r out last = rw (c, x) at v in
       let m : List Copy = copiesIn memo used in
@@ -472,10 +527,11 @@ module _ {s : List ℕ} {size : ℕ} {columns memo : List ℕ} {n used a : ℕ} 
       let parts : List Block = columnParts s m (columnOf s size columns memo n k) (nextPlace memo n k) in
       let later : List Block = structureBlocks s size m all (placedIn columns memo (k + 1) (n - (k + 1))) in
       let whole : structureBlocks s size m all (placedIn columns memo k (n - k)) ≡ parts ++ later =
-          rw e (structure-cons s size m columns memo n k (n - (k + 1)) (omega arith)) in
+      rw e (structure-cons s size m columns memo n k (n - (k + 1)) (omega arith)) in
       let o : Ordered to (parts ++ later) (length out) = rw whole at (t .ordered) in
       record {
         few = omega arith;
         same = l ∙ t .same;
         ordered = rw (w .end, l) (ordered-back to parts later (length out) o);
-        rest = λ y fin u. t .rest y fin (rw whole (wrote-append (length out) w u o)) }
+        rest = λ y fin u. t .rest y fin (rw whole (wrote-append (length out) w u o));
+      }

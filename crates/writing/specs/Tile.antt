@@ -20,7 +20,7 @@ Inside s n ps = (i : ℕ) → i < length ps → getD ps i 0 + n ≤ length s
 pub data TileOf (s : List ℕ) : List Frame → List ℕ → List ℕ → Type 0 where
   none : TileOf s [] [] []
   more : {r : Frame} {rs : List Frame} {ns ps : List ℕ} (n p : ℕ) → r .group ≡ n → r .bytes ≡ part p (length (r .bytes)) s
-    → p + length (r .bytes) ≤ length s → TileOf s rs ns ps → TileOf s (r ∷ rs) (n ∷ ns) (p ∷ ps)
+      → p + length (r .bytes) ≤ length s → TileOf s rs ns ps → TileOf s (r ∷ rs) (n ∷ ns) (p ∷ ps)
 
 -- ---- those of group number j
 unfoldable pub picked : ℕ → List ℕ → List ℕ → List ℕ

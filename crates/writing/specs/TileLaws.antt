@@ -80,7 +80,7 @@ module _ {s : List ℕ} (j : ℕ) where
       go (inr e) h = rw (count-other j n ns e, unsorted-other j r rs (λ z. e (sym g ∙ z))) h
 
   pub picked-are : (len : ℕ) {rows : List Frame} {ns ps : List ℕ} → TileOf s rows ns ps → Long len (unsortedRecords j rows)
-    → (recordsAt s len (picked j ns ps) ≡ unsortedRecords j rows) × Inside s len (picked j ns ps)
+      → (recordsAt s len (picked j ns ps) ≡ unsortedRecords j rows) × Inside s len (picked j ns ps)
   unfolding picked unsortedRecords recordsAt
   picked-are len none l = (refl, λ i h. absurd (omega arith))
   picked-are len (more {r} {rs} {ns} {ps} n p g b q t) l = go (same-or-not n j) (picked-are len t)
@@ -89,7 +89,7 @@ module _ {s : List ℕ} (j : ℕ) where
       Are = (recordsAt s len (picked j ns ps) ≡ unsortedRecords j rs) × Inside s len (picked j ns ps)
 
       go : (n ≡ j) ⊎ ((n ≡ j) → ⊥) → (Long len (unsortedRecords j rs) → Are)
-        → (recordsAt s len (picked j (n ∷ ns) (p ∷ ps)) ≡ unsortedRecords j (r ∷ rs)) × Inside s len (picked j (n ∷ ns) (p ∷ ps))
+          → (recordsAt s len (picked j (n ∷ ns) (p ∷ ps)) ≡ unsortedRecords j (r ∷ rs)) × Inside s len (picked j (n ∷ ns) (p ∷ ps))
       go (inl e) h =
           let a = unsorted-own j r rs (g ∙ e) in
           let k = long-first (rw a at l) in
@@ -123,13 +123,13 @@ module _ (j : ℕ) (ns : List ℕ) (i : ℕ) where
     left-none h = rw (drop-of-length-le ns h)
 
     left-own : i < length ns → i < length ps → getD ns i 0 ≡ j
-      → picked j (drop i ns) (drop i ps) ≡ getD ps i 0 ∷ picked j (drop (i + 1) ns) (drop (i + 1) ps)
+        → picked j (drop i ns) (drop i ps) ≡ getD ps i 0 ∷ picked j (drop (i + 1) ns) (drop (i + 1) ps)
     left-own h q e =
         let z : i + 1 ≡ suc i = omega arith in
         rw (drop-cons ns i 0 h, drop-cons ps i 0 q, z) (picked-own j (getD ns i 0) (drop (suc i) ns) (getD ps i 0) (drop (suc i) ps) e)
 
     left-other : i < length ns → i < length ps → (getD ns i 0 ≡ j → ⊥)
-      → picked j (drop i ns) (drop i ps) ≡ picked j (drop (i + 1) ns) (drop (i + 1) ps)
+        → picked j (drop i ns) (drop i ps) ≡ picked j (drop (i + 1) ns) (drop (i + 1) ps)
     left-other h q e =
         let z : i + 1 ≡ suc i = omega arith in
         rw (drop-cons ns i 0 h, drop-cons ps i 0 q, z) (picked-other j (getD ns i 0) (drop (suc i) ns) (getD ps i 0) (drop (suc i) ps) e)
@@ -144,7 +144,7 @@ pub record Picking (own₀ ns ps : List ℕ) (j : ℕ) (own : List ℕ) (i m : �
 
 module _ {own₀ ns ps : List ℕ} {j : ℕ} {own : List ℕ} {i m : ℕ} (t : Picking own₀ ns ps j own i m) where
   pub picking-own : {last : List ℕ} {x : ℕ} → i < length ns → i < length ps → getD ns i 0 ≡ j → last ≡ set own m (getD ps i 0) → x ≡ m + 1
-    → Picking own₀ ns ps j last (i + 1) x
+      → Picking own₀ ns ps j last (i + 1) x
   unfolding blit
   picking-own h q e y v =
       let f = t .front in
@@ -157,10 +157,11 @@ module _ {own₀ ns ps : List ℕ} {j : ℕ} {own : List ℕ} {i m : ℕ} (t : P
         within = omega arith;
         same = ap length y ∙ length-set own m (getD ps i 0) ∙ t .same;
         count = let b = ap length a in omega arith;
-        words = rw (y, v, z) w }
+        words = rw (y, v, z) w;
+      }
 
   pub picking-other : {last : List ℕ} {x : ℕ} → i < length ns → i < length ps → (getD ns i 0 ≡ j → ⊥) → last ≡ own → x ≡ m
-    → Picking own₀ ns ps j last (i + 1) x
+      → Picking own₀ ns ps j last (i + 1) x
   picking-other h q e y v =
       let f = t .front in
       let a = left-other j ns i ps h q e in
@@ -179,7 +180,7 @@ pub record Tallying (ns done₀ : List ℕ) (i : ℕ) (done : List ℕ) : Type 0
   pub within : i ≤ length ns
   pub same : length done ≡ length done₀
   pub more : (j : ℕ) → j < length done₀ → getD done₀ j 0 + countOf j ns < 18446744073709551616
-    → getD done j 0 + countOf j (drop i ns) ≡ getD done₀ j 0 + countOf j ns
+      → getD done j 0 + countOf j (drop i ns) ≡ getD done₀ j 0 + countOf j ns
 
 module _ {ns done₀ : List ℕ} {i : ℕ} {done : List ℕ} (t : Tallying ns done₀ i done) where
   module _ (h : i < length ns) where
@@ -189,14 +190,15 @@ module _ {ns done₀ : List ℕ} {i : ℕ} {done : List ℕ} (t : Tallying ns do
           within = omega arith;
           same = t .same;
           more = λ j k l. let s = t .same in
-            let a = count-left-other j ns i h (λ e. omega arith) in
-            let b = t .more j k l in omega arith })
+              let a = count-left-other j ns i h (λ e. omega arith) in
+              let b = t .more j k l in omega arith;
+        })
 
     pub tallying-full : {last : List ℕ} → 18446744073709551615 ≤ getD done (getD ns i 0) 0 → last ≡ done → Tallying ns done₀ (i + 1) last
     tallying-full q y = rw y (record { within = omega arith; same = t .same; more = λ j k l. go j k l (same-or-not (getD ns i 0) j) })
       where
         go : (j : ℕ) → j < length done₀ → getD done₀ j 0 + countOf j ns < 18446744073709551616 → (getD ns i 0 ≡ j) ⊎ ((getD ns i 0 ≡ j) → ⊥)
-          → getD done j 0 + countOf j (drop (i + 1) ns) ≡ getD done₀ j 0 + countOf j ns
+            → getD done j 0 + countOf j (drop (i + 1) ns) ≡ getD done₀ j 0 + countOf j ns
         go j k l (inl e) =
             let a = count-left-own j ns i h e in
             let b = t .more j k l in
@@ -205,20 +207,21 @@ module _ {ns done₀ : List ℕ} {i : ℕ} {done : List ℕ} (t : Tallying ns do
         go j k l (inr e) = let a = count-left-other j ns i h e in let b = t .more j k l in omega arith
 
     pub tallying-on : {last : List ℕ} → getD ns i 0 < length done → last ≡ set done (getD ns i 0) (getD done (getD ns i 0) 0 + 1)
-      → Tallying ns done₀ (i + 1) last
+        → Tallying ns done₀ (i + 1) last
     tallying-on q y =
         rw y (record {
           within = omega arith;
           same = length-set done (getD ns i 0) _ ∙ t .same;
-          more = λ j k l. go j k l (same-or-not (getD ns i 0) j) })
+          more = λ j k l. go j k l (same-or-not (getD ns i 0) j);
+        })
       where
         go : (j : ℕ) → j < length done₀ → getD done₀ j 0 + countOf j ns < 18446744073709551616 → (getD ns i 0 ≡ j) ⊎ ((getD ns i 0 ≡ j) → ⊥)
-          → getD (set done (getD ns i 0) (getD done (getD ns i 0) 0 + 1)) j 0 + countOf j (drop (i + 1) ns) ≡ getD done₀ j 0 + countOf j ns
+            → getD (set done (getD ns i 0) (getD done (getD ns i 0) 0 + 1)) j 0 + countOf j (drop (i + 1) ns) ≡ getD done₀ j 0 + countOf j ns
         go j k l (inl e) =
             let a = count-left-own j ns i h e in
             let b = t .more j k l in
             let c : getD (set done j (getD done j 0 + 1)) j 0 ≡ getD done j 0 + 1 =
-                getD-set-same done j (getD done j 0 + 1) 0 (rw e at q) in
+            getD-set-same done j (getD done j 0 + 1) 0 (rw e at q) in
             rw (e, c) (omega arith)
         go j k l (inr e) =
             let a = count-left-other j ns i h e in
@@ -230,4 +233,5 @@ module _ {ns done₀ : List ℕ} {i : ℕ} {done : List ℕ} (t : Tallying ns do
   tallying-end h =
       record {
         same = t .same;
-        more = λ j k l. let a = count-left-none j ns i h in let b = t .more j k l in omega arith }
+        more = λ j k l. let a = count-left-none j ns i h in let b = t .more j k l in omega arith;
+      }

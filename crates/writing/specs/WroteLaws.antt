@@ -64,7 +64,7 @@ unfolding flat endOf blit
 wrote-none a out = record { end = refl; bytes = rw (none-left a) }
 
 pub wrote-append : {a m r : ℕ} (e : ℕ) {xs ys : List Block} {out mid last : List ℕ} → Wrote a xs m out mid → Wrote m ys r mid last
-  → Ordered a (xs ++ ys) e → Wrote a (xs ++ ys) r out last
+    → Ordered a (xs ++ ys) e → Wrote a (xs ++ ys) r out last
 wrote-append {a} {m} {r} e {xs} {ys} {out} {mid} {last} v w o =
     let b = ordered-end a xs _ (ordered-front a xs ys e o) in
     let n = flat-length xs a (endOf a xs) (ordered-front a xs ys e o) in
@@ -72,15 +72,17 @@ wrote-append {a} {m} {r} e {xs} {ys} {out} {mid} {last} v w o =
     record {
       end = w .end ∙ rw (v .end) (sym (end-append a xs ys));
       bytes = w .bytes ∙ ap (λ (z : List ℕ). blit m (flat m ys r) z) (v .bytes) ∙ rw (v .end)
-        (sym (rw (flat-append a xs ys r) (blit-append (flat a xs (endOf a xs)) a (flat (endOf a xs) ys r) out ∙ rw q))) }
+          (sym (rw (flat-append a xs ys r) (blit-append (flat a xs (endOf a xs)) a (flat (endOf a xs) ys r) out ∙ rw q)));
+    }
 
 -- zeros up to a block's place, then the block
 pub wrote-block : {a : ℕ} (b : Block) {out last : List ℕ} → a ≤ b .at → last ≡ blit (b .at) (b .bytes) (blit a (replicate (b .at - a) 0) out)
-  → Wrote a (b ∷ []) (b .at + length (b .bytes)) out last
+    → Wrote a (b ∷ []) (b .at + length (b .bytes)) out last
 unfolding flat endOf
 wrote-block {a} b {out} {last} h e =
     let q : a + (b .at - a) ≡ b .at = omega arith in
     record {
       end = refl;
       bytes = e ∙ rw (none-left (b .at + length (b .bytes)), append-nil)
-        (sym (blit-append (replicate (b .at - a) 0) a (b .bytes) out ∙ rw (length-replicate, q))) }
+          (sym (blit-append (replicate (b .at - a) 0) a (b .bytes) out ∙ rw (length-replicate, q)));
+    }

@@ -1,8 +1,8 @@
 // Attachments, each after the blocks newly copied for it.
+use crate::copies::write_copies;
+use crate::gap::gap;
 use blocks::block::size_at;
 use copying::put_at;
-use crate::gap::gap;
-use crate::copies::write_copies;
 ghost use mathlib.Core.List.{[], _∷_, _++_};
 ghost use Prim.Native.Nat.{_+_, _-_, _≤_};
 ghost use lib.ListN.{length};
@@ -16,7 +16,16 @@ ghost use Rattle.writing.specs.Wrote.{Wrote};
 ghost use Rattle.writing.specs.Attachments.{attachmentsIn, NextPlace, Placing};
 
 // The AT made of the one at a, at its place; from at on zeros up to there.
-pub(crate) fn write_at(out: &mut [u8], at: usize, image: &[u8], memo: &[u64], used: u64, a: u64, place: usize, next: u64) -> usize
+pub(crate) fn write_at(
+    out: &mut [u8],
+    at: usize,
+    image: &[u8],
+    memo: &[u64],
+    used: u64,
+    a: u64,
+    place: usize,
+    next: u64,
+) -> usize
     requires { ⌜ (at ≤ place) × Moved (now image) a × (place + sizeAt (now image) a ≤ length (now out)) ⌝ }
     ensures { λ r. ⌜ Wrote at (block place (atBytes (now (image .entry)) (copiesIn (now (memo .entry)) used) a next) ∷ []) r
         (now (out .entry)) (now (out .exit)) ⌝ }
@@ -39,7 +48,18 @@ pub(crate) fn next_place(memo: &[u64], i: u64, count: u64) -> u64
 
 // The copies number own up to end, then the AT made of the one at a.
 pub(crate) fn write_attachment(
-    out: &mut [u8], at: usize, image: &[u8], memo: &[u64], used: u64, chain: u64, fh: u64, own: u64, end: u64, a: u64, place: usize, next: u64,
+    out: &mut [u8],
+    at: usize,
+    image: &[u8],
+    memo: &[u64],
+    used: u64,
+    chain: u64,
+    fh: u64,
+    own: u64,
+    end: u64,
+    a: u64,
+    place: usize,
+    next: u64,
 ) -> usize
     requires { ⌜ (own ≤ end) × (end ≤ used) × (used ≤ 2048) × (8192 ≤ length (now memo))
         × Placing (now image) at (part own (end - own) (copiesIn (now memo) used)) a place (length (now out)) ⌝ }
@@ -53,7 +73,15 @@ pub(crate) fn write_attachment(
 
 // All attachments of the words, the first one's copies from copy number first on, from at on.
 pub(crate) fn write_attachments(
-    out: &mut [u8], at: usize, image: &[u8], memo: &[u64], used: u64, chain: u64, fh: u64, first: u64, count: u64,
+    out: &mut [u8],
+    at: usize,
+    image: &[u8],
+    memo: &[u64],
+    used: u64,
+    chain: u64,
+    fh: u64,
+    first: u64,
+    count: u64,
 ) -> usize
     requires { ⌜ (first + length (ownCopies (attachmentsIn (now memo) first count)) ≤ used) × (used ≤ 2048) × (count ≤ 64)
         × (8192 ≤ length (now memo)) × LaidAt (now image) at (attachmentsIn (now memo) first count) (length (now out)) ⌝ }
@@ -69,7 +97,20 @@ pub(crate) fn write_attachments(
         let place = memo[j + 1] as usize;
         let end = own + memo[j + 2];
         let next = next_place(memo, i + 1, count);
-        p = write_attachment(out, p, image, memo, used, chain, fh, own, end, a, place, next);
+        p = write_attachment(
+            out,
+            p,
+            image,
+            memo,
+            used,
+            chain,
+            fh,
+            own,
+            end,
+            a,
+            place,
+            next,
+        );
         own = end;
         i += 1;
     }

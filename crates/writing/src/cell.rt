@@ -1,7 +1,17 @@
 // The cell of a record: the bytes of a channel, and its invalidation bit as one byte, if that is kept.
-use channels::{byte_offset, channel_bytes, samples_of, inval_bytes_of, inval_position, keeps_inval, width_of};
+use crate::cursor::Cursor;
+use crate::cursor::copy_joined;
+use crate::cursor::settle;
+use crate::cursor::skip;
 use blocks::block::data_u8;
-use crate::cursor::{Cursor, skip, settle, copy_joined};
+use channels::byte_offset;
+use channels::channel_bytes;
+use channels::inval_bytes_of;
+use channels::inval_position;
+use channels::keeps_inval;
+use channels::samples_of;
+use channels::width_of;
+use puts::copy;
 ghost use mathlib.Core.Path.{_≡_};
 ghost use mathlib.Core.Bool.{true};
 ghost use Prim.Native.Nat.{_+_, _≤_, _<_};
@@ -53,7 +63,19 @@ pub(crate) fn shape_of(image: &[u8], d: u64, g: u64, c: u64) -> Shape
     let bit = (position % 8) as u32;
     let id = id_size(image, d);
     let width = width_of(image, g, c);
-    Shape { parent: d, group: g, channel: c, first, bytes, length, keep, inval: samples + position / 8, bit, id, width }
+    Shape {
+        parent: d,
+        group: g,
+        channel: c,
+        first,
+        bytes,
+        length,
+        keep,
+        inval: samples + position / 8,
+        bit,
+        id,
+        width,
+    }
 }
 
 // A byte of s at index from, at index at.
@@ -111,18 +133,6 @@ fn copy8(d: &mut [u8], at: usize, s: &[u8], from: usize)
     d[at + 7] = x7;
 }
 
-// n bytes, one by one.
-fn copy_bytes(d: &mut [u8], at: usize, s: &[u8], from: usize, n: usize)
-    requires { ⌜ (at + n ≤ length (now d)) × (from + n ≤ length (now s)) ⌝ }
-    ensures { λ _. ⌜ now (d .exit) ≡ blit at (part from n (now (s .entry))) (now (d .entry)) ⌝ }
-{
-    let mut k = 0;
-    while k < n {
-        d[at + k] = s[from + k];
-        k += 1;
-    }
-}
-
 // n bytes of s from index from, at index at, all of them inside.
 pub(crate) fn copy_within(d: &mut [u8], at: usize, s: &[u8], from: usize, n: usize)
     requires { ⌜ (at + n ≤ length (now d)) × (from + n ≤ length (now s)) ⌝ }
@@ -144,7 +154,7 @@ pub(crate) fn copy_within(d: &mut [u8], at: usize, s: &[u8], from: usize, n: usi
         copy1(d, at, s, from);
         return;
     }
-    copy_bytes(d, at, s, from, n);
+    copy(d, at, s, from as u64, n as u64);
 }
 
 // Of a record that lies at q in the image.
@@ -173,7 +183,14 @@ pub(crate) fn byte_at(image: &[u8], fragments: &[u64], k: Cursor, i: u64) -> u8
 }
 
 // Of a record that begins at the cursor, in several fragments.
-pub(crate) fn cell_joined(out: &mut [u8], to: usize, image: &[u8], fragments: &[u64], k: Cursor, h: Shape)
+pub(crate) fn cell_joined(
+    out: &mut [u8],
+    to: usize,
+    image: &[u8],
+    fragments: &[u64],
+    k: Cursor,
+    h: Shape,
+)
     requires { ⌜ Shaped (now image) h × (rangesIn (now image) (ahead (now fragments) k) ≡ fine) ×
         (h .length ≤ sizeOf (ahead (now fragments) k))
         × (to + width (now image) (h .group) (h .channel) ≤ length (now out)) ⌝ }
@@ -191,7 +208,14 @@ pub(crate) fn cell_joined(out: &mut [u8], to: usize, image: &[u8], fragments: &[
 }
 
 // Of a record that begins at the cursor.
-pub(crate) fn cell_at(out: &mut [u8], to: usize, image: &[u8], fragments: &[u64], k: Cursor, h: Shape)
+pub(crate) fn cell_at(
+    out: &mut [u8],
+    to: usize,
+    image: &[u8],
+    fragments: &[u64],
+    k: Cursor,
+    h: Shape,
+)
     requires { ⌜ Shaped (now image) h × (rangesIn (now image) (ahead (now fragments) k) ≡ fine) ×
         (h .length ≤ sizeOf (ahead (now fragments) k))
         × (to + width (now image) (h .group) (h .channel) ≤ length (now out)) ⌝ }

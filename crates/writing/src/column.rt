@@ -1,10 +1,15 @@
 // A column filled record by record: the headers of its data blocks and the cells of its records.
-use puts::{least, header};
-use channels::per_full;
+use crate::cell::Shape;
+use crate::cell::cell_at;
+use crate::cell::cell_here;
+use crate::cell::copy_within;
+use crate::cell::shape_of;
 use crate::cursor::Cursor;
-use crate::cell::{Shape, shape_of, copy_within, cell_here, cell_at};
-use crate::kinds::data_kind;
 use crate::data::Entry;
+use crate::kinds::data_kind;
+use channels::per_full;
+use puts::header;
+use puts::least;
 ghost use mathlib.Core.Path.{_≡_};
 ghost use mathlib.Core.Bool.{false};
 ghost use Prim.Native.Nat.{_+_, _-_, _*_, _/_, _≤_, _<_, min};
@@ -112,7 +117,15 @@ pub(crate) fn put_column(out: &mut [u8], image: &[u8], size: u64, e: Entry, i: u
 }
 
 // The record that begins at the cursor, number i of the column e.
-pub(crate) fn put_joined(out: &mut [u8], image: &[u8], size: u64, e: Entry, i: u64, fragments: &[u64], b: Cursor)
+pub(crate) fn put_joined(
+    out: &mut [u8],
+    image: &[u8],
+    size: u64,
+    e: Entry,
+    i: u64,
+    fragments: &[u64],
+    b: Cursor,
+)
     requires { ⌜ DueJoined (now image) size e i (now fragments) b (length (now out)) ⌝ }
     ensures { λ _. ⌜ PutJoined (now (image .entry)) size e i (now (fragments .entry)) b (now (out .entry)) (now (out .exit)) ⌝ }
 {

@@ -1,9 +1,13 @@
 // The conversion.
-use placing::layout::Numbers;
-use placing::decide::{Decision, decide, clear};
-use crate::counts::{source_groups, time_columns, blocks_written};
-use crate::omissions::write_list;
+use crate::counts::blocks_written;
+use crate::counts::source_groups;
+use crate::counts::time_columns;
 use crate::file::write_file;
+use crate::omissions::write_list;
+use placing::decide::Decision;
+use placing::decide::decide;
+use placing::layout::Numbers;
+use reading::recording::clear;
 ghost use mathlib.Core.Path.{_≡_};
 ghost use lib.ListN.{length, replicate};
 ghost use Rattle.result.specs.Result as result;
@@ -41,7 +45,16 @@ fn are_bytes(image: &[u8])
 }
 
 // The counts of what was decided.
-fn count_up(image: &[u8], size: u64, source: &[u64], columns: &[u64], items: u64, n: u64, metadata: u64, bytes: u64) -> Report
+fn count_up(
+    image: &[u8],
+    size: u64,
+    source: &[u64],
+    columns: &[u64],
+    items: u64,
+    n: u64,
+    metadata: u64,
+    bytes: u64,
+) -> Report
     requires { ⌜ Counts (now image) size (now columns) items n ⌝ }
     ensures { λ r. ⌜ Reported (now (image .entry)) size (now (source .entry)) (now (columns .entry)) items n metadata bytes r ⌝ }
 {
@@ -61,8 +74,22 @@ fn count_up(image: &[u8], size: u64, source: &[u64], columns: &[u64], items: u64
 
 // 20, 21; the file, the list, the report.
 fn finish(
-    out: &mut [u8], list: &mut [u64], image: &[u8], size: u64, ident: &[u8], text: &[u8], time: u64,
-    source: &[u64], fragments: &[u64], columns: &[u64], copies: &[u64], items: u64, pieces: u64, n: u64, omitted: u64, numbers: Numbers,
+    out: &mut [u8],
+    list: &mut [u64],
+    image: &[u8],
+    size: u64,
+    ident: &[u8],
+    text: &[u8],
+    time: u64,
+    source: &[u64],
+    fragments: &[u64],
+    columns: &[u64],
+    copies: &[u64],
+    items: u64,
+    pieces: u64,
+    n: u64,
+    omitted: u64,
+    numbers: Numbers,
 ) -> Converted
     requires { ⌜ Stands (args (now image) size (now ident) (now text) time) items pieces n omitted numbers
         (now source) (now fragments) (now columns) (now copies) ⌝ }
@@ -71,37 +98,100 @@ fn finish(
 {
     let bytes = numbers.file_size;
     if (out.len() as u64) < bytes {
-        return Converted::Refused { number: 20, place: bytes };
+        return Converted::Refused {
+            number: 20,
+            place: bytes,
+        };
     }
     let words = 2 * omitted + 1;
     if (list.len() as u64) < words {
-        return Converted::Refused { number: 21, place: words };
+        return Converted::Refused {
+            number: 21,
+            place: words,
+        };
     }
-    write_file(out, image, size, ident, text, time, source, fragments, columns, copies, items, pieces, n, omitted, numbers);
+    write_file(
+        out,
+        image,
+        size,
+        ident,
+        text,
+        time,
+        source,
+        fragments,
+        columns,
+        copies,
+        items,
+        pieces,
+        n,
+        omitted,
+        numbers,
+    );
     write_list(list, columns, omitted as usize);
-    let counted = count_up(image, size, source, columns, items, n, numbers.metadata_end, bytes);
+    let counted = count_up(
+        image,
+        size,
+        source,
+        columns,
+        items,
+        n,
+        numbers.metadata_end,
+        bytes,
+    );
     Converted::Done(counted)
 }
 
 // One recording into one file: 1, 2, 3, what reading, planning and layout refuse, 20, 21; then the file, the list and the report.
 pub fn convert(
-    image: &[u8], size: u64, ident: &[u8], text: &[u8], time: u64,
-    source: &mut [u64], fragments: &mut [u64], columns: &mut [u64], copies: &mut [u64], out: &mut [u8], list: &mut [u64],
+    image: &[u8],
+    size: u64,
+    ident: &[u8],
+    text: &[u8],
+    time: u64,
+    source: &mut [u64],
+    fragments: &mut [u64],
+    columns: &mut [u64],
+    copies: &mut [u64],
+    out: &mut [u8],
+    list: &mut [u64],
 ) -> Converted
     ensures done { λ r. ⌜ left r (now (out .exit)) (now (list .exit))
-          (four (now (source .exit)) (now (fragments .exit)) (now (columns .exit)) (now (copies .exit)))
+        (four (now (source .exit)) (now (fragments .exit)) (now (columns .exit)) (now (copies .exit)))
         ≡ result.convert (args (now (image .entry)) size (now (ident .entry)) (now (text .entry)) time) (now (out .entry)) (now (list .entry))
-          (four (now (source .entry)) (now (fragments .entry)) (now (columns .entry)) (now (copies .entry))) ⌝ }
+        (four (now (source .entry)) (now (fragments .entry)) (now (columns .entry)) (now (copies .entry))) ⌝ }
     ensures promised { λ _. ⌜ Promised (args (now (image .entry)) size (now (ident .entry)) (now (text .entry)) time)
-          (length (now (out .entry))) (length (now (list .entry)))
-          (four (now (source .entry)) (now (fragments .entry)) (now (columns .entry)) (now (copies .entry))) (now (out .exit)) ⌝ }
+        (length (now (out .entry))) (length (now (list .entry)))
+        (four (now (source .entry)) (now (fragments .entry)) (now (columns .entry)) (now (copies .entry))) (now (out .exit)) ⌝ }
 {
     are_bytes(image);
     let decision = decide(image, size, ident, text, source, fragments, columns, copies);
     match decision {
         Decision::Refused { number, place } => Converted::Refused { number, place },
-        Decision::Done { items, fragments: pieces, columns: n, omissions, numbers } => {
-            let answer = finish(out, list, image, size, ident, text, time, source, fragments, columns, copies, items, pieces, n, omissions, numbers);
+        Decision::Done {
+            items,
+            fragments: pieces,
+            columns: n,
+            omissions,
+            numbers,
+        } => {
+            let answer = finish(
+                out,
+                list,
+                image,
+                size,
+                ident,
+                text,
+                time,
+                source,
+                fragments,
+                columns,
+                copies,
+                items,
+                pieces,
+                n,
+                omissions,
+                numbers,
+            );
             clear(source);
             clear(fragments);
             clear(columns);

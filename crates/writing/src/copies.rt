@@ -1,7 +1,7 @@
 // Copied blocks, one after the other.
+use crate::gap::gap;
 use blocks::block::size_at;
 use copying::put_copied;
-use crate::gap::gap;
 ghost use mathlib.Core.List.{[], _∷_};
 ghost use Prim.Native.Nat.{_+_, _-_, _≤_};
 ghost use lib.ListN.{length};
@@ -15,7 +15,17 @@ ghost use Rattle.copies_laws.specs.Laid.{Laid};
 ghost use Rattle.writing.specs.Wrote.{Wrote};
 
 // The copy of the block at a, at its place; from at on zeros up to there.
-pub(crate) fn write_copy(out: &mut [u8], at: usize, image: &[u8], memo: &[u64], used: u64, chain: u64, fh: u64, a: u64, place: usize) -> usize
+pub(crate) fn write_copy(
+    out: &mut [u8],
+    at: usize,
+    image: &[u8],
+    memo: &[u64],
+    used: u64,
+    chain: u64,
+    fh: u64,
+    a: u64,
+    place: usize,
+) -> usize
     requires { ⌜ (at ≤ place) × Whole (now image) a × (place + sizeAt (now image) a ≤ length (now out)) ⌝ }
     ensures { λ r. ⌜ Wrote at (block place (copiedBytes (now (image .entry)) (part historyAt chain (now (memo .entry)))
         (copiesIn (now (memo .entry)) used) fh a) ∷ []) r (now (out .entry)) (now (out .exit)) ⌝ }
@@ -27,7 +37,15 @@ pub(crate) fn write_copy(out: &mut [u8], at: usize, image: &[u8], memo: &[u64], 
 
 // The copies number from up to to of those in the words, from at on.
 pub(crate) fn write_copies(
-    out: &mut [u8], at: usize, image: &[u8], memo: &[u64], used: u64, chain: u64, fh: u64, from: u64, to: u64,
+    out: &mut [u8],
+    at: usize,
+    image: &[u8],
+    memo: &[u64],
+    used: u64,
+    chain: u64,
+    fh: u64,
+    from: u64,
+    to: u64,
 ) -> usize
     requires { ⌜ (from ≤ to) × (to ≤ used) × (used ≤ 2048) × (8192 ≤ length (now memo))
         × Laid (now image) at (part from (to - from) (copiesIn (now memo) used)) (length (now out)) ⌝ }

@@ -1,5 +1,7 @@
 // The counts of the report, from the words of reading and planning.
-use channels::{is_storage, width_of, block_count};
+use channels::block_count;
+use channels::is_storage;
+use channels::width_of;
 use planning::words::word;
 ghost use mathlib.Core.Path.{_≡_};
 ghost use Prim.Native.Nat.{ℕ, _≤_, _<_};

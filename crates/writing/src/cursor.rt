@@ -1,5 +1,6 @@
 // A place in joined fragments, which words give, three each: offset, size and kind.
-use puts::{least, copy};
+use puts::copy;
+use puts::least;
 ghost use mathlib.Core.Path.{_≡_};
 ghost use Prim.Native.Nat.{_+_, _≤_, _<_};
 ghost use lib.ListN.{length, take};
@@ -21,7 +22,11 @@ pub(crate) fn next(fragments: &[u64], c: Cursor) -> Cursor
     ensures { λ r. ⌜ r ≡ nextOf (now (fragments .entry)) c ⌝ }
 {
     let i = c.at;
-    Cursor { at: i + 3, position: fragments[i], left: fragments[i + 1] }
+    Cursor {
+        at: i + 3,
+        position: fragments[i],
+        left: fragments[i + 1],
+    }
 }
 
 // The place m bytes further on in the fragment.
@@ -29,7 +34,11 @@ pub(crate) fn onward(c: Cursor, m: u64) -> Cursor
     requires { ⌜ (m ≤ c .left) × (c .position + c .left < 18446744073709551616) ⌝ }
     ensures { λ r. ⌜ r ≡ moved c m ⌝ }
 {
-    Cursor { at: c.at, position: c.position + m, left: c.left - m }
+    Cursor {
+        at: c.at,
+        position: c.position + m,
+        left: c.left - m,
+    }
 }
 
 // The place m bytes further on.
@@ -59,7 +68,14 @@ pub(crate) fn settle(fragments: &[u64], c: Cursor) -> Cursor
 }
 
 // w bytes from here on, at index at.
-pub(crate) fn copy_joined(out: &mut [u8], at: usize, image: &[u8], fragments: &[u64], c: Cursor, w: u64)
+pub(crate) fn copy_joined(
+    out: &mut [u8],
+    at: usize,
+    image: &[u8],
+    fragments: &[u64],
+    c: Cursor,
+    w: u64,
+)
     requires { ⌜ (rangesIn (now image) (ahead (now fragments) c) ≡ fine) × (w ≤ sizeOf (ahead (now fragments) c)) ×
         (at + w ≤ length (now out)) ⌝ }
     ensures { λ _. ⌜ now (out .exit) ≡ blit at (take w (joined (now (image .entry)) (ahead (now (fragments .entry)) c)))

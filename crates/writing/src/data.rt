@@ -1,8 +1,10 @@
 // The data blocks and signal data of columns: the data blocks first, then zeros between them and the signal data.
-use channels::{width_of, block_count};
-use crate::gap::gap;
 use crate::fill::fill_data;
-use crate::signal::{joined_size, write_signal};
+use crate::gap::gap;
+use crate::signal::joined_size;
+use crate::signal::write_signal;
+use channels::block_count;
+use channels::width_of;
 ghost use mathlib.Core.Path.{_≡_};
 ghost use mathlib.Core.List.{[], _∷_};
 ghost use Prim.Native.Nat.{_+_, _*_, _-_, _≤_};
@@ -51,11 +53,21 @@ pub(crate) fn entry_at(columns: &[u64], memo: &[u64], k: u64) -> Entry
 }
 
 // Zeros from at up to its data blocks, which stand already; the answer is past them.
-fn pass_blocks(out: &mut [u8], at: usize, image: &[u8], size: u64, source: &[u64], n: u64, fragments: &[u64], nf: u64, e: Entry) -> usize
+fn pass_blocks(
+    out: &mut [u8],
+    at: usize,
+    image: &[u8],
+    size: u64,
+    source: &[u64],
+    n: u64,
+    fragments: &[u64],
+    nf: u64,
+    e: Entry,
+) -> usize
     requires { ⌜ EntryReady (now image) (now source) n (now fragments) nf e
         × Ordered at (entryBlocks (now image) size (now source) n (now fragments) nf e) (length (now out))
         × (part (e .first) (length (entryRegion (now image) size (now source) n (now fragments) nf e)) (now out)
-            ≡ entryRegion (now image) size (now source) n (now fragments) nf e) ⌝ }
+        ≡ entryRegion (now image) size (now source) n (now fragments) nf e) ⌝ }
     ensures { λ r. ⌜ Wrote at (entryBlocks (now (image .entry)) size (now (source .entry)) n (now (fragments .entry)) nf e) r
         (now (out .entry)) (now (out .exit)) ⌝ }
 {
@@ -96,8 +108,19 @@ fn write_signal_of(out: &mut [u8], at: usize, image: &[u8], fragments: &[u64], e
 }
 
 // Of so many columns, whose data blocks stand already: zeros between them, and the SD.
-fn write_between(out: &mut [u8], at: usize, image: &[u8], size: u64, source: &[u64], n: u64, fragments: &[u64], nf: u64,
-    columns: &[u64], memo: &[u64], number: u64) -> usize
+fn write_between(
+    out: &mut [u8],
+    at: usize,
+    image: &[u8],
+    size: u64,
+    source: &[u64],
+    n: u64,
+    fragments: &[u64],
+    nf: u64,
+    columns: &[u64],
+    memo: &[u64],
+    number: u64,
+) -> usize
     requires { ⌜ DataReady (now image) size (now source) n (now fragments) nf (now columns) (now memo) number at (length (now out))
         × Standing (now image) size (now source) n (now fragments) nf (now columns) (now memo) 0 number (now out) ⌝ }
     ensures { λ r. ⌜ Wrote at (dataFrom (now (image .entry)) size (now (source .entry)) n (now (fragments .entry)) nf (now (columns .entry))
@@ -115,12 +138,47 @@ fn write_between(out: &mut [u8], at: usize, image: &[u8], size: u64, source: &[u
 }
 
 // Of so many columns, from at on; the answer is past them.
-pub(crate) fn write_data(out: &mut [u8], at: usize, image: &[u8], size: u64, source: &[u64], n: u64, fragments: &[u64], nf: u64,
-    columns: &[u64], memo: &[u64], number: u64) -> usize
+pub(crate) fn write_data(
+    out: &mut [u8],
+    at: usize,
+    image: &[u8],
+    size: u64,
+    source: &[u64],
+    n: u64,
+    fragments: &[u64],
+    nf: u64,
+    columns: &[u64],
+    memo: &[u64],
+    number: u64,
+) -> usize
     requires { ⌜ DataReady (now image) size (now source) n (now fragments) nf (now columns) (now memo) number at (length (now out)) ⌝ }
     ensures { λ r. ⌜ Wrote at (dataFrom (now (image .entry)) size (now (source .entry)) n (now (fragments .entry)) nf (now (columns .entry))
         (now (memo .entry)) 0 number) r (now (out .entry)) (now (out .exit)) ⌝ }
 {
-    fill_data(out, at, image, size, source, n, fragments, nf, columns, memo, number);
-    write_between(out, at, image, size, source, n, fragments, nf, columns, memo, number)
+    fill_data(
+        out,
+        at,
+        image,
+        size,
+        source,
+        n,
+        fragments,
+        nf,
+        columns,
+        memo,
+        number,
+    );
+    write_between(
+        out,
+        at,
+        image,
+        size,
+        source,
+        n,
+        fragments,
+        nf,
+        columns,
+        memo,
+        number,
+    )
 }

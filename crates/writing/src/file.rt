@@ -1,14 +1,16 @@
 // The file: one part after the other, zeros between blocks.
+use crate::attached::next_place;
+use crate::attached::write_attachments;
+use crate::copies::write_copies;
+use crate::data::write_data;
+use crate::front::write_front;
+use crate::front::write_history;
+use crate::gap::gap;
+use crate::structure::write_structure;
 use blocks::block::link_at;
+use placing::layout::Numbers;
 use placing::memo::new_link;
 use planning::words::word;
-use placing::layout::Numbers;
-use crate::gap::gap;
-use crate::front::{write_front, write_history};
-use crate::copies::write_copies;
-use crate::structure::write_structure;
-use crate::data::write_data;
-use crate::attached::{next_place, write_attachments};
 ghost use mathlib.Core.Path.{_≡_};
 ghost use Prim.Native.Nat.{_≤_};
 ghost use lib.ListN.{length, getD};
@@ -52,8 +54,21 @@ fn comment_of(image: &[u8], copies: &[u64], used: u64) -> u64
 
 // All of it, from what was decided.
 pub(crate) fn write_file(
-    out: &mut [u8], image: &[u8], size: u64, ident: &[u8], text: &[u8], time: u64,
-    source: &[u64], fragments: &[u64], columns: &[u64], copies: &[u64], items: u64, pieces: u64, n: u64, omitted: u64, numbers: Numbers,
+    out: &mut [u8],
+    image: &[u8],
+    size: u64,
+    ident: &[u8],
+    text: &[u8],
+    time: u64,
+    source: &[u64],
+    fragments: &[u64],
+    columns: &[u64],
+    copies: &[u64],
+    items: u64,
+    pieces: u64,
+    n: u64,
+    omitted: u64,
+    numbers: Numbers,
 )
     requires { ⌜ Stands (args (now image) size (now ident) (now text) time) items pieces n omitted numbers
         (now source) (now fragments) (now columns) (now copies) × (numbers .«file_size» ≤ length (now out)) ⌝ }
@@ -70,9 +85,41 @@ pub(crate) fn write_file(
     let a = write_front(out, image, ident, column, history, attachment, comment);
     let b = write_copies(out, a, image, copies, used, chain, fh, 0, numbers.history);
     let c = write_history(out, b, numbers.md, fh, text, time);
-    let d = write_copies(out, c, image, copies, used, chain, fh, numbers.history, numbers.metadata);
+    let d = write_copies(
+        out,
+        c,
+        image,
+        copies,
+        used,
+        chain,
+        fh,
+        numbers.history,
+        numbers.metadata,
+    );
     let e = write_structure(out, d, image, size, columns, copies, n, used);
-    let f = write_data(out, e, image, size, source, items, fragments, pieces, columns, copies, n);
-    let g = write_attachments(out, f, image, copies, used, chain, fh, numbers.metadata, numbers.attachments);
+    let f = write_data(
+        out,
+        e,
+        image,
+        size,
+        source,
+        items,
+        fragments,
+        pieces,
+        columns,
+        copies,
+        n,
+    );
+    let g = write_attachments(
+        out,
+        f,
+        image,
+        copies,
+        used,
+        chain,
+        fh,
+        numbers.metadata,
+        numbers.attachments,
+    );
     gap(out, g, numbers.file_size as usize);
 }

@@ -1,12 +1,26 @@
 // The data blocks of all columns filled, tile by tile: so many records at a time, of all columns of their DG.
-use channels::{width_of, block_count, samples_of, inval_bytes_of};
-use planning::words::word;
-use crate::cursor::{Cursor, next, skip};
 use crate::cell::id_size;
-use crate::own::{own_of, number_in};
-use crate::data::{Entry, entry_at};
-use crate::rows::{Sizes, Row, settle_on, row_at, gather, own_places, tally};
-use crate::column::{put_column, put_joined};
+use crate::column::put_column;
+use crate::column::put_joined;
+use crate::cursor::Cursor;
+use crate::cursor::next;
+use crate::cursor::skip;
+use crate::data::Entry;
+use crate::data::entry_at;
+use crate::own::number_in;
+use crate::own::own_of;
+use crate::rows::Row;
+use crate::rows::Sizes;
+use crate::rows::gather;
+use crate::rows::own_places;
+use crate::rows::row_at;
+use crate::rows::settle_on;
+use crate::rows::tally;
+use channels::block_count;
+use channels::inval_bytes_of;
+use channels::samples_of;
+use channels::width_of;
+use planning::words::word;
 ghost use mathlib.Core.Path.{_≡_};
 ghost use Prim.Native.Nat.{_≤_, _<_};
 ghost use lib.ListN.{length};
@@ -28,7 +42,16 @@ pub(crate) fn entry_blocks(image: &[u8], size: u64, e: Entry) -> u64
 }
 
 // The records of a tile that are of the column's group, number j: they lie at places.
-fn tile_column(out: &mut [u8], image: &[u8], size: u64, groups: &[u64], e: Entry, j: u64, done: &[u64], places: &[u64])
+fn tile_column(
+    out: &mut [u8],
+    image: &[u8],
+    size: u64,
+    groups: &[u64],
+    e: Entry,
+    j: u64,
+    done: &[u64],
+    places: &[u64],
+)
     requires { ⌜ TileDue (now image) size (now groups) e (now done) (now places) (length (now out)) × (j ≡ numberIn (e .group) (now groups)) ⌝ }
     ensures { λ _. ⌜ PutTile (now (image .entry)) size (now (groups .entry)) e (now (done .entry)) (now (places .entry))
         (now (out .entry)) (now (out .exit)) ⌝ }
@@ -47,7 +70,14 @@ pub struct Held {
 }
 
 // The places of the records of the column's group: those that are held, or they are picked.
-fn hold(own: &mut [u64], numbers: &[u64], places: &[u64], groups: &[u64], e: Entry, held: Held) -> Held
+fn hold(
+    own: &mut [u64],
+    numbers: &[u64],
+    places: &[u64],
+    groups: &[u64],
+    e: Entry,
+    held: Held,
+) -> Held
     requires { ⌜ (length (now numbers) ≡ length (now places)) × (length (now numbers) ≤ length (now own))
         × Holds (now numbers) (now places) held (now own) ⌝ }
     ensures { λ r. ⌜ Holds (now (numbers .entry)) (now (places .entry)) r (now (own .exit))
@@ -58,18 +88,31 @@ fn hold(own: &mut [u64], numbers: &[u64], places: &[u64], groups: &[u64], e: Ent
         return held;
     }
     let m = own_places(own, numbers, places, j);
-    Held { number: j, count: m }
+    Held {
+        number: j,
+        count: m,
+    }
 }
 
 // The records of a tile, in one column.
-fn tile_step(out: &mut [u8], own: &mut [u64], image: &[u8], size: u64, groups: &[u64], e: Entry, numbers: &[u64], places: &[u64], done: &[u64],
-    held: Held) -> Held
+fn tile_step(
+    out: &mut [u8],
+    own: &mut [u64],
+    image: &[u8],
+    size: u64,
+    groups: &[u64],
+    e: Entry,
+    numbers: &[u64],
+    places: &[u64],
+    done: &[u64],
+    held: Held,
+) -> Held
     requires { ⌜ TileDue (now image) size (now groups) e (now done) (picked (numberIn (e .group) (now groups)) (now numbers) (now places))
-          (length (now out))
+        (length (now out))
         × (length (now numbers) ≡ length (now places)) × (length (now numbers) ≤ length (now own))
         × Holds (now numbers) (now places) held (now own) ⌝ }
     ensures { λ r. ⌜ PutTile (now (image .entry)) size (now (groups .entry)) e (now (done .entry))
-          (picked (numberIn (e .group) (now (groups .entry))) (now (numbers .entry)) (now (places .entry))) (now (out .entry)) (now (out .exit))
+        (picked (numberIn (e .group) (now (groups .entry))) (now (numbers .entry)) (now (places .entry))) (now (out .entry)) (now (out .exit))
         × Holds (now (numbers .entry)) (now (places .entry)) r (now (own .exit)) ⌝ }
 {
     let here = hold(own, numbers, places, groups, e, held);
@@ -79,8 +122,20 @@ fn tile_step(out: &mut [u8], own: &mut [u64], image: &[u8], size: u64, groups: &
 }
 
 // The records of a tile, in the columns from number a up to b.
-fn put_tile(out: &mut [u8], own: &mut [u64], image: &[u8], size: u64, groups: &[u64], columns: &[u64], memo: &[u64], a: u64, b: u64,
-    numbers: &[u64], places: &[u64], done: &[u64])
+fn put_tile(
+    out: &mut [u8],
+    own: &mut [u64],
+    image: &[u8],
+    size: u64,
+    groups: &[u64],
+    columns: &[u64],
+    memo: &[u64],
+    a: u64,
+    b: u64,
+    numbers: &[u64],
+    places: &[u64],
+    done: &[u64],
+)
     requires { ⌜ TileNext (now image) size (now groups) (now columns) (now memo) a b (now done) (now numbers) (now places) (length (now out))
         × Lent (now columns) (now memo) a b × (length (now numbers) ≤ length (now own)) ⌝ }
     ensures { λ _. ⌜ PutTiles (now (image .entry)) size (now (groups .entry)) (now (columns .entry)) (now (memo .entry)) a b b
@@ -91,13 +146,33 @@ fn put_tile(out: &mut [u8], own: &mut [u64], image: &[u8], size: u64, groups: &[
     let mut k = a;
     while k < b {
         let e = entry_at(columns, memo, k);
-        held = tile_step(out, own, image, size, groups, e, numbers, places, done, held);
+        held = tile_step(
+            out,
+            own,
+            image,
+            size,
+            groups,
+            e,
+            numbers,
+            places,
+            done,
+            held,
+        );
         k += 1;
     }
 }
 
 // A record that begins at a cursor, if it is of the column's group.
-fn split_column(out: &mut [u8], image: &[u8], size: u64, groups: &[u64], fragments: &[u64], e: Entry, row: Row, done: &[u64])
+fn split_column(
+    out: &mut [u8],
+    image: &[u8],
+    size: u64,
+    groups: &[u64],
+    fragments: &[u64],
+    e: Entry,
+    row: Row,
+    done: &[u64],
+)
     requires { ⌜ SplitDue (now image) size (now groups) (now fragments) e (now done) row (length (now out)) ⌝ }
     ensures { λ _. ⌜ PutSplit (now (image .entry)) size (now (groups .entry)) (now (fragments .entry)) e (now (done .entry)) row
         (now (out .entry)) (now (out .exit)) ⌝ }
@@ -114,8 +189,19 @@ fn split_column(out: &mut [u8], image: &[u8], size: u64, groups: &[u64], fragmen
 }
 
 // The record, in the columns from number a up to b.
-fn put_split(out: &mut [u8], image: &[u8], size: u64, groups: &[u64], fragments: &[u64], columns: &[u64], memo: &[u64], a: u64, b: u64,
-    row: Row, done: &[u64])
+fn put_split(
+    out: &mut [u8],
+    image: &[u8],
+    size: u64,
+    groups: &[u64],
+    fragments: &[u64],
+    columns: &[u64],
+    memo: &[u64],
+    a: u64,
+    b: u64,
+    row: Row,
+    done: &[u64],
+)
     requires { ⌜ SplitNext (now image) size (now groups) (now fragments) (now columns) (now memo) a b (now done) row (length (now out))
         × Lent (now columns) (now memo) a b ⌝ }
     ensures { λ _. ⌜ PutSplits (now (image .entry)) size (now (groups .entry)) (now (fragments .entry)) (now (columns .entry))
@@ -132,12 +218,26 @@ fn put_split(out: &mut [u8], image: &[u8], size: u64, groups: &[u64], fragments:
 // A slice has fewer than 2^64 bytes.
 fn few_bytes(out: &[u8])
     ensures { λ _. ⌜ length (now (out .entry)) < 18446744073709551616 ⌝ }
-{
-}
+{}
 
 // The next records: a tile of them, or one that lies in several fragments.
-fn turn(out: &mut [u8], numbers: &mut [u64], places: &mut [u64], own: &mut [u64], done: &mut [u64], image: &[u8], size: u64,
-    groups: &[u64], fragments: &[u64], columns: &[u64], memo: &[u64], a: u64, b: u64, k: Cursor, z: Sizes) -> Cursor
+fn turn(
+    out: &mut [u8],
+    numbers: &mut [u64],
+    places: &mut [u64],
+    own: &mut [u64],
+    done: &mut [u64],
+    image: &[u8],
+    size: u64,
+    groups: &[u64],
+    fragments: &[u64],
+    columns: &[u64],
+    memo: &[u64],
+    a: u64,
+    b: u64,
+    k: Cursor,
+    z: Sizes,
+) -> Cursor
     requires { ⌜ TurnNext (now image) size z (now groups) (now fragments) (now columns) (now memo) a b k (now done) (length (now out))
         × SizesOf (now image) (now groups) z × Lent (now columns) (now memo) a b × (0 < k .left)
         × (0 < length (now numbers)) × (length (now numbers) ≡ length (now places)) × (length (now numbers) ≤ length (now own)) ⌝ }
@@ -150,18 +250,54 @@ fn turn(out: &mut [u8], numbers: &mut [u64], places: &mut [u64], own: &mut [u64]
     if n == 0 {
         let row = row_at(image, groups, fragments, k, z);
         let r = skip(image, fragments, row.start, row.bytes);
-        put_split(out, image, size, groups, fragments, columns, memo, a, b, row, done);
+        put_split(
+            out,
+            image,
+            size,
+            groups,
+            fragments,
+            columns,
+            memo,
+            a,
+            b,
+            row,
+            done,
+        );
         numbers[0] = row.group;
         tally(done, &numbers[..1]);
         return r;
     }
-    put_tile(out, own, image, size, groups, columns, memo, a, b, &numbers[..n], &places[..n], done);
+    put_tile(
+        out,
+        own,
+        image,
+        size,
+        groups,
+        columns,
+        memo,
+        a,
+        b,
+        &numbers[..n],
+        &places[..n],
+        done,
+    );
     tally(done, &numbers[..n]);
     t.next
 }
 
 // All records of a DG, in the columns from number a up to b.
-fn fill_group(out: &mut [u8], image: &[u8], size: u64, groups: &[u64], fragments: &[u64], columns: &[u64], memo: &[u64], a: u64, b: u64, z: Sizes)
+fn fill_group(
+    out: &mut [u8],
+    image: &[u8],
+    size: u64,
+    groups: &[u64],
+    fragments: &[u64],
+    columns: &[u64],
+    memo: &[u64],
+    a: u64,
+    b: u64,
+    z: Sizes,
+)
     requires { ⌜ GroupReady (now image) size z (now groups) (now fragments) (now columns) (now memo) a b (length (now out)) ⌝ }
     ensures { λ _. ⌜ Filled (now (image .entry)) size (now (groups .entry)) (now (columns .entry)) (now (memo .entry)) a b
         (rowsFrom (now (image .entry)) (z .parent) (now (groups .entry)) (now (fragments .entry)) (nextOf (now (fragments .entry)) start))
@@ -171,13 +307,36 @@ fn fill_group(out: &mut [u8], image: &[u8], size: u64, groups: &[u64], fragments
     let mut places = [0u64; 1024];
     let mut own = [0u64; 1024];
     let mut done = [0u64; 1536];
-    let mut c = next(fragments, Cursor { at: 0, position: 0, left: 0 });
+    let mut c = next(
+        fragments,
+        Cursor {
+            at: 0,
+            position: 0,
+            left: 0,
+        },
+    );
     loop {
         let k = settle_on(fragments, c);
         if k.left == 0 {
             return;
         }
-        c = turn(out, &mut numbers, &mut places, &mut own, &mut done, image, size, groups, fragments, columns, memo, a, b, k, z);
+        c = turn(
+            out,
+            &mut numbers,
+            &mut places,
+            &mut own,
+            &mut done,
+            image,
+            size,
+            groups,
+            fragments,
+            columns,
+            memo,
+            a,
+            b,
+            k,
+            z,
+        );
     }
 }
 
@@ -221,12 +380,29 @@ fn sizes_of(image: &[u8], d: u64, groups: &[u64]) -> Sizes
     let g = word(groups, 0);
     let id = id_size(image, d);
     let length = samples_of(image, g) + inval_bytes_of(image, g);
-    Sizes { parent: d, id, length }
+    Sizes {
+        parent: d,
+        id,
+        length,
+    }
 }
 
 // Of the columns from number a up to b, which have one DG.
-fn fill_run(out: &mut [u8], at: usize, image: &[u8], size: u64, source: &[u64], n: u64, fragments: &[u64], nf: u64,
-    columns: &[u64], memo: &[u64], number: u64, a: u64, b: u64)
+fn fill_run(
+    out: &mut [u8],
+    at: usize,
+    image: &[u8],
+    size: u64,
+    source: &[u64],
+    n: u64,
+    fragments: &[u64],
+    nf: u64,
+    columns: &[u64],
+    memo: &[u64],
+    number: u64,
+    a: u64,
+    b: u64,
+)
     requires { ⌜ DataReady (now image) size (now source) n (now fragments) nf (now columns) (now memo) number at (length (now out))
         × Run (now columns) (now memo) a number b × (a < number) ⌝ }
     ensures { λ _. ⌜ RunFilled (now (image .entry)) size (now (source .entry)) n (now (fragments .entry)) nf (now (columns .entry))
@@ -242,12 +418,34 @@ fn fill_run(out: &mut [u8], at: usize, image: &[u8], size: u64, source: &[u64], 
     let f = (3072 + o.first) as usize;
     let l = f + o.groups as usize;
     let z = sizes_of(image, e.parent, &source[f..l]);
-    fill_group(out, image, size, &source[f..l], &fragments[p..q], columns, memo, a, b, z);
+    fill_group(
+        out,
+        image,
+        size,
+        &source[f..l],
+        &fragments[p..q],
+        columns,
+        memo,
+        a,
+        b,
+        z,
+    );
 }
 
 // Of so many columns.
-pub(crate) fn fill_data(out: &mut [u8], at: usize, image: &[u8], size: u64, source: &[u64], n: u64, fragments: &[u64], nf: u64,
-    columns: &[u64], memo: &[u64], number: u64)
+pub(crate) fn fill_data(
+    out: &mut [u8],
+    at: usize,
+    image: &[u8],
+    size: u64,
+    source: &[u64],
+    n: u64,
+    fragments: &[u64],
+    nf: u64,
+    columns: &[u64],
+    memo: &[u64],
+    number: u64,
+)
     requires { ⌜ DataReady (now image) size (now source) n (now fragments) nf (now columns) (now memo) number at (length (now out)) ⌝ }
     ensures { λ _. ⌜ DataFilled (now (image .entry)) size (now (source .entry)) n (now (fragments .entry)) nf (now (columns .entry))
         (now (memo .entry)) number (now (out .entry)) (now (out .exit)) ⌝ }
@@ -255,7 +453,21 @@ pub(crate) fn fill_data(out: &mut [u8], at: usize, image: &[u8], size: u64, sour
     let mut k = 0;
     while k < number {
         let r = run_end(columns, memo, k, number);
-        fill_run(out, at, image, size, source, n, fragments, nf, columns, memo, number, k, r);
+        fill_run(
+            out,
+            at,
+            image,
+            size,
+            source,
+            n,
+            fragments,
+            nf,
+            columns,
+            memo,
+            number,
+            k,
+            r,
+        );
         k = r;
     }
 }

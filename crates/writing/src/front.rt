@@ -1,7 +1,9 @@
 // The identification and the HD; the new MD and FH.
-use puts::copy;
-use filling::{put_hd, put_md, put_fh};
 use crate::gap::gap;
+use filling::put_fh;
+use filling::put_hd;
+use filling::put_md;
+use puts::copy;
 ghost use mathlib.Core.Path.{_≡_};
 ghost use mathlib.Core.List.{[], _∷_};
 ghost use Prim.Native.Nat.{_+_, _≤_};
@@ -12,7 +14,15 @@ ghost use Rattle.result.specs.Ordered.{Ordered};
 ghost use Rattle.writing.specs.Wrote.{Wrote};
 
 // The identification and the HD at the front of out; the index past them, 168.
-pub(crate) fn write_front(out: &mut [u8], image: &[u8], ident: &[u8], dg: u64, fh: u64, attachment: u64, comment: u64) -> usize
+pub(crate) fn write_front(
+    out: &mut [u8],
+    image: &[u8],
+    ident: &[u8],
+    dg: u64,
+    fh: u64,
+    attachment: u64,
+    comment: u64,
+) -> usize
     requires { ⌜ (length (now ident) ≡ 64) × (168 ≤ length (now out)) ⌝ }
     ensures past { λ r. ⌜ r ≡ 168 ⌝ }
     ensures wrote { λ r. ⌜ Wrote 0 (block 0 (now (ident .entry)) ∷ block 64 (hdBytes (now (image .entry)) dg fh attachment comment) ∷ []) r
@@ -46,7 +56,14 @@ fn write_fh(out: &mut [u8], at: usize, md: u64, fh: u64, time: u64) -> usize
 }
 
 // Both, from index at on; the index past them.
-pub(crate) fn write_history(out: &mut [u8], at: usize, md: u64, fh: u64, text: &[u8], time: u64) -> usize
+pub(crate) fn write_history(
+    out: &mut [u8],
+    at: usize,
+    md: u64,
+    fh: u64,
+    text: &[u8],
+    time: u64,
+) -> usize
     requires { ⌜ Ordered at (block md (mdBytes (now text)) ∷ block fh (fhBytes md time) ∷ []) (length (now out)) ⌝ }
     ensures { λ r. ⌜ Wrote at (block md (mdBytes (now (text .entry))) ∷ block fh (fhBytes md time) ∷ []) r
         (now (out .entry)) (now (out .exit)) ⌝ }

@@ -1,7 +1,10 @@
 // What the words of reading hold of a DG: its fragments and its groups.
-use puts::least;
+use planning::span::dg_past;
+use planning::span::end_of;
+use planning::span::groups_before;
+use planning::span::own_groups;
 use planning::words::word;
-use planning::span::{dg_past, end_of, groups_before, own_groups};
+use puts::least;
 ghost use mathlib.Core.Path.{_≡_};
 ghost use Prim.Native.Nat.{_-_};
 ghost use Rattle.writing.specs.Own.{OwnOf, numberIn};
@@ -33,7 +36,12 @@ pub(crate) fn own_of(source: &[u64], n: u64, nf: u64, d: u64) -> Own
     let begin = least(less_two(word(source, 1535 + i)), end);
     let first = groups_before(source, n, i);
     let groups = own_groups(source, n, i);
-    Own { begin, end, first, groups }
+    Own {
+        begin,
+        end,
+        first,
+        groups,
+    }
 }
 
 // The number of the group at g among groups, or how many they are.

@@ -1,5 +1,7 @@
 // A placed column, from the words of planning and of placing.
-use channels::{width_of, block_count, per_full};
+use channels::block_count;
+use channels::per_full;
+use channels::width_of;
 ghost use mathlib.Core.Path.{_≡_};
 ghost use Prim.Native.Nat.{_+_, _*_, _≤_, _<_};
 ghost use lib.ListN.{length};
@@ -102,7 +104,14 @@ fn payload_of(image: &[u8], size: u64, g: u64, c: u64, n: u64) -> u64
 }
 
 // Column number k of n.
-pub(crate) fn column_of(image: &[u8], size: u64, columns: &[u64], memo: &[u64], n: u64, k: u64) -> PlacedColumn
+pub(crate) fn column_of(
+    image: &[u8],
+    size: u64,
+    columns: &[u64],
+    memo: &[u64],
+    n: u64,
+    k: u64,
+) -> PlacedColumn
     requires { ⌜ Near (now memo) n × (k < n) × (4096 ≤ length (now columns)) ⌝ }
     ensures { λ r. ⌜ r ≡ columnOf (now (image .entry)) size (now (columns .entry)) (now (memo .entry)) n k ⌝ }
 {
@@ -119,5 +128,18 @@ pub(crate) fn column_of(image: &[u8], size: u64, columns: &[u64], memo: &[u64], 
     let sd = sd_link(columns[i + 6], memo[j + 2]);
     let blocks = blocks_of(image, size, group, channel, records);
     let payload = payload_of(image, size, group, channel, records);
-    PlacedColumn { channel, group, parent: columns[i + 2], records, remote, master, dg, cn, first: memo[j + 1], sd, blocks, payload }
+    PlacedColumn {
+        channel,
+        group,
+        parent: columns[i + 2],
+        records,
+        remote,
+        master,
+        dg,
+        cn,
+        first: memo[j + 1],
+        sd,
+        blocks,
+        payload,
+    }
 }

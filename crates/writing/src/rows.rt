@@ -1,7 +1,11 @@
 // The records of a DG's groups, one after the other, and the tile of those that each lie whole in a fragment.
-use records::framing::{Framing, Step};
-use crate::cursor::{Cursor, next, onward, skip};
+use crate::cursor::Cursor;
+use crate::cursor::next;
+use crate::cursor::onward;
+use crate::cursor::skip;
 use crate::kinds::id_here;
+use records::framing::Framing;
+use records::framing::Step;
 ghost use mathlib.Core.Path.{_≡_};
 ghost use Prim.Native.Nat.{_+_, _≤_, _<_};
 ghost use lib.ListN.{length};
@@ -55,7 +59,11 @@ fn alone_at(image: &[u8], groups: &[u64], fragments: &[u64], k: Cursor, z: Sizes
 {
     let n = id_here(fragments, k, z.id);
     let start = skip(image, fragments, k, n);
-    Row { group: 0, bytes: z.length, start }
+    Row {
+        group: 0,
+        bytes: z.length,
+        start,
+    }
 }
 
 // The record here, of one of several groups.
@@ -67,10 +75,24 @@ fn among_at(image: &[u8], groups: &[u64], fragments: &[u64], k: Cursor, z: Sizes
     let f = Framing { at: k.at as u64 };
     let step = f.step(image, z.id, groups, fragments, k.position, k.left);
     match step {
-        Step::Broken => Row { group: 0, bytes: 0, start: k },
-        Step::Record { group, bytes, next: _, position: _, left: _ } => {
+        Step::Broken => Row {
+            group: 0,
+            bytes: 0,
+            start: k,
+        },
+        Step::Record {
+            group,
+            bytes,
+            next: _,
+            position: _,
+            left: _,
+        } => {
             let start = skip(image, fragments, k, z.id);
-            Row { group, bytes, start }
+            Row {
+                group,
+                bytes,
+                start,
+            }
         }
     }
 }
@@ -87,7 +109,15 @@ pub(crate) fn row_at(image: &[u8], groups: &[u64], fragments: &[u64], k: Cursor,
 }
 
 // The numbers of groups and the places of the next records, up to the first that lies in several fragments.
-pub(crate) fn gather(numbers: &mut [u64], places: &mut [u64], image: &[u8], groups: &[u64], fragments: &[u64], k: Cursor, z: Sizes) -> Tile
+pub(crate) fn gather(
+    numbers: &mut [u64],
+    places: &mut [u64],
+    image: &[u8],
+    groups: &[u64],
+    fragments: &[u64],
+    k: Cursor,
+    z: Sizes,
+) -> Tile
     requires { ⌜ SizesOf (now image) (now groups) z × Flowing (now image) (z .parent) (now groups) (now fragments) k
         × (length (now numbers) ≡ length (now places)) ⌝ }
     ensures { λ r. ⌜ Gathered (now (image .entry)) (z .parent) (now (groups .entry)) (now (fragments .entry)) k (r .next) (r .count)

@@ -1,5 +1,7 @@
 // Signal data: the joined data of a channel's SD chain, as one SD block.
-use puts::{least, copy, header};
+use puts::copy;
+use puts::header;
+use puts::least;
 ghost use mathlib.Core.Path.{_≡_};
 ghost use Prim.Native.Nat.{_%_, _^_};
 ghost use lib.ListN.{length};

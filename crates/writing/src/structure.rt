@@ -1,10 +1,16 @@
 // Every column's DG, CG, CN and DL, one after the other.
-use blocks::block::link_at;
-use channels::{channel_bytes, keeps_inval};
-use filling::{put_dg, put_cg, put_cn, put_dl};
-use placing::memo::new_link;
 use crate::gap::gap;
-use crate::placed::{PlacedColumn, column_of, next_place};
+use crate::placed::PlacedColumn;
+use crate::placed::column_of;
+use crate::placed::next_place;
+use blocks::block::link_at;
+use channels::channel_bytes;
+use channels::keeps_inval;
+use filling::put_cg;
+use filling::put_cn;
+use filling::put_dg;
+use filling::put_dl;
+use placing::memo::new_link;
 ghost use mathlib.Core.Path.{_≡_};
 ghost use mathlib.Core.List.{[], _∷_};
 ghost use Prim.Native.Nat.{_+_, _*_, _-_, _≤_, _<_};
@@ -57,7 +63,20 @@ fn fill_cg(d: &mut [u8], image: &[u8], memo: &[u64], used: u64, h: PlacedColumn)
     let comment = link(image, memo, used, h.group, 5);
     let bytes = channel_bytes(image, h.channel);
     let inval = keeps_inval(image, h.group, h.channel);
-    put_cg(d, image, h.group, h.cn, name, source, comment, h.remote, h.master, h.records, bytes, inval);
+    put_cg(
+        d,
+        image,
+        h.group,
+        h.cn,
+        name,
+        source,
+        comment,
+        h.remote,
+        h.master,
+        h.records,
+        bytes,
+        inval,
+    );
 }
 
 // The CN.
@@ -70,11 +89,30 @@ fn fill_cn(d: &mut [u8], image: &[u8], memo: &[u64], used: u64, h: PlacedColumn)
     let unit = link(image, memo, used, h.channel, 6);
     let comment = link(image, memo, used, h.channel, 7);
     let keeps = keeps_inval(image, h.group, h.channel);
-    put_cn(d, image, h.channel, keeps, name, source, conversion, h.sd, unit, comment);
+    put_cn(
+        d,
+        image,
+        h.channel,
+        keeps,
+        name,
+        source,
+        conversion,
+        h.sd,
+        unit,
+        comment,
+    );
 }
 
 // The DG at its place, zeros before it; the index past it.
-fn write_dg(out: &mut [u8], at: usize, image: &[u8], memo: &[u64], used: u64, h: PlacedColumn, next: u64) -> usize
+fn write_dg(
+    out: &mut [u8],
+    at: usize,
+    image: &[u8],
+    memo: &[u64],
+    used: u64,
+    h: PlacedColumn,
+    next: u64,
+) -> usize
     requires { ⌜ (at ≤ h .dg) × (h .dg + 64 ≤ h .cn) × (h .cn + 160 ≤ length (now out)) ⌝ }
     ensures { λ r. ⌜ Wrote at (block (h .dg) (columnDG (now (image .entry)) (copiesIn (now (memo .entry)) used) h next) ∷ []) r
         (now (out .entry)) (now (out .exit)) ⌝ }
@@ -86,7 +124,14 @@ fn write_dg(out: &mut [u8], at: usize, image: &[u8], memo: &[u64], used: u64, h:
 }
 
 // The CG.
-fn write_cg(out: &mut [u8], at: usize, image: &[u8], memo: &[u64], used: u64, h: PlacedColumn) -> usize
+fn write_cg(
+    out: &mut [u8],
+    at: usize,
+    image: &[u8],
+    memo: &[u64],
+    used: u64,
+    h: PlacedColumn,
+) -> usize
     requires { ⌜ (at ≤ h .dg + 64) × (h .cn ≡ h .dg + 64 + cgLength (h .remote)) × (h .cn ≤ length (now out)) ×
         (dataAt (now image) (h .group) + 32 ≤ length (now image)) ⌝ }
     ensures { λ r. ⌜ Wrote at (block (h .dg + 64) (columnCG (now (image .entry)) (copiesIn (now (memo .entry)) used) h) ∷ []) r
@@ -99,7 +144,14 @@ fn write_cg(out: &mut [u8], at: usize, image: &[u8], memo: &[u64], used: u64, h:
 }
 
 // The CN.
-fn write_cn(out: &mut [u8], at: usize, image: &[u8], memo: &[u64], used: u64, h: PlacedColumn) -> usize
+fn write_cn(
+    out: &mut [u8],
+    at: usize,
+    image: &[u8],
+    memo: &[u64],
+    used: u64,
+    h: PlacedColumn,
+) -> usize
     requires { ⌜ (at ≤ h .cn) × (h .cn + 160 ≤ length (now out)) × (dataAt (now image) (h .channel) + 72 ≤ length (now image)) ⌝ }
     ensures { λ r. ⌜ Wrote at (block (h .cn) (columnCN (now (image .entry)) (copiesIn (now (memo .entry)) used) h) ∷ []) r
         (now (out .entry)) (now (out .exit)) ⌝ }
@@ -126,7 +178,15 @@ fn write_dl(out: &mut [u8], at: usize, h: PlacedColumn) -> usize
 }
 
 // A column's blocks.
-fn write_column(out: &mut [u8], at: usize, image: &[u8], memo: &[u64], used: u64, h: PlacedColumn, next: u64) -> usize
+fn write_column(
+    out: &mut [u8],
+    at: usize,
+    image: &[u8],
+    memo: &[u64],
+    used: u64,
+    h: PlacedColumn,
+    next: u64,
+) -> usize
     requires { ⌜ Room (now image) h at (length (now out)) ⌝ }
     ensures { λ r. ⌜ Wrote at (columnParts (now (image .entry)) (copiesIn (now (memo .entry)) used) h next) r
         (now (out .entry)) (now (out .exit)) ⌝ }
@@ -139,7 +199,14 @@ fn write_column(out: &mut [u8], at: usize, image: &[u8], memo: &[u64], used: u64
 
 // The blocks of n columns, whose words columns and memo have, from index at on; the index past them.
 pub(crate) fn write_structure(
-    out: &mut [u8], at: usize, image: &[u8], size: u64, columns: &[u64], memo: &[u64], n: u64, used: u64,
+    out: &mut [u8],
+    at: usize,
+    image: &[u8],
+    size: u64,
+    columns: &[u64],
+    memo: &[u64],
+    n: u64,
+    used: u64,
 ) -> usize
     requires { ⌜ StructureReady (now image) size (now columns) (now memo) n used at (length (now out)) ⌝ }
     ensures { λ r. ⌜ Wrote at (structureBlocks (now (image .entry)) size (copiesIn (now (memo .entry)) used)

@@ -12,7 +12,8 @@ returns c = record { is = step-zeros 61 _ (eq-yes _ _ _ _ (omega arith) refl); s
 
 returns-2 : tie.Need-returns-2
 unfolding capped
-returns-2 c = record { is = step-zeros 61 _ (eq-no _ _ _ _ (omega arith) (eq-yes _ _ _ _ (omega arith) refl)); small = omega arith }
+returns-2 c = record { is = step-zeros 61 _ (eq-no _ _ _ _ (omega arith) (eq-yes _ _ _ _ (omega arith) refl)); small = omega
+    arith }
 
 returns-3 : tie.Need-returns-3
 unfolding capped

@@ -11,7 +11,8 @@ use Rattle.copying.proofs.first_link.Statement.{statement}
 use Rattle.copying.proofs.first_link.Tie as tie
 
 abbrev Inv-loop : tie.InvT-loop
-Inv-loop image memo used chain fh a end i₀ i = Chain image memo (copiesIn memo used) fh a i end (firstNew image (copiesIn memo used) a (historyLink a (part historyAt chain memo) (copiesIn memo used) fh))
+Inv-loop image memo used chain fh a end i₀ i = Chain image memo (copiesIn memo used) fh a i end (firstNew image (copiesIn memo
+    used) a (historyLink a (part historyAt chain memo) (copiesIn memo used) fh))
 
 abbrev μ-loop : tie.MeasureT-loop
 μ-loop image memo used chain fh a end i₀ i = end - i
@@ -32,7 +33,8 @@ sub-if2 : tie.Need-sub-if2 Inv-loop μ-loop
 sub-if2 c = search needs
 
 returns : tie.Need-returns Inv-loop μ-loop
-returns c = history-last (c .before .before .before .before .loop .inv) (c .before .before .before .loop-test .taken) (omega arith) (omega arith)
+returns c = history-last (c .before .before .before .before .loop .inv) (c .before .before .before .loop-test .taken) (omega
+    arith) (omega arith)
 
 add-new-link : tie.Need-add-new-link Inv-loop μ-loop
 add-new-link c = search needs
@@ -47,7 +49,8 @@ new-link-requires : tie.Need-new-link-requires Inv-loop μ-loop
 new-link-requires c κs = search needs
 
 returns-2 : tie.Need-returns-2 Inv-loop μ-loop
-returns-2 c = history-next (c .before .before .before .before .before .before .loop .inv) (omega arith) (omega arith) (c .new-link .ensures)
+returns-2 c = history-next (c .before .before .before .before .before .before .loop .inv) (omega arith) (omega arith)
+    (c .new-link .ensures)
 
 add-i : tie.Need-add-i Inv-loop μ-loop
 add-i c = search needs

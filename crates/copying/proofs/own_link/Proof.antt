@@ -18,7 +18,8 @@ new-link-requires : tie.Need-new-link-requires
 new-link-requires c κs = search needs
 
 returns-2 : tie.Need-returns-2
-returns-2 c = own-led _ _ _ (c .before .before .before .kind-at .ensures) (λ e. omega arith) (c .before .link-at .ensures) (c .new-link .ensures)
+returns-2 c = own-led _ _ _ (c .before .before .before .kind-at .ensures) (λ e. omega arith) (c .before .link-at .ensures)
+    (c .new-link .ensures)
 
 pub own-link-spec : {M : Type 1} → statement M
 own-link-spec =

@@ -24,7 +24,9 @@ same-length : tie.Need-same-length
 same-length c = search needs
 
 returns-2 : tie.Need-returns-2
-returns-2 c = copied-some _ _ _ _ _ _ _ (omega arith) (c .before .before .before .before .before .before .before .first-link .ensures) (c .before .before .before .before .before .before .put-u64 .ensures) (c .before .before .put-links .ensures)
+returns-2 c = copied-some _ _ _ _ _ _ _ (omega arith)
+    (c .before .before .before .before .before .before .before .first-link .ensures)
+    (c .before .before .before .before .before .before .put-u64 .ensures) (c .before .before .put-links .ensures)
 
 pub put-copied-links-spec : {M : Type 1} → statement M
 put-copied-links-spec =

@@ -35,7 +35,8 @@ same-length : tie.Need-same-length
 same-length c = search needs
 
 returns-3 : tie.Need-returns-3
-returns-3 c = data-from _ _ _ _ (c .before .before .before .before .data-at .ensures) (c .before .before .before .before .before .data-size .ensures) (c .before .before .copy .ensures)
+returns-3 c = data-from _ _ _ _ (c .before .before .before .before .data-at .ensures)
+    (c .before .before .before .before .before .data-size .ensures) (c .before .before .copy .ensures)
 
 pub put-data-spec : {M : Type 1} → statement M
 put-data-spec =

@@ -14,9 +14,9 @@ use Rattle.copying.proofs.put_links.Tie as tie
 
 abbrev Inv-loop : tie.InvT-loop
 Inv-loop d₀ at image memo used a k zero left₀ i₀ p₀ d left i p =
- 
     (p < length d) × (length d ≡ length d₀) × (p + 8 ≡ at + 8 * i) × (zero ≡ newLink (copiesIn memo used) 0)
-    × (blit p (newLinks image (copiesIn memo used) left (a + 24 + 8 * i)) d ≡ blit at (newLinks image (copiesIn memo used) k (a + 32)) d₀)
+    × (blit p (newLinks image (copiesIn memo used) left (a + 24 + 8 * i)) d ≡ blit at (newLinks image (copiesIn memo used) k (a +
+        32)) d₀)
 
 abbrev μ-loop : tie.MeasureT-loop
 μ-loop d₀ at image memo used a k zero left₀ i₀ p₀ d left i p = left
@@ -46,7 +46,10 @@ same-length : tie.Need-same-length Inv-loop μ-loop
 same-length c = search needs
 
 returns-2 : tie.Need-returns-2 Inv-loop μ-loop
-returns-2 c = links-end _ _ _ _ _ _ _ (c .before .before .before .before .before .before .before .loop-test .taken) (c .before .before .before .before .before .before .before .before .loop .inv .4) (c .before .before .before .before .before .before .link-at .ensures) (c .before .before .before .before .before .led .ensures) (c .before .before .before .put-u64 .ensures) (omega arith)
+returns-2 c = links-end _ _ _ _ _ _ _ (c .before .before .before .before .before .before .before .loop-test .taken)
+    (c .before .before .before .before .before .before .before .before .loop .inv .4)
+    (c .before .before .before .before .before .before .link-at .ensures)
+    (c .before .before .before .before .before .led .ensures) (c .before .before .before .put-u64 .ensures) (omega arith)
 
 add-p : tie.Need-add-p Inv-loop μ-loop
 add-p c = search needs
@@ -61,9 +64,16 @@ loop-less : tie.Need-loop-less Inv-loop μ-loop
 loop-less c = search needs
 
 loop-again : tie.Need-loop-again Inv-loop μ-loop
-loop-again c =
-    (omega arith, omega arith, omega arith, c .before .before .before .before .before .before .before .before .loop .inv .3,
-    links-turn _ _ _ _ _ _ _ (c .before .before .before .before .before .before .before .loop-test .taken) (c .before .before .before .before .before .before .before .before .loop .inv .4) (c .before .before .before .before .before .before .link-at .ensures) (c .before .before .before .before .before .led .ensures) (c .before .before .before .put-u64 .ensures))
+loop-again c = (
+  omega arith,
+  omega arith,
+  omega arith,
+  c .before .before .before .before .before .before .before .before .loop .inv .3,
+  links-turn _ _ _ _ _ _ _ (c .before .before .before .before .before .before .before .loop-test .taken)
+      (c .before .before .before .before .before .before .before .before .loop .inv .4)
+      (c .before .before .before .before .before .before .link-at .ensures)
+      (c .before .before .before .before .before .led .ensures) (c .before .before .before .put-u64 .ensures),
+)
 
 same-length-2 : tie.Need-same-length-2 Inv-loop μ-loop
 same-length-2 c = search needs

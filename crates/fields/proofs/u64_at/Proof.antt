@@ -21,7 +21,8 @@ add-result : tie.Need-add-result
 add-result c = search needs
 
 returns : tie.Need-returns
-returns c = omega (arith, split 4 4 (c .before .before .before .before .args .s .now) (c .before .before .before .before .args .at))
+returns c = omega (arith, split 4 4 (c .before .before .before .before .args .s .now)
+    (c .before .before .before .before .args .at))
 
 returns-2 : tie.Need-returns-2
 returns-2 c = omega (arith, le-past 8 (c .before .before .args .s .now) (c .before .before .args .at) (omega arith))

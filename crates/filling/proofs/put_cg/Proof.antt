@@ -18,7 +18,10 @@ same-length : tie.Need-same-length
 same-length c = search needs
 
 returns : tie.Need-returns
-returns c = cg-remote _ _ _ _ _ _ _ _ _ _ _ _ _ _ _ (c .before .before .before .before .before .before .before .before .if1 .taken) (c .before .before .before .before .before .before .before .before .before .before .before .put-cg-front .ensures) (c .before .before .before .before .before .before .put-u64 .ensures) (c .before .before .put-cg-data .ensures)
+returns c = cg-remote _ _ _ _ _ _ _ _ _ _ _ _ _ _ _
+    (c .before .before .before .before .before .before .before .before .if1 .taken)
+    (c .before .before .before .before .before .before .before .before .before .before .before .put-cg-front .ensures)
+    (c .before .before .before .before .before .before .put-u64 .ensures) (c .before .before .put-cg-data .ensures)
 
 put-cg-data-requires-2 : tie.Need-put-cg-data-requires-2
 put-cg-data-requires-2 c κs = search needs
@@ -27,7 +30,8 @@ same-length-2 : tie.Need-same-length-2
 same-length-2 c = search needs
 
 returns-2 : tie.Need-returns-2
-returns-2 c = cg-own _ _ _ _ _ _ _ _ _ _ _ _ _ _ (c .before .before .before .before .if1 .left) (c .before .before .before .before .before .before .before .put-cg-front .ensures) (c .before .before .put-cg-data2 .ensures)
+returns-2 c = cg-own _ _ _ _ _ _ _ _ _ _ _ _ _ _ (c .before .before .before .before .if1 .left)
+    (c .before .before .before .before .before .before .before .put-cg-front .ensures) (c .before .before .put-cg-data2 .ensures)
 
 pub put-cg-spec : {M : Type 1} → statement M
 put-cg-spec =

@@ -39,8 +39,12 @@ same-length c = search needs
 returns : tie.Need-returns
 unfolding cgCounts
 returns c =
-    let a = blit-next _ _ _ _ _ _ _ (c .before .before .before .before .before .before .before .before .before .before .before .before .before .before .before .put-u64 .ensures) (c .before .before .before .before .before .before .before .before .before .before .before .put-u642 .ensures) (simp length-le) in
-    let b = blit-next _ _ _ _ _ _ _ a (rw (c .before .before .before .before .before .before .before .cg-flags .ensures) at (c .before .before .before .before .before .before .put-u16 .ensures)) (simp (length-append, length-le)) in
+    let a = blit-next _ _ _ _ _ _ _
+        (c .before .before .before .before .before .before .before .before .before .before .before .before .before .before .before .put-u64 .ensures)
+        (c .before .before .before .before .before .before .before .before .before .before .before .put-u642 .ensures) (simp
+        length-le) in
+    let b = blit-next _ _ _ _ _ _ _ a (rw (c .before .before .before .before .before .before .before .cg-flags .ensures) at
+        (c .before .before .before .before .before .before .put-u16 .ensures)) (simp (length-append, length-le)) in
     laid-next _ _ _ _ _ _ _ _ _ _ b (c .before .before .put-data .ensures) (simp (length-append, length-le)) (omega arith)
 
 pub put-cg-counts-spec : {M : Type 1} → statement M

@@ -36,10 +36,14 @@ same-length c = search needs
 returns : tie.Need-returns
 unfolding cgDataFrom
 returns c =
-    let l = c .before .before .before .before .before .before .before .before .before .before .before .before .before .before .before .put-cg-counts .ensures in
-    let a = blit-next _ _ _ _ _ _ _ (l .is) (c .before .before .before .before .before .before .before .before .before .before .before .put-u32 .ensures) (l .past) in
-    let b = blit-next _ _ _ _ _ _ _ a (c .before .before .before .before .before .before .before .put-u322 .ensures) (simp (length-append, length-le) (omega (arith, l .past))) in
-    blit-next _ _ _ _ _ _ _ b (rw (c .before .before .before .one-if .ensures) at (c .before .before .put-u323 .ensures)) (simp (length-append, length-le) (omega (arith, l .past)))
+    let l = c .before .before .before .before .before .before .before .before .before .before .before .before .before .before .before .put-cg-counts .ensures
+        in
+    let a = blit-next _ _ _ _ _ _ _ (l .is)
+        (c .before .before .before .before .before .before .before .before .before .before .before .put-u32 .ensures) (l .past) in
+    let b = blit-next _ _ _ _ _ _ _ a (c .before .before .before .before .before .before .before .put-u322 .ensures) (simp
+        (length-append, length-le) (omega (arith, l .past))) in
+    blit-next _ _ _ _ _ _ _ b (rw (c .before .before .before .one-if .ensures) at (c .before .before .put-u323 .ensures)) (simp
+        (length-append, length-le) (omega (arith, l .past)))
 
 pub put-cg-data-spec : {M : Type 1} → statement M
 put-cg-data-spec =

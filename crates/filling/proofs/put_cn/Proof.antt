@@ -28,9 +28,13 @@ returns : tie.Need-returns
 unfolding cnFrom
 returns c =
     let l = c .before .before .before .before .before .before .put-cn-types .ensures in
-    let a = blit-next _ _ _ _ _ _ _ (c .before .before .before .before .before .before .before .before .before .before .before .before .before .before .put-cn-links .ensures) (c .before .before .before .before .before .before .before .before .before .before .put-u64 .ensures) (simp length-cn-links) in
+    let a = blit-next _ _ _ _ _ _ _
+        (c .before .before .before .before .before .before .before .before .before .before .before .before .before .before .put-cn-links .ensures)
+        (c .before .before .before .before .before .before .before .before .before .before .put-u64 .ensures) (simp
+        length-cn-links) in
     let b = blit-next _ _ _ _ _ _ _ a (l .is) (simp (length-append, length-cn-links, length-le)) in
-    blit-next _ _ _ _ _ _ _ b (c .before .before .put-cn-rest .ensures) (simp (length-append, length-cn-links, length-le) (omega (arith, l .past)))
+    blit-next _ _ _ _ _ _ _ b (c .before .before .put-cn-rest .ensures) (simp (length-append, length-cn-links, length-le) (omega
+        (arith, l .past)))
 
 pub put-cn-spec : {M : Type 1} → statement M
 put-cn-spec =

@@ -43,10 +43,16 @@ returns : tie.Need-returns
 unfolding cnRest
 returns c =
     let l = c .before .before .before .before .before .before .before .before .before .before .put-data .ensures in
-    let a = blit-next _ _ _ _ _ _ _ (rw (c .before .before .before .before .before .before .before .before .before .before .before .before .before .before .before .before .before .before .before .cn-flags .ensures) at (c .before .before .before .before .before .before .before .before .before .before .before .before .before .before .before .before .before .before .put-u32 .ensures)) (c .before .before .before .before .before .before .before .before .before .before .before .before .before .before .put-u322 .ensures) (simp length-le) in
+    let a = blit-next _ _ _ _ _ _ _ (rw
+        (c .before .before .before .before .before .before .before .before .before .before .before .before .before .before .before .before .before .before .before .cn-flags .ensures)
+        at (c .before .before .before .before .before .before .before .before .before .before .before .before .before .before .before .before .before .before .put-u32 .ensures))
+        (c .before .before .before .before .before .before .before .before .before .before .before .before .before .before .put-u322 .ensures)
+        (simp length-le) in
     let b = blit-next _ _ _ _ _ _ _ a (l .is) (simp (length-append, length-le)) in
-    let e = blit-next _ _ _ _ _ _ _ b (c .before .before .before .before .before .before .put-u16 .ensures) (simp (length-append, length-le) (omega (arith, l .past))) in
-    blit-next _ _ _ _ _ _ _ e (c .before .before .put-data2 .ensures .is) (simp (length-append, length-le) (omega (arith, l .past)))
+    let e = blit-next _ _ _ _ _ _ _ b (c .before .before .before .before .before .before .put-u16 .ensures) (simp (length-append,
+        length-le) (omega (arith, l .past))) in
+    blit-next _ _ _ _ _ _ _ e (c .before .before .put-data2 .ensures .is) (simp (length-append, length-le) (omega (arith,
+        l .past)))
 
 pub put-cn-rest-spec : {M : Type 1} → statement M
 put-cn-rest-spec =

@@ -34,9 +34,14 @@ returns : tie.Need-returns
 unfolding cnTypes
 returns c =
     let l = c .before .before .before .before .before .before .before .before .before .before .put-data .ensures in
-    let a = blit-next _ _ _ _ _ _ _ (rw (c .before .before .before .before .before .before .before .before .before .before .before .before .before .before .before .stored-type .ensures) at (c .before .before .before .before .before .before .before .before .before .before .before .before .before .before .put-u8 .ensures)) (l .is) (simp length-le) in
-    let b = blit-next _ _ _ _ _ _ _ a (c .before .before .before .before .before .before .put-u32 .ensures) (simp (length-append, length-le) (omega (arith, l .past))) in
-    laid-next _ _ _ _ _ _ _ _ _ _ b (c .before .before .put-data2 .ensures) (simp (length-append, length-le) (omega (arith, l .past))) (omega (arith, l .small))
+    let a = blit-next _ _ _ _ _ _ _ (rw
+        (c .before .before .before .before .before .before .before .before .before .before .before .before .before .before .before .stored-type .ensures)
+        at (c .before .before .before .before .before .before .before .before .before .before .before .before .before .before .put-u8 .ensures))
+        (l .is) (simp length-le) in
+    let b = blit-next _ _ _ _ _ _ _ a (c .before .before .before .before .before .before .put-u32 .ensures) (simp (length-append,
+        length-le) (omega (arith, l .past))) in
+    laid-next _ _ _ _ _ _ _ _ _ _ b (c .before .before .put-data2 .ensures) (simp (length-append, length-le) (omega (arith,
+        l .past))) (omega (arith, l .small))
 
 pub put-cn-types-spec : {M : Type 1} → statement M
 put-cn-types-spec =

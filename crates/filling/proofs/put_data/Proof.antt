@@ -37,7 +37,8 @@ same-length : tie.Need-same-length
 same-length c = search needs
 
 returns-2 : tie.Need-returns-2
-returns-2 c = laid-part _ _ _ _ _ _ _ _ _ _ (c .before .before .before .before .before .before .data-at .ensures) (omega arith) (c .before .before .before .copy .ensures) (c .least .ensures) (omega arith)
+returns-2 c = laid-part _ _ _ _ _ _ _ _ _ _ (c .before .before .before .before .before .before .data-at .ensures) (omega arith)
+    (c .before .before .before .copy .ensures) (c .least .ensures) (omega arith)
 
 pub put-data-spec : {M : Type 1} → statement M
 put-data-spec =

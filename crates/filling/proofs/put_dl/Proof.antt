@@ -27,7 +27,12 @@ same-length : tie.Need-same-length
 same-length c = search needs
 
 returns : tie.Need-returns
-returns c = dl-laid _ _ _ _ _ _ _ _ _ _ (c .before .before .before .before .before .before .before .before .before .before .before .before .before .before .before .before .dl-size .ensures) (c .before .before .before .before .before .before .before .before .before .before .before .before .before .before .before .wrapping-add-u64 .ensures) (c .before .before .before .before .before .before .before .before .before .before .before .before .before .before .header .ensures) (c .before .before .before .before .before .before .before .before .before .before .put-u64 .ensures) (c .before .before .before .before .before .before .put-links .ensures) (c .before .before .put-dl-past .ensures)
+returns c = dl-laid _ _ _ _ _ _ _ _ _ _
+    (c .before .before .before .before .before .before .before .before .before .before .before .before .before .before .before .before .dl-size .ensures)
+    (c .before .before .before .before .before .before .before .before .before .before .before .before .before .before .before .wrapping-add-u64 .ensures)
+    (c .before .before .before .before .before .before .before .before .before .before .before .before .before .before .header .ensures)
+    (c .before .before .before .before .before .before .before .before .before .before .put-u64 .ensures)
+    (c .before .before .before .before .before .before .put-links .ensures) (c .before .before .put-dl-past .ensures)
 
 pub put-dl-spec : {M : Type 1} → statement M
 put-dl-spec =

@@ -24,7 +24,9 @@ same-length : tie.Need-same-length
 same-length c = search needs
 
 returns : tie.Need-returns
-returns c = hd-laid _ _ _ _ _ _ _ (c .before .before .before .before .before .before .before .before .before .data-size .ensures) (c .before .before .before .before .before .before .before .before .least .ensures) (c .before .before .before .before .before .before .put-data .ensures) (c .before .before .zero .ensures)
+returns c = hd-laid _ _ _ _ _ _ _ (c .before .before .before .before .before .before .before .before .before .data-size .ensures)
+    (c .before .before .before .before .before .before .before .before .least .ensures)
+    (c .before .before .before .before .before .before .put-data .ensures) (c .before .before .zero .ensures)
 
 pub put-hd-data-spec : {M : Type 1} → statement M
 put-hd-data-spec =

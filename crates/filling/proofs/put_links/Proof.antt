@@ -12,7 +12,8 @@ use Rattle.filling.proofs.put_links.Statement.{statement}
 use Rattle.filling.proofs.put_links.Tie as tie
 
 abbrev Inv-loop : tie.InvT-loop
-Inv-loop d₀ payload n a step left₀ p₀ b₀ d left p b = (p < length d) × (length d ≡ length d₀) × (blit p (blockLinks payload left b) d ≡ blit 32 (blockLinks payload n a) d₀)
+Inv-loop d₀ payload n a step left₀ p₀ b₀ d left p b = (p < length d) × (length d ≡ length d₀) × (blit p (blockLinks payload left
+    b) d ≡ blit 32 (blockLinks payload n a) d₀)
 
 abbrev μ-loop : tie.MeasureT-loop
 μ-loop d₀ payload n a step left₀ p₀ b₀ d left p b = left
@@ -36,7 +37,8 @@ same-length : tie.Need-same-length Inv-loop μ-loop
 same-length c = search needs
 
 returns-2 : tie.Need-returns-2 Inv-loop μ-loop
-returns-2 c = links-end _ _ _ _ _ _ _ (c .before .before .before .before .before .loop-test .taken) (c .before .before .before .before .before .before .loop .inv .2) (c .before .before .before .put-u64 .ensures) (omega arith)
+returns-2 c = links-end _ _ _ _ _ _ _ (c .before .before .before .before .before .loop-test .taken)
+    (c .before .before .before .before .before .before .loop .inv .2) (c .before .before .before .put-u64 .ensures) (omega arith)
 
 add-p : tie.Need-add-p Inv-loop μ-loop
 add-p c = search needs
@@ -51,7 +53,12 @@ loop-less : tie.Need-loop-less Inv-loop μ-loop
 loop-less c = search needs
 
 loop-again : tie.Need-loop-again Inv-loop μ-loop
-loop-again c = (omega arith, omega arith, links-turn _ _ _ _ _ _ _ _ _ (c .before .before .before .before .before .before .loop-test .taken) (c .before .before .before .before .before .before .before .loop .inv .2) (c .before .before .before .before .put-u64 .ensures) (c .before .before .before .before .before .before .before .before .wrapping-add-u64 .ensures) (c .wrapping-add-u642 .ensures))
+loop-again c = (omega arith, omega arith, links-turn _ _ _ _ _ _ _ _ _
+    (c .before .before .before .before .before .before .loop-test .taken)
+    (c .before .before .before .before .before .before .before .loop .inv .2)
+    (c .before .before .before .before .put-u64 .ensures)
+    (c .before .before .before .before .before .before .before .before .wrapping-add-u64 .ensures)
+    (c .wrapping-add-u642 .ensures))
 
 same-length-2 : tie.Need-same-length-2 Inv-loop μ-loop
 same-length-2 c = search needs

@@ -25,7 +25,10 @@ same-length : tie.Need-same-length
 same-length c = search needs
 
 returns : tie.Need-returns
-returns c = md-laid _ _ _ _ _ _ _ refl (c .before .before .before .before .before .before .before .before .before .before .before .wrapping-add-u64 .ensures) (c .before .before .before .before .before .before .before .before .before .before .header .ensures) (c .before .before .before .before .before .before .copy .ensures) (c .before .before .put-padding .ensures)
+returns c = md-laid _ _ _ _ _ _ _ refl
+    (c .before .before .before .before .before .before .before .before .before .before .before .wrapping-add-u64 .ensures)
+    (c .before .before .before .before .before .before .before .before .before .before .header .ensures)
+    (c .before .before .before .before .before .before .copy .ensures) (c .before .before .put-padding .ensures)
 
 pub put-md-spec : {M : Type 1} → statement M
 put-md-spec =

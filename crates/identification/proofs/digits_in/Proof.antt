@@ -6,7 +6,14 @@ use mathlib.Core.Path.{_≡_}
 use Rattle.mdf.specs.Identification.{digitsFrom, digits}
 use Rattle.identification.specs.Range.{range}
 use Rattle.identification.specs.IdentificationLaws.{
-  digits-none, digits-begin, digits-end, digits-under, digits-above, digits-on, digits-large}
+  digits-none,
+  digits-begin,
+  digits-end,
+  digits-under,
+  digits-above,
+  digits-on,
+  digits-large,
+}
 use Rattle.identification.proofs.digits_in.Statement.{statement}
 use Rattle.identification.proofs.digits_in.Tie as tie
 

@@ -32,7 +32,8 @@ loop-less c = search needs
 
 loop-again : tie.Need-loop-again Inv-loop μ-loop
 loop-again c =
-    (search needs, search needs, ascii-on _ _ _ (c .before .before .before .loop .inv .2) (omega arith) (omega arith) (omega arith))
+    (search needs, search needs, ascii-on _ _ _ (c .before .before .before .loop .inv .2) (omega arith) (omega arith) (omega
+        arith))
 
 returns-2 : tie.Need-returns-2 Inv-loop μ-loop
 returns-2 c = ascii-end _ _ _ (c .before .loop .inv .2) (omega arith)

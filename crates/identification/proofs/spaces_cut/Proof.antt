@@ -35,7 +35,7 @@ returns c =
     record {
       low = omega arith;
       high = omega arith;
-      cut = end-stop isSpace _ _ _ (l .2) (omega arith) (omega arith) other
+      cut = end-stop isSpace _ _ _ (l .2) (omega arith) (omega arith) other;
     }
 
 sub-hi : tie.Need-sub-hi Inv-loop μ-loop
@@ -51,7 +51,8 @@ loop-again c =
     (search needs, search needs, end-on isSpace _ _ _ (l .2) (omega arith) (omega arith) space)
 
 returns-2 : tie.Need-returns-2 Inv-loop μ-loop
-returns-2 c = record { low = omega arith; high = omega arith; cut = end-none isSpace _ _ _ (c .before .loop .inv .2) (omega arith) }
+returns-2 c = record { low = omega arith; high = omega arith; cut = end-none isSpace _ _ _ (c .before .loop .inv .2) (omega
+    arith) }
 
 pub spaces-cut-spec : {M : Type 1} → statement M
 spaces-cut-spec =

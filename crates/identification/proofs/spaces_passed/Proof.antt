@@ -31,7 +31,7 @@ returns c =
     let other = sym (c .before .is-space .ensures) ∙ not-true _ (c .if1 .taken) in
     record {
       high = omega arith;
-      cut = front-stop isSpace _ _ _ (l .2) (omega arith) (omega arith) other
+      cut = front-stop isSpace _ _ _ (l .2) (omega arith) (omega arith) other;
     }
 
 add-lo : tie.Need-add-lo Inv-loop μ-loop

@@ -40,7 +40,8 @@ add-t12 c =
     omega arith
 
 returns : tie.Need-returns
-returns c = version-first (c .before .before .before .dot-in .ensures) (c .before .before .number-in .ensures) (c .enum-told .given .1)
+returns c = version-first (c .before .before .before .dot-in .ensures) (c .before .before .number-in .ensures)
+    (c .enum-told .given .1)
 
 returns-2 : tie.Need-returns-2
 returns-2 c =

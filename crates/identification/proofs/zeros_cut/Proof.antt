@@ -30,7 +30,8 @@ returns c =
     record {
       low = omega arith;
       high = omega arith;
-      cut = end-stop isZero _ _ _ (c .before .before .before .loop .inv .2) (omega arith) (omega arith) (ne-eqb _ _ (c .if1 .taken))
+      cut = end-stop isZero _ _ _ (c .before .before .before .loop .inv .2) (omega arith) (omega arith) (ne-eqb _ _
+          (c .if1 .taken));
     }
 
 sub-hi : tie.Need-sub-hi Inv-loop μ-loop
@@ -45,7 +46,8 @@ loop-again c =
     (search needs, search needs, end-on isZero _ _ _ (l .2) (omega arith) (omega arith) (eq-eqb _ _ (c .if1 .left)))
 
 returns-2 : tie.Need-returns-2 Inv-loop μ-loop
-returns-2 c = record { low = omega arith; high = omega arith; cut = end-none isZero _ _ _ (c .before .loop .inv .2) (omega arith) }
+returns-2 c = record { low = omega arith; high = omega arith; cut = end-none isZero _ _ _ (c .before .loop .inv .2) (omega arith)
+    }
 
 pub zeros-cut-spec : {M : Type 1} → statement M
 zeros-cut-spec =

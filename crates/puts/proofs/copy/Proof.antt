@@ -32,7 +32,8 @@ same-length : tie.Need-same-length
 same-length c = search needs
 
 returns-3 : tie.Need-returns-3
-returns-3 c = c .before .before .copy-in .ensures ∙ copy-clip _ _ _ _ _ _ _ (c .before .before .before .before .before .least .ensures) (c .before .before .before .before .least2 .ensures)
+returns-3 c = c .before .before .copy-in .ensures ∙ copy-clip _ _ _ _ _ _ _
+    (c .before .before .before .before .before .least .ensures) (c .before .before .before .before .least2 .ensures)
 
 pub copy-spec : {M : Type 1} → statement M
 copy-spec =

@@ -10,7 +10,8 @@ use Rattle.puts.proofs.zero_in.Statement.{statement}
 use Rattle.puts.proofs.zero_in.Tie as tie
 
 abbrev Inv-loop : tie.InvT-loop
-Inv-loop d₀ at n left₀ p₀ d left p = (p + left ≤ length d) × (length d ≡ length d₀) × (blit p (replicate left 0) d ≡ blit at (replicate n 0) d₀)
+Inv-loop d₀ at n left₀ p₀ d left p = (p + left ≤ length d) × (length d ≡ length d₀) × (blit p (replicate left 0) d ≡ blit at
+    (replicate n 0) d₀)
 
 abbrev μ-loop : tie.MeasureT-loop
 μ-loop d₀ at n left₀ p₀ d left p = left
@@ -33,7 +34,8 @@ loop-less c = search needs
 loop-again : tie.Need-loop-again Inv-loop μ-loop
 loop-again c =
     let l = c .before .loop in
-    (simp length-set (omega arith), simp length-set (omega arith), zero-turn (l .left) (l .p) (l .d) _ (c .loop-test .taken) (l .inv .2))
+    (simp length-set (omega arith), simp length-set (omega arith), zero-turn (l .left) (l .p) (l .d) _ (c .loop-test .taken)
+        (l .inv .2))
 
 same-length : tie.Need-same-length Inv-loop μ-loop
 same-length c = search needs

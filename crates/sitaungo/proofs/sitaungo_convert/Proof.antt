@@ -47,7 +47,10 @@ same-length-6 c = search needs
 
 -- src/lib.rt:28:1
 returns : tie.Need-returns
-returns c = (left-as _ _ _ _ _ (c .before .before .before .before .before .before .before .before .before .before .before .before .before .before .before .convert .ensures .0) (c .before .answer .given .1), c .before .before .before .before .before .before .before .before .before .before .before .before .before .before .before .convert .ensures .1)
+returns c = (left-as _ _ _ _ _
+    (c .before .before .before .before .before .before .before .before .before .before .before .before .before .before .before .convert .ensures .0)
+    (c .before .answer .given .1),
+    c .before .before .before .before .before .before .before .before .before .before .before .before .before .before .before .convert .ensures .1)
 
 -- src/lib.rt:28:1
 same-length-7 : tie.Need-same-length-7
@@ -75,7 +78,10 @@ same-length-12 c = search needs
 
 -- src/lib.rt:28:1
 returns-2 : tie.Need-returns-2
-returns-2 c = (left-as _ _ _ _ _ (c .before .before .before .before .before .before .before .before .before .before .before .before .before .before .before .convert .ensures .0) (c .before .answer2 .given .1), c .before .before .before .before .before .before .before .before .before .before .before .before .before .before .before .convert .ensures .1)
+returns-2 c = (left-as _ _ _ _ _
+    (c .before .before .before .before .before .before .before .before .before .before .before .before .before .before .before .convert .ensures .0)
+    (c .before .answer2 .given .1),
+    c .before .before .before .before .before .before .before .before .before .before .before .before .before .before .before .convert .ensures .1)
 
 pub sitaungo-convert-spec : {M : Type 1} → statement M
 sitaungo-convert-spec =

@@ -20,7 +20,8 @@ returns : tie.Need-returns
 returns c = block-refused _ _ _ (c .before .before .before .whole-at .ensures) (c .before .whole .given .1)
 
 returns-2 : tie.Need-returns-2
-returns-2 c = block-checked _ _ _ (c .before .before .before .whole-at .ensures) (c .before .enum-told .given .1) (c .wanted-at .ensures)
+returns-2 c = block-checked _ _ _ (c .before .before .before .whole-at .ensures) (c .before .enum-told .given .1)
+    (c .wanted-at .ensures)
 
 pub block-at-spec : {M : Type 1} → statement M
 block-at-spec =

@@ -20,7 +20,8 @@ returns : tie.Need-returns
 returns c = whole-refused _ _ (c .before .before .before .header-in .ensures) (c .before .header .given .1)
 
 returns-2 : tie.Need-returns-2
-returns-2 c = whole-checked _ _ (c .before .before .before .header-in .ensures) (c .before .enum-told .given .1) (c .length-in .ensures)
+returns-2 c = whole-checked _ _ (c .before .before .before .header-in .ensures) (c .before .enum-told .given .1)
+    (c .length-in .ensures)
 
 pub whole-at-spec : {M : Type 1} → statement M
 whole-at-spec =

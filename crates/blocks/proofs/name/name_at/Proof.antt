@@ -37,7 +37,8 @@ text-in-requires-2 c κs = search needs
 returns-4 : tie.Need-returns-4
 returns-4 c =
     name-MD _ _ (c .before .before .before .before .before .before .header-in .ensures) (omega arith)
-    (c .before .before .before .before .enum-told .given .1) (c .before .before .before .kind-at .ensures) (omega arith) (c .text-in2 .ensures)
+    (c .before .before .before .before .enum-told .given .1) (c .before .before .before .kind-at .ensures) (omega arith)
+        (c .text-in2 .ensures)
 
 returns-5 : tie.Need-returns-5
 returns-5 c =

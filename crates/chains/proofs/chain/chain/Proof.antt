@@ -25,7 +25,8 @@ same-length c = search needs
 
 returns : tie.Need-returns Inv-loop μ-loop
 returns c =
-    walk-met (c .before .before .before .before .loop .inv) (c .before .before .before .loop-test .taken) (c .before .seen .ensures)
+    walk-met (c .before .before .before .before .loop .inv) (c .before .before .before .loop-test .taken)
+        (c .before .seen .ensures)
     (c .if1 .taken)
 
 node-step-requires : tie.Need-node-step-requires Inv-loop μ-loop
@@ -54,10 +55,10 @@ mul-met c = search needs
 array-write-met : tie.Need-array-write-met Inv-loop μ-loop
 array-write-met c =
     let f = walk-next (c .before .before .before .before .before .before .before .before .before .before .before .loop .inv)
-          (c .before .before .before .before .before .before .before .before .before .before .loop-test .taken)
-          (c .before .before .before .before .before .before .before .before .seen .ensures)
-          (c .before .before .before .before .before .before .before .if1 .left)
-          (c .before .before .before .before .before .node-step .ensures) (c .before .turn2 .given .1) in
+    (c .before .before .before .before .before .before .before .before .before .before .loop-test .taken)
+    (c .before .before .before .before .before .before .before .before .seen .ensures)
+    (c .before .before .before .before .before .before .before .if1 .left)
+    (c .before .before .before .before .before .node-step .ensures) (c .before .turn2 .given .1) in
     omega arith
 
 add-k : tie.Need-add-k Inv-loop μ-loop
@@ -66,10 +67,10 @@ add-k c = search needs
 loop-less : tie.Need-loop-less Inv-loop μ-loop
 loop-less c =
     let f = walk-next (c .before .before .before .before .before .before .before .before .before .before .before .loop .inv)
-          (c .before .before .before .before .before .before .before .before .before .before .loop-test .taken)
-          (c .before .before .before .before .before .before .before .before .seen .ensures)
-          (c .before .before .before .before .before .before .before .if1 .left)
-          (c .before .before .before .before .before .node-step .ensures) (c .before .turn2 .given .1) in
+    (c .before .before .before .before .before .before .before .before .before .before .loop-test .taken)
+    (c .before .before .before .before .before .before .before .before .seen .ensures)
+    (c .before .before .before .before .before .before .before .if1 .left)
+    (c .before .before .before .before .before .node-step .ensures) (c .before .turn2 .given .1) in
     omega arith
 
 loop-again : tie.Need-loop-again Inv-loop μ-loop

@@ -7,7 +7,8 @@ use Rattle.chains.proofs.chain.list.Statement.{statement}
 use Rattle.chains.proofs.chain.list.Tie as tie
 
 abbrev Inv-loop : tie.InvT-loop
-Inv-loop signal image fragments₀ n a links count₀ i₀ fragments count i = Listing (which signal) image a n fragments₀ links i count fragments
+Inv-loop signal image fragments₀ n a links count₀ i₀ fragments count i = Listing (which signal) image a n fragments₀ links i
+    count fragments
 
 abbrev μ-loop : tie.MeasureT-loop
 μ-loop signal image fragments₀ n a links count₀ i₀ fragments count i = links - i

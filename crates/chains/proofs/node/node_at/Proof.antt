@@ -31,8 +31,8 @@ enum-known-leaf c = search needs
 fragment-of-requires : tie.Need-fragment-of-requires
 fragment-of-requires c κs =
     let h = header-fits _ _
-          (so-fine (c .before .before .before .before .before .before .before .header-in .ensures)
-          (c .before .before .before .before .before .enum-told .given .1)) in
+    (so-fine (c .before .before .before .before .before .before .before .header-in .ensures)
+    (c .before .before .before .before .before .enum-told .given .1)) in
     omega arith
 
 returns-2 : tie.Need-returns-2

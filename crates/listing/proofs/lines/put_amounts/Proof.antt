@@ -36,7 +36,9 @@ block-count-requires : tie.Need-block-count-requires
 block-count-requires c κs = search needs
 
 mul-payload : tie.Need-mul-payload
-mul-payload c = omega (arith, payload-fits _ _ _ (c .before .before .before .before .word .ensures) (c .before .before .before .word2 .ensures) (c .before .before .word3 .ensures) (c .before .width-of .ensures .is) (c .before .before .before .before .before .before .before .before .pre .2))
+mul-payload c = omega (arith, payload-fits _ _ _ (c .before .before .before .before .word .ensures)
+    (c .before .before .before .word2 .ensures) (c .before .before .word3 .ensures) (c .before .width-of .ensures .is)
+    (c .before .before .before .before .before .before .before .before .pre .2))
 
 put-number-requires : tie.Need-put-number-requires
 put-number-requires c κs = search needs
@@ -51,7 +53,14 @@ same-length : tie.Need-same-length
 same-length c = search needs
 
 returns : tie.Need-returns
-returns c = amounts-laid _ _ _ (c .before .before .before .before .before .before .before .before .before .before .before .before .before .before .before .before .word .ensures) (c .before .before .before .before .before .before .before .before .before .before .before .before .before .before .before .word2 .ensures) (c .before .before .before .before .before .before .before .before .before .before .before .before .before .before .word3 .ensures) (c .before .before .before .before .before .before .before .before .before .before .before .before .before .width-of .ensures .is) _ (c .before .before .before .before .before .before .before .before .before .before .before .before .block-count .ensures) (c .before .before .before .before .before .before .before .before .before .before .put-number .ensures) (c .before .before .before .before .before .before .put-number2 .ensures) (c .before .before .put-number3 .ensures)
+returns c = amounts-laid _ _ _
+    (c .before .before .before .before .before .before .before .before .before .before .before .before .before .before .before .before .word .ensures)
+    (c .before .before .before .before .before .before .before .before .before .before .before .before .before .before .before .word2 .ensures)
+    (c .before .before .before .before .before .before .before .before .before .before .before .before .before .before .word3 .ensures)
+    (c .before .before .before .before .before .before .before .before .before .before .before .before .before .width-of .ensures .is)
+    _ (c .before .before .before .before .before .before .before .before .before .before .before .before .block-count .ensures)
+    (c .before .before .before .before .before .before .before .before .before .before .put-number .ensures)
+    (c .before .before .before .before .before .before .put-number2 .ensures) (c .before .before .put-number3 .ensures)
 
 pub put-amounts-spec : {M : Type 1} → statement M
 put-amounts-spec =

@@ -32,7 +32,12 @@ same-length : tie.Need-same-length
 same-length c = search needs
 
 returns : tie.Need-returns
-returns c = line-laid _ _ _ _ (c .before .before .before .before .before .before .before .before .before .before .before .before .before .before .before .before .before .before .before .before .word .ensures) (c .before .before .before .before .before .before .before .before .before .before .before .before .before .before .before .before .before .before .put-front .ensures) (c .before .before .before .before .before .before .before .before .before .before .before .before .before .before .put-sizes .ensures) (c .before .before .before .before .before .before .before .before .before .before .put-amounts .ensures) (c .before .before .before .before .before .before .put-master .ensures) (c .before .before .put-byte .ensures)
+returns c = line-laid _ _ _ _
+    (c .before .before .before .before .before .before .before .before .before .before .before .before .before .before .before .before .before .before .before .before .word .ensures)
+    (c .before .before .before .before .before .before .before .before .before .before .before .before .before .before .before .before .before .before .put-front .ensures)
+    (c .before .before .before .before .before .before .before .before .before .before .before .before .before .before .put-sizes .ensures)
+    (c .before .before .before .before .before .before .before .before .before .before .put-amounts .ensures)
+    (c .before .before .before .before .before .before .put-master .ensures) (c .before .before .put-byte .ensures)
 
 pub put-column-line-spec : {M : Type 1} → statement M
 put-column-line-spec =

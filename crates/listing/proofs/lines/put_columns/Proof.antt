@@ -20,7 +20,9 @@ same-length : tie.Need-same-length
 same-length c = search needs
 
 returns : tie.Need-returns
-returns c = columns-laid _ _ _ _ (c .before .before .before .before .before .before .before .before .before .before .put-text .ensures) (c .before .before .before .before .before .before .put-number .ensures) (c .before .before .put-column-lines .ensures)
+returns c = columns-laid _ _ _ _
+    (c .before .before .before .before .before .before .before .before .before .before .put-text .ensures)
+    (c .before .before .before .before .before .before .put-number .ensures) (c .before .before .put-column-lines .ensures)
 
 pub put-columns-spec : {M : Type 1} → statement M
 put-columns-spec =

@@ -24,7 +24,8 @@ add-put-omission-line : tie.Need-add-put-omission-line Inv-loop μ-loop
 add-put-omission-line c = search needs
 
 put-omission-line-requires : tie.Need-put-omission-line-requires Inv-loop μ-loop
-put-omission-line-requires c κs = (omega (arith, c .before .before .loop .inv .1 .past, c .before .before .loop .inv .1 .small), omega arith)
+put-omission-line-requires c κs = (omega (arith, c .before .before .loop .inv .1 .past, c .before .before .loop .inv .1 .small),
+    omega arith)
 
 add-k : tie.Need-add-k Inv-loop μ-loop
 add-k c = search needs
@@ -33,7 +34,8 @@ loop-less : tie.Need-loop-less Inv-loop μ-loop
 loop-less c = search needs
 
 loop-again : tie.Need-loop-again Inv-loop μ-loop
-loop-again c = (omega arith, omissions-turn _ _ (c .before .before .before .before .before .loop .inv .1) (c .before .before .put-omission-line .ensures))
+loop-again c = (omega arith, omissions-turn _ _ (c .before .before .before .before .before .loop .inv .1)
+    (c .before .before .put-omission-line .ensures))
 
 same-length : tie.Need-same-length Inv-loop μ-loop
 same-length c = laid-length (c .before .loop .inv .1)

@@ -20,7 +20,9 @@ same-length : tie.Need-same-length
 same-length c = search needs
 
 returns : tie.Need-returns
-returns c = omissions-laid _ _ (c .before .before .before .before .before .before .before .before .before .before .put-text .ensures) (c .before .before .before .before .before .before .put-number .ensures) (c .before .before .put-omission-lines .ensures)
+returns c = omissions-laid _ _
+    (c .before .before .before .before .before .before .before .before .before .before .put-text .ensures)
+    (c .before .before .before .before .before .before .put-number .ensures) (c .before .before .put-omission-lines .ensures)
 
 pub put-omissions-spec : {M : Type 1} → statement M
 put-omissions-spec =

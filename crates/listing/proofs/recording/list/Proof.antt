@@ -18,7 +18,9 @@ enum-known-decision-2 : tie.Need-enum-known-decision-2
 enum-known-decision-2 c = search needs
 
 put-answer-requires : tie.Need-put-answer-requires
-put-answer-requires c κs = let t = decides-done (c .before .before .before .before .before .before .before .before .before .before .before .before .before .decide .ensures) (c .before .before .before .decision2 .given .1) in (done-columns t, done-omissions t, done-counts t)
+put-answer-requires c κs = let t = decides-done
+    (c .before .before .before .before .before .before .before .before .before .before .before .before .before .decide .ensures)
+    (c .before .before .before .decision2 .given .1) in (done-columns t, done-omissions t, done-counts t)
 
 clear-requires : tie.Need-clear-requires
 clear-requires c κs = search needs
@@ -48,7 +50,9 @@ same-length-5 : tie.Need-same-length-5
 same-length-5 c = search needs
 
 returns : tie.Need-returns
-returns c = refused-listed _ _ (decides-refused (c .before .before .before .before .before .before .before .before .before .before .before .before .before .before .before .decide .ensures) (c .before .before .before .before .before .decision .given .1)) (c .before .before .put-refusal .ensures)
+returns c = refused-listed _ _ (decides-refused
+    (c .before .before .before .before .before .before .before .before .before .before .before .before .before .before .before .decide .ensures)
+    (c .before .before .before .before .before .decision .given .1)) (c .before .before .put-refusal .ensures)
 
 same-length-6 : tie.Need-same-length-6
 same-length-6 c = search needs
@@ -67,8 +71,15 @@ same-length-10 c = search needs
 
 returns-2 : tie.Need-returns-2
 returns-2 c =
-    let t = decides-done (c .before .before .before .before .before .before .before .before .before .before .before .before .before .before .before .before .before .before .before .before .before .before .before .before .before .before .before .before .before .before .before .before .decide .ensures) (c .before .before .before .before .before .before .before .before .before .before .before .before .before .before .before .before .before .before .before .before .before .before .decision2 .given .1) in
-    done-listed t _ _ refl (c .before .before .before .before .before .before .before .before .before .before .before .before .before .before .before .before .before .before .put-answer .ensures) (c .before .before .before .before .before .before .before .before .before .before .before .before .before .before .clear .ensures) (c .before .before .before .before .before .before .before .before .before .before .clear2 .ensures) (c .before .before .before .before .before .before .clear3 .ensures) (c .before .before .clear4 .ensures)
+    let t = decides-done
+        (c .before .before .before .before .before .before .before .before .before .before .before .before .before .before .before .before .before .before .before .before .before .before .before .before .before .before .before .before .before .before .before .before .decide .ensures)
+        (c .before .before .before .before .before .before .before .before .before .before .before .before .before .before .before .before .before .before .before .before .before .before .decision2 .given .1)
+        in
+    done-listed t _ _ refl
+        (c .before .before .before .before .before .before .before .before .before .before .before .before .before .before .before .before .before .before .put-answer .ensures)
+        (c .before .before .before .before .before .before .before .before .before .before .before .before .before .before .clear .ensures)
+        (c .before .before .before .before .before .before .before .before .before .before .clear2 .ensures)
+        (c .before .before .before .before .before .before .clear3 .ensures) (c .before .before .clear4 .ensures)
 
 pub list-spec : {M : Type 1} → statement M
 list-spec =

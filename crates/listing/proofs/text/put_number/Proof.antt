@@ -16,7 +16,8 @@ same-length c = search needs
 
 returns : tie.Need-returns
 unfolding numberThen
-returns c = laid-then (c .before .before .before .before .before .before .put-decimal .ensures) (c .before .before .put-byte .ensures)
+returns c = laid-then (c .before .before .before .before .before .before .put-decimal .ensures)
+    (c .before .before .put-byte .ensures)
 
 pub put-number-spec : {M : Type 1} → statement M
 put-number-spec = tie.close (tie.spec put-decimal-requires put-byte-requires same-length returns)

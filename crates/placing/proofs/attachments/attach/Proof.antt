@@ -50,7 +50,8 @@ same-length : tie.Need-same-length
 same-length c = search needs
 
 returns : tie.Need-returns
-returns c = (three-stores _ _ _ _ _ _ (c .before .aligned .ensures), attached-state _ _ _ (c .before .aligned .ensures) (c .aligned2 .ensures))
+returns c = (three-stores _ _ _ _ _ _ (c .before .aligned .ensures), attached-state _ _ _ (c .before .aligned .ensures)
+    (c .aligned2 .ensures))
 
 pub attach-spec : {M : Type 1} → statement M
 attach-spec =

@@ -23,7 +23,9 @@ enum-known-header : tie.Need-enum-known-header
 enum-known-header c = search needs
 
 returns-3 : tie.Need-returns-3
-returns-3 c = attaches-header _ _ _ _ (c .before .before .before .before .before .before .if1 .left) (sym (c .before .before .before .before .before .is-attached .ensures) ∙ c .before .before .before .before .if2 .left) (so-refused (c .before .before .before .header-in .ensures) (c .before .header .given .1))
+returns-3 c = attaches-header _ _ _ _ (c .before .before .before .before .before .before .if1 .left) (sym
+    (c .before .before .before .before .before .is-attached .ensures) ∙ c .before .before .before .before .if2 .left) (so-refused
+    (c .before .before .before .header-in .ensures) (c .before .header .given .1))
 
 enum-told : tie.Need-enum-told
 enum-told c = search needs
@@ -39,7 +41,12 @@ enum-known-passed c = search needs
 
 returns-4 : tie.Need-returns-4
 returns-4 c =
-    attaches-refused _ _ _ _ (c .before .before .before .before .before .before .before .before .before .before .before .if1 .left) (sym (c .before .before .before .before .before .before .before .before .before .before .is-attached .ensures) ∙ c .before .before .before .before .before .before .before .before .before .if2 .left) (so-fine (c .before .before .before .before .before .before .before .before .header-in .ensures) (c .before .before .before .before .before .before .enum-told .given .1)) (omega arith)
+    attaches-refused _ _ _ _
+        (c .before .before .before .before .before .before .before .before .before .before .before .if1 .left) (sym
+        (c .before .before .before .before .before .before .before .before .before .before .is-attached .ensures) ∙
+        c .before .before .before .before .before .before .before .before .before .if2 .left) (so-fine
+        (c .before .before .before .before .before .before .before .before .header-in .ensures)
+        (c .before .before .before .before .before .before .enum-told .given .1)) (omega arith)
     (so-refused (c .before .before .before .attachment-in .ensures) (c .before .passed .given .1))
 
 enum-told-2 : tie.Need-enum-told-2
@@ -47,16 +54,27 @@ enum-told-2 c = search needs
 
 returns-5 : tie.Need-returns-5
 returns-5 c =
-    attaches-on _ _ _ _ (c .before .before .before .before .before .before .before .before .before .before .before .if1 .left) (sym (c .before .before .before .before .before .before .before .before .before .before .is-attached .ensures) ∙ c .before .before .before .before .before .before .before .before .before .if2 .left) (so-fine (c .before .before .before .before .before .before .before .before .header-in .ensures) (c .before .before .before .before .before .before .enum-told .given .1)) (omega arith)
+    attaches-on _ _ _ _ (c .before .before .before .before .before .before .before .before .before .before .before .if1 .left)
+        (sym (c .before .before .before .before .before .before .before .before .before .before .is-attached .ensures) ∙
+        c .before .before .before .before .before .before .before .before .before .if2 .left) (so-fine
+        (c .before .before .before .before .before .before .before .before .header-in .ensures)
+        (c .before .before .before .before .before .before .enum-told .given .1)) (omega arith)
     (so-fine (c .before .before .before .attachment-in .ensures) (c .before .enum-told2 .given .1)) (c .if4 .taken)
 
 returns-6 : tie.Need-returns-6
 returns-6 c =
-    attaches-full _ _ _ _ (c .before .before .before .before .before .before .before .before .before .before .before .if1 .left) (sym (c .before .before .before .before .before .before .before .before .before .before .is-attached .ensures) ∙ c .before .before .before .before .before .before .before .before .before .if2 .left) (so-fine (c .before .before .before .before .before .before .before .before .header-in .ensures) (c .before .before .before .before .before .before .enum-told .given .1)) (omega arith)
+    attaches-full _ _ _ _ (c .before .before .before .before .before .before .before .before .before .before .before .if1 .left)
+        (sym (c .before .before .before .before .before .before .before .before .before .before .is-attached .ensures) ∙
+        c .before .before .before .before .before .before .before .before .before .if2 .left) (so-fine
+        (c .before .before .before .before .before .before .before .before .header-in .ensures)
+        (c .before .before .before .before .before .before .enum-told .given .1)) (omega arith)
     (so-fine (c .before .before .before .attachment-in .ensures) (c .before .enum-told2 .given .1)) (c .if4 .left)
 
 returns-7 : tie.Need-returns-7
-returns-7 c = attaches-other _ _ _ _ (c .before .before .before .before .before .before .before .if1 .left) (sym (c .before .before .before .before .before .before .is-attached .ensures) ∙ c .before .before .before .before .before .if2 .left) (so-fine (c .before .before .before .before .header-in .ensures) (c .before .before .enum-told .given .1)) (omega arith)
+returns-7 c = attaches-other _ _ _ _ (c .before .before .before .before .before .before .before .if1 .left) (sym
+    (c .before .before .before .before .before .before .is-attached .ensures) ∙
+    c .before .before .before .before .before .if2 .left) (so-fine (c .before .before .before .before .header-in .ensures)
+    (c .before .before .enum-told .given .1)) (omega arith)
 
 pub attaches-spec : {M : Type 1} → statement M
 attaches-spec =

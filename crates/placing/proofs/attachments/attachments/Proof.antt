@@ -14,7 +14,8 @@ abbrev μ-loop : tie.MeasureT-loop
 μ-loop image memo₀ a at₀ count₀ turns₀ st₀ memo at count turns st = turns
 
 loop-holds : tie.Need-loop-holds Inv-loop μ-loop
-loop-holds c = chain-begin _ _ _ _ (c .before .before .pre .0) (c .before .before .pre .1) (c .before .before .pre .2) (c .before .before .pre .3)
+loop-holds c = chain-begin _ _ _ _ (c .before .before .pre .0) (c .before .before .pre .1) (c .before .before .pre .2)
+    (c .before .before .pre .3)
 
 attaches-requires : tie.Need-attaches-requires Inv-loop μ-loop
 attaches-requires c κs = search needs
@@ -26,7 +27,9 @@ same-length : tie.Need-same-length Inv-loop μ-loop
 same-length c = search needs
 
 returns : tie.Need-returns Inv-loop μ-loop
-returns c = chain-ends (c .before .before .before .before .before .loop .inv) (c .before .before .before .before .loop-test .taken) (so-begun (c .before .before .attaches .ensures) (c .enum-told .given .1))
+returns c = chain-ends (c .before .before .before .before .before .loop .inv)
+    (c .before .before .before .before .loop-test .taken) (so-begun (c .before .before .attaches .ensures)
+    (c .enum-told .given .1))
 
 enum-known-begun : tie.Need-enum-known-begun Inv-loop μ-loop
 enum-known-begun c = search needs
@@ -35,17 +38,23 @@ same-length-2 : tie.Need-same-length-2 Inv-loop μ-loop
 same-length-2 c = search needs
 
 returns-2 : tie.Need-returns-2 Inv-loop μ-loop
-returns-2 c = chain-refused (c .before .before .before .before .before .before .loop .inv) (c .before .before .before .before .before .loop-test .taken) (so-begun (c .before .before .before .attaches .ensures) (c .before .begun .given .1))
+returns-2 c = chain-refused (c .before .before .before .before .before .before .loop .inv)
+    (c .before .before .before .before .before .loop-test .taken) (so-begun (c .before .before .before .attaches .ensures)
+    (c .before .begun .given .1))
 
 enum-told-2 : tie.Need-enum-told-2 Inv-loop μ-loop
 enum-told-2 c = search needs
 
 -- where the chain goes on
-at-links : (c : tie.After-enum-told2 Inv-loop μ-loop) → Fitting (c .before .before .before .before .before .before .before .before .args .image .now) (c .before .before .before .before .before .loop .at) (c .before .before .before .before .before .loop .count)
+at-links : (c : tie.After-enum-told2 Inv-loop μ-loop) → Fitting
+    (c .before .before .before .before .before .before .before .before .args .image .now)
+    (c .before .before .before .before .before .loop .at) (c .before .before .before .before .before .loop .count)
 at-links c = attaches-fits _ _ _ _ (so-begun (c .before .before .attaches .ensures) (c .enum-told2 .given .1))
 
 -- the state after the links
-at-own : (c : tie.After-known-told2 Inv-loop μ-loop) → After 0 (c .before .before .before .before .before .before .before .before .before .before .before .before .before .loop .st) (c .before .got .given .0 .0)
+at-own : (c : tie.After-known-told2 Inv-loop μ-loop) → After 0
+    (c .before .before .before .before .before .before .before .before .before .before .before .before .before .loop .st)
+    (c .before .got .given .0 .0)
 at-own c = after-at (c .before .before .before .before .before .follow .ensures .1) (c .before .got .given .1)
 
 links-at-requires : tie.Need-links-at-requires Inv-loop μ-loop
@@ -72,7 +81,10 @@ sub-attach c = let f = at-own (c .before .before .before .before) in omega arith
 attach-requires : tie.Need-attach-requires Inv-loop μ-loop
 attach-requires c κs =
     let f = at-links (c .before .before .before .before .before .before .before .before .before .before .before .before) in
-    (f .few, omega (arith, c .before .before .before .before .before .before .before .before .before .follow .kept .1 .0, c .before .before .before .before .before .before .before .before .before .before .before .before .before .before .before .before .before .loop .inv .words), at-own (c .before .before .before .before) .room, omega (arith, c .before .before .before .size-at .ensures, f .range, c .before .before .before .before .before .before .before .before .before .before .before .before .before .before .before .before .before .loop .inv .short))
+    (f .few, omega (arith, c .before .before .before .before .before .before .before .before .before .follow .kept .1 .0,
+        c .before .before .before .before .before .before .before .before .before .before .before .before .before .before .before .before .before .loop .inv .words),
+        at-own (c .before .before .before .before) .room, omega (arith, c .before .before .before .size-at .ensures, f .range,
+        c .before .before .before .before .before .before .before .before .before .before .before .before .before .before .before .before .before .loop .inv .short))
 
 enum-known-got-2 : tie.Need-enum-known-got-2 Inv-loop μ-loop
 enum-known-got-2 c = search needs
@@ -81,7 +93,13 @@ same-length-3 : tie.Need-same-length-3 Inv-loop μ-loop
 same-length-3 c = search needs
 
 returns-3 : tie.Need-returns-3 Inv-loop μ-loop
-returns-3 c = chain-stopped (c .before .before .before .before .before .before .before .before .before .before .before .before .before .loop .inv) (c .before .before .before .before .before .before .before .before .before .before .before .before .loop-test .taken) (so-begun (c .before .before .before .before .before .before .before .before .before .before .attaches .ensures) (c .before .before .before .before .before .before .before .before .enum-told2 .given .1)) (c .before .before .before .before .before .before .links-at .ensures) (c .before .before .before .before .before .follow .ensures .0) (c .before .got2 .given .1)
+returns-3 c = chain-stopped
+    (c .before .before .before .before .before .before .before .before .before .before .before .before .before .loop .inv)
+    (c .before .before .before .before .before .before .before .before .before .before .before .before .loop-test .taken)
+    (so-begun (c .before .before .before .before .before .before .before .before .before .before .attaches .ensures)
+    (c .before .before .before .before .before .before .before .before .enum-told2 .given .1))
+    (c .before .before .before .before .before .before .links-at .ensures)
+    (c .before .before .before .before .before .follow .ensures .0) (c .before .got2 .given .1)
 
 add-count : tie.Need-add-count Inv-loop μ-loop
 add-count c = search needs
@@ -97,8 +115,19 @@ loop-less c = search needs
 
 loop-again : tie.Need-loop-again Inv-loop μ-loop
 loop-again c =
-    chain-next (c .before .before .before .before .before .before .before .before .before .before .before .before .before .before .before .before .before .before .before .before .before .loop .inv) (c .before .before .before .before .before .before .before .before .before .before .before .before .before .before .before .before .before .before .before .before .loop-test .taken) (so-begun (c .before .before .before .before .before .before .before .before .before .before .before .before .before .before .before .before .before .before .attaches .ensures) (c .before .before .before .before .before .before .before .before .before .before .before .before .before .before .before .before .enum-told2 .given .1)) (c .before .before .before .before .before .before .before .before .before .before .before .before .before .before .links-at .ensures) (c .before .before .before .before .before .before .before .before .before .before .before .before .before .follow .ensures .0) (c .before .before .before .before .before .before .before .before .before .before .before .before .before .follow .ensures .1)
-    (c .before .before .before .before .before .before .before .before .before .got .given .1) (c .before .before .before .before .before .before .before .before .before .before .before .before .before .follow .kept .1 .0) (c .before .before .before .before .before .before .before .size-at .ensures) (c .before .before .before .attach .ensures .0) (c .before .before .before .attach .ensures .1) (c .first-link .ensures)
+    chain-next
+        (c .before .before .before .before .before .before .before .before .before .before .before .before .before .before .before .before .before .before .before .before .before .loop .inv)
+        (c .before .before .before .before .before .before .before .before .before .before .before .before .before .before .before .before .before .before .before .before .loop-test .taken)
+        (so-begun
+        (c .before .before .before .before .before .before .before .before .before .before .before .before .before .before .before .before .before .before .attaches .ensures)
+        (c .before .before .before .before .before .before .before .before .before .before .before .before .before .before .before .before .enum-told2 .given .1))
+        (c .before .before .before .before .before .before .before .before .before .before .before .before .before .before .links-at .ensures)
+        (c .before .before .before .before .before .before .before .before .before .before .before .before .before .follow .ensures .0)
+        (c .before .before .before .before .before .before .before .before .before .before .before .before .before .follow .ensures .1)
+    (c .before .before .before .before .before .before .before .before .before .got .given .1)
+        (c .before .before .before .before .before .before .before .before .before .before .before .before .before .follow .kept .1 .0)
+        (c .before .before .before .before .before .before .before .size-at .ensures)
+        (c .before .before .before .attach .ensures .0) (c .before .before .before .attach .ensures .1) (c .first-link .ensures)
 
 same-length-4 : tie.Need-same-length-4 Inv-loop μ-loop
 same-length-4 c = search needs

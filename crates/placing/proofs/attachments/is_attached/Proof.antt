@@ -9,7 +9,8 @@ use Rattle.placing.proofs.attachments.is_attached.Statement.{statement}
 use Rattle.placing.proofs.attachments.is_attached.Tie as tie
 
 abbrev Inv-loop : tie.InvT-loop
-Inv-loop memo count a p₀ left₀ p left = (p + 3 * left ≡ 4096 + 3 * count) × (attachedIn memo p left a ≡ attachedIn memo 4096 count a)
+Inv-loop memo count a p₀ left₀ p left = (p + 3 * left ≡ 4096 + 3 * count) × (attachedIn memo p left a ≡ attachedIn memo 4096
+    count a)
 
 abbrev μ-loop : tie.MeasureT-loop
 μ-loop memo count a p₀ left₀ p left = left
@@ -36,7 +37,8 @@ loop-less : tie.Need-loop-less Inv-loop μ-loop
 loop-less c = search needs
 
 loop-again : tie.Need-loop-again Inv-loop μ-loop
-loop-again c = (search needs, attached-miss _ _ _ _ (c .before .before .before .loop .inv .1) (c .before .before .loop-test .taken) (c .if1 .left))
+loop-again c = (search needs, attached-miss _ _ _ _ (c .before .before .before .loop .inv .1)
+    (c .before .before .loop-test .taken) (c .if1 .left))
 
 returns-2 : tie.Need-returns-2 Inv-loop μ-loop
 returns-2 c = attached-end _ _ _ _ (c .before .loop .inv .1) (omega arith)

@@ -26,7 +26,8 @@ block-count-requires : tie.Need-block-count-requires
 block-count-requires c κs = search needs
 
 returns : tie.Need-returns
-returns c = blocks-by _ _ _ _ (c .before .before .before .before .word .ensures) (c .before .before .before .word2 .ensures) (c .before .before .width-of .ensures .is) (c .before .word3 .ensures) (c .block-count .ensures)
+returns c = blocks-by _ _ _ _ (c .before .before .before .before .word .ensures) (c .before .before .before .word2 .ensures)
+    (c .before .before .width-of .ensures .is) (c .before .word3 .ensures) (c .block-count .ensures)
 
 pub blocks-at-spec : {M : Type 1} → statement M
 blocks-at-spec =

@@ -27,22 +27,40 @@ word-requires-3 : tie.Need-word-requires-3
 word-requires-3 c κs = search needs
 
 mul-payload : tie.Need-mul-payload
-mul-payload c = let x = payload-by (c .before .before .before .before .before .before .before .args .image .now) (c .before .before .before .before .before .before .before .args .columns .now) (c .before .before .before .before .before .before .before .args .p) (c .before .before .before .word .ensures) (c .before .before .word2 .ensures) (c .before .width-of .ensures .is) (c .word3 .ensures) in let y = c .before .before .before .before .blocks-at .ensures in omega arith
+mul-payload c = let x = payload-by (c .before .before .before .before .before .before .before .args .image .now)
+    (c .before .before .before .before .before .before .before .args .columns .now)
+    (c .before .before .before .before .before .before .before .args .p) (c .before .before .before .word .ensures)
+    (c .before .before .word2 .ensures) (c .before .width-of .ensures .is) (c .word3 .ensures) in let y =
+    c .before .before .before .before .blocks-at .ensures in omega arith
 
 mul-aligned : tie.Need-mul-aligned
 mul-aligned c = search needs
 
 add-aligned : tie.Need-add-aligned
-add-aligned c = let x = payload-by (c .before .before .before .before .before .before .before .args .image .now) (c .before .before .before .before .before .before .before .args .columns .now) (c .before .before .before .before .before .before .before .args .p) (c .before .before .before .word .ensures) (c .before .before .word2 .ensures) (c .before .width-of .ensures .is) (c .word3 .ensures) in let y = c .before .before .before .before .blocks-at .ensures in omega arith
+add-aligned c = let x = payload-by (c .before .before .before .before .before .before .before .args .image .now)
+    (c .before .before .before .before .before .before .before .args .columns .now)
+    (c .before .before .before .before .before .before .before .args .p) (c .before .before .before .word .ensures)
+    (c .before .before .word2 .ensures) (c .before .width-of .ensures .is) (c .word3 .ensures) in let y =
+    c .before .before .before .before .blocks-at .ensures in omega arith
 
 add-aligned-2 : tie.Need-add-aligned-2
-add-aligned-2 c = let x = payload-by (c .before .before .before .before .before .before .before .args .image .now) (c .before .before .before .before .before .before .before .args .columns .now) (c .before .before .before .before .before .before .before .args .p) (c .before .before .before .word .ensures) (c .before .before .word2 .ensures) (c .before .width-of .ensures .is) (c .word3 .ensures) in let y = c .before .before .before .before .blocks-at .ensures in omega arith
+add-aligned-2 c = let x = payload-by (c .before .before .before .before .before .before .before .args .image .now)
+    (c .before .before .before .before .before .before .before .args .columns .now)
+    (c .before .before .before .before .before .before .before .args .p) (c .before .before .before .word .ensures)
+    (c .before .before .word2 .ensures) (c .before .width-of .ensures .is) (c .word3 .ensures) in let y =
+    c .before .before .before .before .blocks-at .ensures in omega arith
 
 aligned-requires : tie.Need-aligned-requires
-aligned-requires c κs = let x = payload-by (c .before .before .before .before .before .before .before .args .image .now) (c .before .before .before .before .before .before .before .args .columns .now) (c .before .before .before .before .before .before .before .args .p) (c .before .before .before .word .ensures) (c .before .before .word2 .ensures) (c .before .width-of .ensures .is) (c .word3 .ensures) in let y = c .before .before .before .before .blocks-at .ensures in omega arith
+aligned-requires c κs = let x = payload-by (c .before .before .before .before .before .before .before .args .image .now)
+    (c .before .before .before .before .before .before .before .args .columns .now)
+    (c .before .before .before .before .before .before .before .args .p) (c .before .before .before .word .ensures)
+    (c .before .before .word2 .ensures) (c .before .width-of .ensures .is) (c .word3 .ensures) in let y =
+    c .before .before .before .before .blocks-at .ensures in omega arith
 
 returns : tie.Need-returns
-returns c = blocks-end-by _ _ _ _ _ (c .before .before .before .before .before .blocks-at .ensures) (payload-by _ _ _ (c .before .before .before .before .word .ensures) (c .before .before .before .word2 .ensures) (c .before .before .width-of .ensures .is) (c .before .word3 .ensures)) (c .aligned .ensures)
+returns c = blocks-end-by _ _ _ _ _ (c .before .before .before .before .before .blocks-at .ensures) (payload-by _ _ _
+    (c .before .before .before .before .word .ensures) (c .before .before .before .word2 .ensures)
+    (c .before .before .width-of .ensures .is) (c .before .word3 .ensures)) (c .aligned .ensures)
 
 pub blocks-end-spec : {M : Type 1} → statement M
 blocks-end-spec =

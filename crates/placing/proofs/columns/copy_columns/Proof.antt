@@ -12,7 +12,8 @@ abbrev μ-loop : tie.MeasureT-loop
 μ-loop image columns n memo₀ p₀ left₀ st₀ memo p left st = left
 
 loop-holds : tie.Need-loop-holds Inv-loop μ-loop
-loop-holds c = copying-begin _ _ _ _ _ (c .before .before .before .pre .0) (c .before .before .before .pre .1) (c .before .before .before .pre .2)
+loop-holds c = copying-begin _ _ _ _ _ (c .before .before .before .pre .0) (c .before .before .before .pre .1)
+    (c .before .before .before .pre .2)
 
 add-word : tie.Need-add-word Inv-loop μ-loop
 add-word c = search needs
@@ -42,7 +43,13 @@ same-length : tie.Need-same-length Inv-loop μ-loop
 same-length c = search needs
 
 returns : tie.Need-returns Inv-loop μ-loop
-returns c = (copying-refused (c .before .before .before .before .before .before .before .before .before .before .before .loop .inv) (c .before .before .before .before .before .before .before .before .before .before .loop-test .taken) (c .before .before .before .before .before .before .before .before .before .word .ensures) (c .before .before .before .before .before .before .before .before .word2 .ensures) (c .before .before .before .before .before .before .before .word3 .ensures) (c .before .before .before .before .before .column-roots .ensures .0) (c .before .got2 .given .1), tt)
+returns c = (copying-refused
+    (c .before .before .before .before .before .before .before .before .before .before .before .loop .inv)
+    (c .before .before .before .before .before .before .before .before .before .before .loop-test .taken)
+    (c .before .before .before .before .before .before .before .before .before .word .ensures)
+    (c .before .before .before .before .before .before .before .before .word2 .ensures)
+    (c .before .before .before .before .before .before .before .word3 .ensures)
+    (c .before .before .before .before .before .column-roots .ensures .0) (c .before .got2 .given .1), tt)
 
 add-p : tie.Need-add-p Inv-loop μ-loop
 add-p c = search needs
@@ -54,7 +61,15 @@ loop-less : tie.Need-loop-less Inv-loop μ-loop
 loop-less c = search needs
 
 loop-again : tie.Need-loop-again Inv-loop μ-loop
-loop-again c = copying-next (c .before .before .before .before .before .before .before .before .before .before .before .loop .inv) (c .before .before .before .before .before .before .before .before .before .before .loop-test .taken) (c .before .before .before .before .before .before .before .before .before .word .ensures) (c .before .before .before .before .before .before .before .before .word2 .ensures) (c .before .before .before .before .before .before .before .word3 .ensures) (c .before .before .before .before .before .column-roots .ensures .0) (c .before .before .before .before .before .column-roots .ensures .1) (c .before .got .given .1) (c .before .before .before .before .before .column-roots .kept .1 .0)
+loop-again c = copying-next
+    (c .before .before .before .before .before .before .before .before .before .before .before .loop .inv)
+    (c .before .before .before .before .before .before .before .before .before .before .loop-test .taken)
+    (c .before .before .before .before .before .before .before .before .before .word .ensures)
+    (c .before .before .before .before .before .before .before .before .word2 .ensures)
+    (c .before .before .before .before .before .before .before .word3 .ensures)
+    (c .before .before .before .before .before .column-roots .ensures .0)
+    (c .before .before .before .before .before .column-roots .ensures .1) (c .before .got .given .1)
+    (c .before .before .before .before .before .column-roots .kept .1 .0)
 
 same-length-2 : tie.Need-same-length-2 Inv-loop μ-loop
 same-length-2 c = search needs

@@ -6,28 +6,43 @@ use Rattle.placing.proofs.columns.place_columns.Statement.{statement}
 use Rattle.placing.proofs.columns.place_columns.Tie as tie
 
 abbrev Inv-loop : tie.InvT-loop
-Inv-loop image size fragments columns n memo₀ a d p₀ q₀ left₀ dg₀ first₀ memo p q left dg first = Placing image size columns fragments n a d memo₀ memo p q left dg first
+Inv-loop image size fragments columns n memo₀ a d p₀ q₀ left₀ dg₀ first₀ memo p q left dg first = Placing image size columns
+    fragments n a d memo₀ memo p q left dg first
 
 abbrev μ-loop : tie.MeasureT-loop
 μ-loop image size fragments columns n memo₀ a d p₀ q₀ left₀ dg₀ first₀ memo p q left dg first = left
 
 loop-holds : tie.Need-loop-holds Inv-loop μ-loop
-loop-holds c = place-begin _ _ _ _ _ _ _ _ (c .before .before .before .before .pre .0) (c .before .before .before .before .pre .1) (c .before .before .before .before .pre .2) (c .before .before .before .before .pre .3) (c .before .before .before .before .pre .4)
+loop-holds c = place-begin _ _ _ _ _ _ _ _ (c .before .before .before .before .pre .0)
+    (c .before .before .before .before .pre .1) (c .before .before .before .before .pre .2)
+    (c .before .before .before .before .pre .3) (c .before .before .before .before .pre .4)
 
 blocks-end-requires : tie.Need-blocks-end-requires Inv-loop μ-loop
-blocks-end-requires c κs = let b = place-within (c .before .loop .inv) (c .loop-test .taken) in (omega (arith, c .before .loop .inv .at), omega (arith, c .before .loop .inv .nearData), b .blocks, b .payload)
+blocks-end-requires c κs = let b = place-within (c .before .loop .inv) (c .loop-test .taken) in (omega (arith,
+    c .before .loop .inv .at), omega (arith, c .before .loop .inv .nearData), b .blocks, b .payload)
 
 put-place-requires : tie.Need-put-place-requires Inv-loop μ-loop
-put-place-requires c κs = omega (arith, c .before .before .before .loop .inv .to, c .before .before .before .loop .inv .long, c .before .before .loop-test .taken)
+put-place-requires c κs = omega (arith, c .before .before .before .loop .inv .to, c .before .before .before .loop .inv .long,
+    c .before .before .loop-test .taken)
 
 structure-at-requires : tie.Need-structure-at-requires Inv-loop μ-loop
-structure-at-requires c κs = (omega (arith, c .before .before .before .before .before .before .loop .inv .at), place-within (c .before .before .before .before .before .before .loop .inv) (c .before .before .before .before .before .loop-test .taken) .blocks)
+structure-at-requires c κs = (omega (arith, c .before .before .before .before .before .before .loop .inv .at), place-within
+    (c .before .before .before .before .before .before .loop .inv)
+    (c .before .before .before .before .before .loop-test .taken) .blocks)
 
 add-dg : tie.Need-add-dg Inv-loop μ-loop
-add-dg c = let x = place-room (c .before .before .before .before .before .before .before .loop .inv) (c .before .before .before .before .before .before .loop-test .taken) (c .before .before .before .before .before .blocks-end .ensures) (c .structure-at .ensures) in omega arith
+add-dg c = let x = place-room (c .before .before .before .before .before .before .before .loop .inv)
+    (c .before .before .before .before .before .before .loop-test .taken)
+    (c .before .before .before .before .before .blocks-end .ensures) (c .structure-at .ensures) in omega arith
 
 signal-end-requires : tie.Need-signal-end-requires Inv-loop μ-loop
-signal-end-requires c κs = let b = place-within (c .before .before .before .before .before .before .before .loop .inv) (c .before .before .before .before .before .before .loop-test .taken) in let x = place-data (c .before .before .before .before .before .before .before .loop .inv) (c .before .before .before .before .before .before .loop-test .taken) (c .before .before .before .before .before .blocks-end .ensures) in (omega (arith, c .before .before .before .before .before .before .before .loop .inv .at), omega (arith, c .before .before .before .before .before .before .before .loop .inv .nearData, x), b .fragments, b .signal)
+signal-end-requires c κs = let b = place-within (c .before .before .before .before .before .before .before .loop .inv)
+    (c .before .before .before .before .before .before .loop-test .taken) in let x = place-data
+    (c .before .before .before .before .before .before .before .loop .inv)
+    (c .before .before .before .before .before .before .loop-test .taken)
+    (c .before .before .before .before .before .blocks-end .ensures) in (omega (arith,
+    c .before .before .before .before .before .before .before .loop .inv .at), omega (arith,
+    c .before .before .before .before .before .before .before .loop .inv .nearData, x), b .fragments, b .signal)
 
 add-q : tie.Need-add-q Inv-loop μ-loop
 add-q c = search needs
@@ -42,7 +57,10 @@ loop-less : tie.Need-loop-less Inv-loop μ-loop
 loop-less c = search needs
 
 loop-again : tie.Need-loop-again Inv-loop μ-loop
-loop-again c = place-next (c .before .before .before .before .before .before .before .before .loop .inv) (c .before .before .before .before .before .before .before .loop-test .taken) (c .before .before .before .before .before .before .blocks-end .ensures) (c .before .structure-at .ensures) (c .before .before .before .before .put-place .ensures) (c .signal-end .ensures)
+loop-again c = place-next (c .before .before .before .before .before .before .before .before .loop .inv)
+    (c .before .before .before .before .before .before .before .loop-test .taken)
+    (c .before .before .before .before .before .before .blocks-end .ensures) (c .before .structure-at .ensures)
+    (c .before .before .before .before .put-place .ensures) (c .signal-end .ensures)
 
 same-length : tie.Need-same-length Inv-loop μ-loop
 same-length c = search needs

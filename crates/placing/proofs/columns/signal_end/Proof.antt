@@ -27,19 +27,35 @@ word-requires-2 : tie.Need-word-requires-2
 word-requires-2 c κs = search needs
 
 sizes-in-requires : tie.Need-sizes-in-requires
-sizes-in-requires c κs = let x = signal-fits (c .before .before .before .before .before .args .columns .now) (c .before .before .before .before .before .args .fragments .now) (c .before .before .before .before .before .args .p) (c .before .before .before .before .before .args .d) (c .before .before .word .ensures) (c .word2 .ensures) (c .before .before .before .before .before .pre .3) in (omega arith, x)
+sizes-in-requires c κs = let x = signal-fits (c .before .before .before .before .before .args .columns .now)
+    (c .before .before .before .before .before .args .fragments .now) (c .before .before .before .before .before .args .p)
+    (c .before .before .before .before .before .args .d) (c .before .before .word .ensures) (c .word2 .ensures)
+    (c .before .before .before .before .before .pre .3) in (omega arith, x)
 
 add-aligned : tie.Need-add-aligned
-add-aligned c = let x = signal-fits (c .before .before .before .before .before .before .args .columns .now) (c .before .before .before .before .before .before .args .fragments .now) (c .before .before .before .before .before .before .args .p) (c .before .before .before .before .before .before .args .d) (c .before .before .before .word .ensures) (c .before .word2 .ensures) (c .before .before .before .before .before .before .pre .3) in let y = c .sizes-in .ensures in omega arith
+add-aligned c = let x = signal-fits (c .before .before .before .before .before .before .args .columns .now)
+    (c .before .before .before .before .before .before .args .fragments .now)
+    (c .before .before .before .before .before .before .args .p) (c .before .before .before .before .before .before .args .d)
+    (c .before .before .before .word .ensures) (c .before .word2 .ensures)
+    (c .before .before .before .before .before .before .pre .3) in let y = c .sizes-in .ensures in omega arith
 
 add-aligned-2 : tie.Need-add-aligned-2
-add-aligned-2 c = let x = signal-fits (c .before .before .before .before .before .before .args .columns .now) (c .before .before .before .before .before .before .args .fragments .now) (c .before .before .before .before .before .before .args .p) (c .before .before .before .before .before .before .args .d) (c .before .before .before .word .ensures) (c .before .word2 .ensures) (c .before .before .before .before .before .before .pre .3) in let y = c .sizes-in .ensures in omega arith
+add-aligned-2 c = let x = signal-fits (c .before .before .before .before .before .before .args .columns .now)
+    (c .before .before .before .before .before .before .args .fragments .now)
+    (c .before .before .before .before .before .before .args .p) (c .before .before .before .before .before .before .args .d)
+    (c .before .before .before .word .ensures) (c .before .word2 .ensures)
+    (c .before .before .before .before .before .before .pre .3) in let y = c .sizes-in .ensures in omega arith
 
 aligned-requires : tie.Need-aligned-requires
-aligned-requires c κs = let x = signal-fits (c .before .before .before .before .before .before .args .columns .now) (c .before .before .before .before .before .before .args .fragments .now) (c .before .before .before .before .before .before .args .p) (c .before .before .before .before .before .before .args .d) (c .before .before .before .word .ensures) (c .before .word2 .ensures) (c .before .before .before .before .before .before .pre .3) in let y = c .sizes-in .ensures in omega arith
+aligned-requires c κs = let x = signal-fits (c .before .before .before .before .before .before .args .columns .now)
+    (c .before .before .before .before .before .before .args .fragments .now)
+    (c .before .before .before .before .before .before .args .p) (c .before .before .before .before .before .before .args .d)
+    (c .before .before .before .word .ensures) (c .before .word2 .ensures)
+    (c .before .before .before .before .before .before .pre .3) in let y = c .sizes-in .ensures in omega arith
 
 returns-2 : tie.Need-returns-2
-returns-2 c = signal-some _ _ _ _ (c .before .before .before .before .word .ensures) (λ e. omega arith) (c .before .before .word2 .ensures) (c .before .sizes-in .ensures) (c .aligned .ensures)
+returns-2 c = signal-some _ _ _ _ (c .before .before .before .before .word .ensures) (λ e. omega arith)
+    (c .before .before .word2 .ensures) (c .before .sizes-in .ensures) (c .aligned .ensures)
 
 pub signal-end-spec : {M : Type 1} → statement M
 signal-end-spec =

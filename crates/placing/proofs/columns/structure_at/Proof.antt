@@ -21,16 +21,20 @@ dl-bytes-requires : tie.Need-dl-bytes-requires
 dl-bytes-requires c κs = search needs
 
 add-result : tie.Need-add-result
-add-result c = let x = cg-least _ (c .before .before .cg-bytes .ensures) in let y = dl-least _ (c .dl-bytes .ensures) in let z = c .before .blocks-at .ensures in omega arith
+add-result c = let x = cg-least _ (c .before .before .cg-bytes .ensures) in let y = dl-least _ (c .dl-bytes .ensures) in let z =
+    c .before .blocks-at .ensures in omega arith
 
 add-result-2 : tie.Need-add-result-2
-add-result-2 c = let x = cg-least _ (c .before .before .cg-bytes .ensures) in let y = dl-least _ (c .dl-bytes .ensures) in let z = c .before .blocks-at .ensures in omega arith
+add-result-2 c = let x = cg-least _ (c .before .before .cg-bytes .ensures) in let y = dl-least _ (c .dl-bytes .ensures) in let z
+    = c .before .blocks-at .ensures in omega arith
 
 add-result-3 : tie.Need-add-result-3
-add-result-3 c = let x = cg-least _ (c .before .before .cg-bytes .ensures) in let y = dl-least _ (c .dl-bytes .ensures) in let z = c .before .blocks-at .ensures in omega arith
+add-result-3 c = let x = cg-least _ (c .before .before .cg-bytes .ensures) in let y = dl-least _ (c .dl-bytes .ensures) in let z
+    = c .before .blocks-at .ensures in omega arith
 
 returns : tie.Need-returns
-returns c = structure-by _ _ _ _ (c .before .before .before .word .ensures) (c .before .before .cg-bytes .ensures) (c .before .blocks-at .ensures) (c .dl-bytes .ensures)
+returns c = structure-by _ _ _ _ (c .before .before .before .word .ensures) (c .before .before .cg-bytes .ensures)
+    (c .before .blocks-at .ensures) (c .dl-bytes .ensures)
 
 pub structure-at-spec : {M : Type 1} → statement M
 structure-at-spec =

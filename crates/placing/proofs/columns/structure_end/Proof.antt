@@ -18,7 +18,8 @@ structure-at-requires : tie.Need-structure-at-requires Inv-loop μ-loop
 structure-at-requires c κs = (omega (arith, c .before .loop .inv .at), structure-few (c .before .loop .inv) (c .loop-test .taken))
 
 add-end : tie.Need-add-end Inv-loop μ-loop
-add-end c = let x = structures-room (c .before .before .loop .inv) (c .before .loop-test .taken) (c .structure-at .ensures) in omega arith
+add-end c = let x = structures-room (c .before .before .loop .inv) (c .before .loop-test .taken) (c .structure-at .ensures) in
+    omega arith
 
 add-p : tie.Need-add-p Inv-loop μ-loop
 add-p c = search needs

@@ -27,17 +27,32 @@ abbrev copy-below : ℕ → In 2 copy-kinds.ps
 copy-below t = and 2 copy-kinds.ps (falls 2 copy-kinds.ps _<_ μ-copy t) copy.Pre
 
 abbrev told : ℕ → copy-lts.Claims
-told t =
-    (begin-reads.Asked, begin-reads.Learnt, links-left-reads.Asked, links-left-reads.Learnt, lost-links-reads.Asked, lost-links-reads.Learnt,
-    u64-at-reads.Asked, u64-at-reads.Learnt, copy-below t, copy.Post, size-at-reads.Asked, size-at-reads.Learnt, place-reads.Asked, place-reads.Learnt)
+told t = (
+  begin-reads.Asked,
+  begin-reads.Learnt,
+  links-left-reads.Asked,
+  links-left-reads.Learnt,
+  lost-links-reads.Asked,
+  lost-links-reads.Learnt,
+  u64-at-reads.Asked,
+  u64-at-reads.Learnt,
+  copy-below t,
+  copy.Post,
+  size-at-reads.Asked,
+  size-at-reads.Learnt,
+  place-reads.Asked,
+  place-reads.Learnt,
+)
 
 abbrev copy-Inv-loop : copy-lts.InvT-loop
-copy-Inv-loop image memo₀ a left used down links₀ p₀ st₀ memo links p st = Turn left image down memo₀ links₀ p₀ st₀ memo links p st
+copy-Inv-loop image memo₀ a left used down links₀ p₀ st₀ memo links p st = Turn left image down memo₀ links₀ p₀ st₀ memo links p
+    st
 
 abbrev copy-μ-loop : copy-lts.MeasureT-loop
 copy-μ-loop image memo₀ a left used down links₀ p₀ st₀ memo links p st = links
 
-copy-slice-aggregate-begin : (t : ℕ) → copy-lts.Need-slice-aggregate-begin (told t) (copy-at t) copy.Post copy-Inv-loop copy-μ-loop
+copy-slice-aggregate-begin : (t : ℕ) → copy-lts.Need-slice-aggregate-begin (told t) (copy-at t) copy.Post copy-Inv-loop
+    copy-μ-loop
 copy-slice-aggregate-begin t c = search needs
 
 copy-begin-requires : (t : ℕ) → copy-lts.Need-begin-requires (told t) (copy-at t) copy.Post copy-Inv-loop copy-μ-loop
@@ -52,7 +67,8 @@ copy-same-length t c = search needs
 copy-returns : (t : ℕ) → copy-lts.Need-returns (told t) (copy-at t) copy.Post copy-Inv-loop copy-μ-loop
 copy-returns t c =
     let a = c .before .before .before .before .before .before .before .args in
-    copy-nothing (a .left) (a .image .now) _ (a .a) (a .memo .now) (a .state) (so-begun (c .before .before .begin .ensures) (c .enum-told .given .1))
+    copy-nothing (a .left) (a .image .now) _ (a .a) (a .memo .now) (a .state) (so-begun (c .before .before .begin .ensures)
+        (c .enum-told .given .1))
 
 copy-enum-known-begun : (t : ℕ) → copy-lts.Need-enum-known-begun (told t) (copy-at t) copy.Post copy-Inv-loop copy-μ-loop
 copy-enum-known-begun t c = search needs
@@ -63,18 +79,25 @@ copy-same-length-2 t c = search needs
 copy-returns-2 : (t : ℕ) → copy-lts.Need-returns-2 (told t) (copy-at t) copy.Post copy-Inv-loop copy-μ-loop
 copy-returns-2 t c =
     let a = c .before .before .before .before .before .before .before .before .args in
-    copy-refused (a .left) (a .image .now) _ (a .a) (a .memo .now) (a .state) (so-begun (c .before .before .before .begin .ensures) (c .before .begun .given .1))
+    copy-refused (a .left) (a .image .now) _ (a .a) (a .memo .now) (a .state) (so-begun
+        (c .before .before .before .begin .ensures) (c .before .begun .given .1))
 
 copy-enum-told-2 : (t : ℕ) → copy-lts.Need-enum-told-2 (told t) (copy-at t) copy.Post copy-Inv-loop copy-μ-loop
 copy-enum-told-2 t c = search needs
 
 -- where the links are to be followed
 at-links : (t : ℕ) (c : copy-lts.After-enum-told2 (told t) (copy-at t) copy.Post copy-Inv-loop copy-μ-loop)
-  → Started (c .before .before .before .before .before .before .before .args .left) (c .before .before .before .before .before .before .before .args .image .now) (c .before .before .before .before .before .before .before .args .t3) (c .before .before .before .before .before .before .before .args .a) (c .before .before .before .before .before .before .before .args .memo .now) (c .before .before .before .before .before .before .before .args .state)
+    → Started (c .before .before .before .before .before .before .before .args .left)
+        (c .before .before .before .before .before .before .before .args .image .now)
+        (c .before .before .before .before .before .before .before .args .t3)
+        (c .before .before .before .before .before .before .before .args .a)
+        (c .before .before .before .before .before .before .before .args .memo .now)
+        (c .before .before .before .before .before .before .before .args .state)
 at-links t c =
     let a = c .before .before .before .before .before .before .before .args in
     let h = c .before .before .before .before .before .before .before .pre .1 in
-    started (a .left) (a .image .now) (a .t3) (a .a) (a .memo .now) (a .state) (c .before .before .begin .ensures) (c .enum-told2 .given .1) (omega arith)
+    started (a .left) (a .image .now) (a .t3) (a .a) (a .memo .now) (a .state) (c .before .before .begin .ensures)
+        (c .enum-told2 .given .1) (omega arith)
     (h .1) (h .0) (h .3)
 
 copy-sub-down : (t : ℕ) → copy-lts.Need-sub-down (told t) (copy-at t) copy.Post copy-Inv-loop copy-μ-loop
@@ -127,7 +150,12 @@ copy-same-length-3 t c = search needs
 copy-returns-3 : (t : ℕ) → copy-lts.Need-returns-3 (told t) (copy-at t) copy.Post copy-Inv-loop copy-μ-loop
 copy-returns-3 t c =
     let u = at-links t (c .before .before .before .before .before .before .before .before .before .before .before .before) in
-    copy-stopped _ _ (c .before .before .before .before .before .before .before .before .before .loop .inv) (u .begins) (u .down) (c .before .before .before .before .before .before .before .before .before .before .before .links-left .ensures) (omega (arith, c .before .before .before .before .before .before .before .before .before .before .lost-links .ensures)) (c .before .before .before .before .before .before .before .before .loop-test .taken) (c .before .before .before .before .before .copy .ensures) (c .before .got2 .given .1) (c .before .before .before .before .before .before .before .u64-at .ensures .is)
+    copy-stopped _ _ (c .before .before .before .before .before .before .before .before .before .loop .inv) (u .begins) (u .down)
+        (c .before .before .before .before .before .before .before .before .before .before .before .links-left .ensures) (omega
+        (arith, c .before .before .before .before .before .before .before .before .before .before .lost-links .ensures))
+        (c .before .before .before .before .before .before .before .before .loop-test .taken)
+        (c .before .before .before .before .before .copy .ensures) (c .before .got2 .given .1)
+        (c .before .before .before .before .before .before .before .u64-at .ensures .is)
 
 copy-add-p-3 : (t : ℕ) → copy-lts.Need-add-p-3 (told t) (copy-at t) copy.Post copy-Inv-loop copy-μ-loop
 copy-add-p-3 t c = search needs
@@ -140,7 +168,11 @@ copy-loop-less t c = search needs
 
 copy-loop-again : (t : ℕ) → copy-lts.Need-loop-again (told t) (copy-at t) copy.Post copy-Inv-loop copy-μ-loop
 copy-loop-again t c =
-    turn-next (c .before .before .before .before .before .before .before .before .before .loop .inv) (c .before .before .before .before .before .before .before .before .loop-test .taken) (c .before .before .before .before .before .copy .ensures) (c .before .got .given .1) (c .before .before .before .before .before .before .before .u64-at .ensures .is) (c .before .before .before .before .before .copy .kept .1 .0)
+    turn-next (c .before .before .before .before .before .before .before .before .before .loop .inv)
+        (c .before .before .before .before .before .before .before .before .loop-test .taken)
+        (c .before .before .before .before .before .copy .ensures) (c .before .got .given .1)
+        (c .before .before .before .before .before .before .before .u64-at .ensures .is)
+        (c .before .before .before .before .before .copy .kept .1 .0)
 
 copy-size-at-requires : (t : ℕ) → copy-lts.Need-size-at-requires (told t) (copy-at t) copy.Post copy-Inv-loop copy-μ-loop
 copy-size-at-requires t c κs = search needs
@@ -154,7 +186,11 @@ copy-same-length-4 t c = search needs
 copy-returns-4 : (t : ℕ) → copy-lts.Need-returns-4 (told t) (copy-at t) copy.Post copy-Inv-loop copy-μ-loop
 copy-returns-4 t c =
     let u = at-links t (c .before .before .before .before .before .before .before .before .before) in
-    copy-done _ _ (c .before .before .before .before .before .before .loop .inv) (u .begins) (u .down) (c .before .before .before .before .before .before .before .before .links-left .ensures) (omega (arith, c .before .before .before .before .before .before .before .lost-links .ensures)) (omega arith) (c .before .before .before .before .size-at .ensures) (c .before .before .place .ensures .0) (c .before .before .place .ensures .1)
+    copy-done _ _ (c .before .before .before .before .before .before .loop .inv) (u .begins) (u .down)
+        (c .before .before .before .before .before .before .before .before .links-left .ensures) (omega (arith,
+        c .before .before .before .before .before .before .before .lost-links .ensures)) (omega arith)
+        (c .before .before .before .before .size-at .ensures) (c .before .before .place .ensures .0)
+        (c .before .before .place .ensures .1)
 
 pub +copy-spec : {M : Type 1} → statement M
 +copy-spec = close μ-copy λ t. copy-lts.spec (told t)

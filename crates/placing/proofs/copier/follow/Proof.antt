@@ -13,7 +13,8 @@ use Rattle.placing.proofs.copier.follow.Tie as tie
 abbrev Inv-loop : tie.InvT-loop
 Inv-loop image memo₀ count at links₀ p₀ st₀ memo links p st =
     (p + 8 * links ≤ length image + 8) × Held memo₀ st₀ memo st × (8192 ≤ length memo)
-    × (copyLinks (copyRoot image) image links p (standing memo st) ≡ copyLinks (copyRoot image) image count at (standing memo₀ st₀))
+    × (copyLinks (copyRoot image) image links p (standing memo st) ≡ copyLinks (copyRoot image) image count at (standing memo₀
+        st₀))
 
 abbrev μ-loop : tie.MeasureT-loop
 μ-loop image memo₀ count at links₀ p₀ st₀ memo links p st = links
@@ -37,7 +38,10 @@ same-length : tie.Need-same-length Inv-loop μ-loop
 same-length c = search needs
 
 returns : tie.Need-returns Inv-loop μ-loop
-returns c = (follow-refused _ _ _ _ _ (c .before .before .before .before .before .before .before .before .before .loop .inv .3) (c .before .before .before .before .before .before .before .before .loop-test .taken) (c .before .before .before .before .before .copy-root .ensures .0) (c .before .got2 .given .1) (c .before .before .before .before .before .before .before .u64-at .ensures .is), tt)
+returns c = (follow-refused _ _ _ _ _ (c .before .before .before .before .before .before .before .before .before .loop .inv .3)
+    (c .before .before .before .before .before .before .before .before .loop-test .taken)
+    (c .before .before .before .before .before .copy-root .ensures .0) (c .before .got2 .given .1)
+    (c .before .before .before .before .before .before .before .u64-at .ensures .is), tt)
 
 add-p : tie.Need-add-p Inv-loop μ-loop
 add-p c = search needs
@@ -49,10 +53,19 @@ loop-less : tie.Need-loop-less Inv-loop μ-loop
 loop-less c = search needs
 
 loop-again : tie.Need-loop-again Inv-loop μ-loop
-loop-again c =
-    (search needs, held-next (c .before .before .before .before .before .before .before .before .before .loop .inv .1) (c .before .before .before .before .before .copy-root .ensures .0) (c .before .before .before .before .before .copy-root .ensures .1) (c .before .got .given .1) (c .before .before .before .before .before .copy-root .kept .1 .0),
-    omega (arith, c .before .before .before .before .before .copy-root .kept .1 .0, c .before .before .before .before .before .before .before .before .before .loop .inv .2),
-    follow-next _ _ _ _ _ (c .before .before .before .before .before .before .before .before .before .loop .inv .3) (c .before .before .before .before .before .before .before .before .loop-test .taken) (c .before .before .before .before .before .copy-root .ensures .0) (c .before .got .given .1) (c .before .before .before .before .before .before .before .u64-at .ensures .is))
+loop-again c = (
+  search needs,
+  held-next (c .before .before .before .before .before .before .before .before .before .loop .inv .1)
+      (c .before .before .before .before .before .copy-root .ensures .0)
+      (c .before .before .before .before .before .copy-root .ensures .1) (c .before .got .given .1)
+      (c .before .before .before .before .before .copy-root .kept .1 .0),
+  omega (arith, c .before .before .before .before .before .copy-root .kept .1 .0,
+      c .before .before .before .before .before .before .before .before .before .loop .inv .2),
+  follow-next _ _ _ _ _ (c .before .before .before .before .before .before .before .before .before .loop .inv .3)
+      (c .before .before .before .before .before .before .before .before .loop-test .taken)
+      (c .before .before .before .before .before .copy-root .ensures .0) (c .before .got .given .1)
+      (c .before .before .before .before .before .before .before .u64-at .ensures .is),
+)
 
 same-length-2 : tie.Need-same-length-2 Inv-loop μ-loop
 same-length-2 c = search needs

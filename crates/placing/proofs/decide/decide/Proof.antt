@@ -8,7 +8,6 @@ use Rattle.placing.proofs.decide.decide.Statement.{statement}
 use Rattle.placing.proofs.decide.decide.Tie as tie
 use Rattle.placing.proofs.decide.decide.Reads as reads
 use Rattle.placing.proofs.decide.decide.Lts as lts
-use Rattle.placing.proofs.decide.clear.Reads as clear-reads
 use Rattle.placing.proofs.decide.decide_rest.Reads as decide-rest-reads
 use Rattle.placing.proofs.decide.lent_in.Reads as lent-in-reads
 
@@ -26,7 +25,8 @@ returns-3 c = short-work _ (short-third _ _ _ _ (c .before .before .if1 .left) (
 
 -- src/decide.rt:95:9
 returns-4 : tie.Need-returns-4
-returns-4 c = short-work _ (short-fourth _ _ _ _ (c .before .before .before .if1 .left) (c .before .before .if2 .left) (c .before .if3 .left) (c .if4 .taken))
+returns-4 c = short-work _ (short-fourth _ _ _ _ (c .before .before .before .if1 .left) (c .before .before .if2 .left)
+    (c .before .if3 .left) (c .if4 .taken))
 
 -- src/decide.rt:97:9
 lent-in-requires : tie.Need-lent-in-requires
@@ -38,14 +38,28 @@ enum-known-lent c = search needs
 
 -- src/decide.rt:99:9
 returns-5 : tie.Need-returns-5
-returns-5 c = lent-refused _ _ _ _ _ (work-fine _ _ _ _ (c .before .before .before .before .before .before .before .if1 .left) (c .before .before .before .before .before .before .if2 .left) (c .before .before .before .before .before .if3 .left) (c .before .before .before .before .if4 .left)) _ (c .before .before .before .lent-in .ensures) (c .before .lent .given .1)
+returns-5 c = lent-refused _ _ _ _ _ (work-fine _ _ _ _ (c .before .before .before .before .before .before .before .if1 .left)
+    (c .before .before .before .before .before .before .if2 .left) (c .before .before .before .before .before .if3 .left)
+    (c .before .before .before .before .if4 .left)) _ (c .before .before .before .lent-in .ensures) (c .before .lent .given .1)
 
 enum-told : tie.Need-enum-told
 enum-told c = search needs
 
 -- src/decide.rt:101:9
 decide-rest-requires : tie.Need-decide-rest-requires
-decide-rest-requires c κs = let a = c .before .before .before .before .before .before .before .before .before .before .before .before .before .before .before .before .before .before .args in (c .before .before .before .before .before .before .before .before .before .before .if1 .left, c .before .before .before .before .before .before .before .before .before .if2 .left, c .before .before .before .before .before .before .before .before .if3 .left, c .before .before .before .before .before .before .before .if4 .left, text-fits [] 0 _ _ _ (work-fine (a .source .now) (a .fragments .now) (a .columns .now) (a .copies .now) (c .before .before .before .before .before .before .before .before .before .before .if1 .left) (c .before .before .before .before .before .before .before .before .before .if2 .left) (c .before .before .before .before .before .before .before .before .if3 .left) (c .before .before .before .before .before .before .before .if4 .left)) _ (c .before .before .before .before .before .before .lent-in .ensures) (c .before .before .before .before .enum-told .given .1))
+decide-rest-requires c κs = let a =
+    c .before .before .before .before .before .before .before .before .before .before .before .before .before .before .before .before .before .before .args
+    in (c .before .before .before .before .before .before .before .before .before .before .if1 .left,
+    c .before .before .before .before .before .before .before .before .before .if2 .left,
+    c .before .before .before .before .before .before .before .before .if3 .left,
+    c .before .before .before .before .before .before .before .if4 .left, text-fits [] 0 _ _ _ (work-fine (a .source .now)
+    (a .fragments .now) (a .columns .now) (a .copies .now)
+    (c .before .before .before .before .before .before .before .before .before .before .if1 .left)
+    (c .before .before .before .before .before .before .before .before .before .if2 .left)
+    (c .before .before .before .before .before .before .before .before .if3 .left)
+    (c .before .before .before .before .before .before .before .if4 .left)) _
+    (c .before .before .before .before .before .before .lent-in .ensures)
+    (c .before .before .before .before .enum-told .given .1))
 
 -- src/decide.rt:102:32
 enum-known-found : tie.Need-enum-known-found
@@ -86,11 +100,27 @@ same-length-4 c = search needs
 -- src/decide.rt:107:9
 returns-6 : tie.Need-returns-6
 returns-6 c =
-    let a = c .before .before .before .before .before .before .before .before .before .before .before .before .before .before .before .before .before .before .before .before .before .before .before .before .before .before .before .before .before .before .before .before .before .before .before .before .before .before .before .before .before .before .before .before .before .before .args in
-    rest-refused _ _ _ _ _ (work-fine _ _ _ _ (c .before .before .before .before .before .before .before .before .before .before .before .before .before .before .before .before .before .before .before .before .before .before .before .before .before .before .before .before .before .before .before .before .before .before .before .before .before .before .if1 .left) (c .before .before .before .before .before .before .before .before .before .before .before .before .before .before .before .before .before .before .before .before .before .before .before .before .before .before .before .before .before .before .before .before .before .before .before .before .before .if2 .left) (c .before .before .before .before .before .before .before .before .before .before .before .before .before .before .before .before .before .before .before .before .before .before .before .before .before .before .before .before .before .before .before .before .before .before .before .before .if3 .left) (c .before .before .before .before .before .before .before .before .before .before .before .before .before .before .before .before .before .before .before .before .before .before .before .before .before .before .before .before .before .before .before .before .before .before .before .if4 .left)) _ (c .before .before .before .before .before .before .before .before .before .before .before .before .before .before .before .before .before .before .before .before .before .before .before .before .before .before .before .before .before .before .before .before .before .before .lent-in .ensures) (c .before .before .before .before .before .before .before .before .before .before .before .before .before .before .before .before .before .before .before .before .before .before .before .before .before .before .before .before .before .before .before .before .enum-told .given .1)
-    (rests-refused _ _ _ _ _ _ _ _ _ _ _ _ (c .before .before .before .before .before .before .before .before .before .before .before .before .before .before .before .before .before .before .before .before .before .before .before .before .before .before .before .decide-rest .ensures) (c .before .before .before .before .before .before .before .before .before .before .before .before .before .before .before .before .before .found .given .1))
-    (cleared (a .source .now) (a .fragments .now) (a .columns .now) (a .copies .now) (c .before .before .before .before .before .before .before .before .before .before .before .before .before .before .before .before .before .before .before .before .before .before .before .before .before .before .before .decide-rest .last .1 .1 .1 .0) (c .before .before .before .before .before .before .before .before .before .before .before .before .before .before .before .before .before .before .before .before .before .before .before .before .before .before .before .decide-rest .last .1 .1 .1 .1 .0) (c .before .before .before .before .before .before .before .before .before .before .before .before .before .before .before .before .before .before .before .before .before .before .before .before .before .before .before .decide-rest .last .1 .1 .1 .1 .1 .0) (c .before .before .before .before .before .before .before .before .before .before .before .before .before .before .before .before .before .before .before .before .before .before .before .before .before .before .before .decide-rest .last .1 .1 .1 .1 .1 .1 .0) _ _ _ _ (omega arith) (omega arith) (omega arith) (omega arith)
-    (c .before .before .before .before .before .before .before .before .before .before .before .before .before .before .clear .ensures) (c .before .before .before .before .before .before .before .before .before .before .clear2 .ensures) (c .before .before .before .before .before .before .clear3 .ensures) (c .before .before .clear4 .ensures))
+    let a = c .before .before .before .before .before .before .before .before .before .before .before .before .before .before .before .before .before .before .before .before .before .before .before .before .before .before .before .before .before .before .before .before .before .before .before .before .before .before .before .before .before .before .before .before .before .before .args
+        in
+    rest-refused _ _ _ _ _ (work-fine _ _ _ _
+        (c .before .before .before .before .before .before .before .before .before .before .before .before .before .before .before .before .before .before .before .before .before .before .before .before .before .before .before .before .before .before .before .before .before .before .before .before .before .before .if1 .left)
+        (c .before .before .before .before .before .before .before .before .before .before .before .before .before .before .before .before .before .before .before .before .before .before .before .before .before .before .before .before .before .before .before .before .before .before .before .before .before .if2 .left)
+        (c .before .before .before .before .before .before .before .before .before .before .before .before .before .before .before .before .before .before .before .before .before .before .before .before .before .before .before .before .before .before .before .before .before .before .before .before .if3 .left)
+        (c .before .before .before .before .before .before .before .before .before .before .before .before .before .before .before .before .before .before .before .before .before .before .before .before .before .before .before .before .before .before .before .before .before .before .before .if4 .left))
+        _ (c .before .before .before .before .before .before .before .before .before .before .before .before .before .before .before .before .before .before .before .before .before .before .before .before .before .before .before .before .before .before .before .before .before .before .lent-in .ensures)
+        (c .before .before .before .before .before .before .before .before .before .before .before .before .before .before .before .before .before .before .before .before .before .before .before .before .before .before .before .before .before .before .before .before .enum-told .given .1)
+    (rests-refused _ _ _ _ _ _ _ _ _ _ _ _
+        (c .before .before .before .before .before .before .before .before .before .before .before .before .before .before .before .before .before .before .before .before .before .before .before .before .before .before .before .decide-rest .ensures)
+        (c .before .before .before .before .before .before .before .before .before .before .before .before .before .before .before .before .before .found .given .1))
+    (cleared (a .source .now) (a .fragments .now) (a .columns .now) (a .copies .now)
+        (c .before .before .before .before .before .before .before .before .before .before .before .before .before .before .before .before .before .before .before .before .before .before .before .before .before .before .before .decide-rest .last .1 .1 .1 .0)
+        (c .before .before .before .before .before .before .before .before .before .before .before .before .before .before .before .before .before .before .before .before .before .before .before .before .before .before .before .decide-rest .last .1 .1 .1 .1 .0)
+        (c .before .before .before .before .before .before .before .before .before .before .before .before .before .before .before .before .before .before .before .before .before .before .before .before .before .before .before .decide-rest .last .1 .1 .1 .1 .1 .0)
+        (c .before .before .before .before .before .before .before .before .before .before .before .before .before .before .before .before .before .before .before .before .before .before .before .before .before .before .before .decide-rest .last .1 .1 .1 .1 .1 .1 .0)
+        _ _ _ _ (omega arith) (omega arith) (omega arith) (omega arith)
+    (c .before .before .before .before .before .before .before .before .before .before .before .before .before .before .clear .ensures)
+        (c .before .before .before .before .before .before .before .before .before .before .clear2 .ensures)
+        (c .before .before .before .before .before .before .clear3 .ensures) (c .before .before .clear4 .ensures))
 
 enum-told-2 : tie.Need-enum-told-2
 enum-told-2 c = search needs
@@ -114,9 +144,23 @@ same-length-8 c = search needs
 -- src/decide.rt:77:1
 returns-7 : tie.Need-returns-7
 returns-7 c =
-    let a = c .before .before .before .before .before .before .before .before .before .before .before .before .before .before .before .before .before .before .before .before .before .before .before .before .before .before .before .before .before .args in
-    decides-some _ _ _ _ _ _ _ _ _ _ _ _ _ (c .before .before .before .before .before .before .before .before .before .before .decide-rest .ensures) (c .enum-told2 .given .1)
-    (λ t. rest-decided _ _ _ _ _ (work-fine (a .source .now) (a .fragments .now) (a .columns .now) (a .copies .now) (c .before .before .before .before .before .before .before .before .before .before .before .before .before .before .before .before .before .before .before .before .before .if1 .left) (c .before .before .before .before .before .before .before .before .before .before .before .before .before .before .before .before .before .before .before .before .if2 .left) (c .before .before .before .before .before .before .before .before .before .before .before .before .before .before .before .before .before .before .before .if3 .left) (c .before .before .before .before .before .before .before .before .before .before .before .before .before .before .before .before .before .before .if4 .left)) _ (c .before .before .before .before .before .before .before .before .before .before .before .before .before .before .before .before .before .lent-in .ensures) (c .before .before .before .before .before .before .before .before .before .before .before .before .before .before .before .enum-told .given .1) (c .before .before .before .before .before .before .before .before .before .before .before .before .before .before .before .before .before .before .before .before .before .if1 .left) (c .before .before .before .before .before .before .before .before .before .before .before .before .before .before .before .before .before .before .before .before .if2 .left) (c .before .before .before .before .before .before .before .before .before .before .before .before .before .before .before .before .before .before .before .if3 .left) (c .before .before .before .before .before .before .before .before .before .before .before .before .before .before .before .before .before .before .if4 .left) t)
+    let a = c .before .before .before .before .before .before .before .before .before .before .before .before .before .before .before .before .before .before .before .before .before .before .before .before .before .before .before .before .before .args
+        in
+    decides-some _ _ _ _ _ _ _ _ _ _ _ _ _
+        (c .before .before .before .before .before .before .before .before .before .before .decide-rest .ensures)
+        (c .enum-told2 .given .1)
+    (λ t. rest-decided _ _ _ _ _ (work-fine (a .source .now) (a .fragments .now) (a .columns .now) (a .copies .now)
+        (c .before .before .before .before .before .before .before .before .before .before .before .before .before .before .before .before .before .before .before .before .before .if1 .left)
+        (c .before .before .before .before .before .before .before .before .before .before .before .before .before .before .before .before .before .before .before .before .if2 .left)
+        (c .before .before .before .before .before .before .before .before .before .before .before .before .before .before .before .before .before .before .before .if3 .left)
+        (c .before .before .before .before .before .before .before .before .before .before .before .before .before .before .before .before .before .before .if4 .left))
+        _ (c .before .before .before .before .before .before .before .before .before .before .before .before .before .before .before .before .before .lent-in .ensures)
+        (c .before .before .before .before .before .before .before .before .before .before .before .before .before .before .before .enum-told .given .1)
+        (c .before .before .before .before .before .before .before .before .before .before .before .before .before .before .before .before .before .before .before .before .before .if1 .left)
+        (c .before .before .before .before .before .before .before .before .before .before .before .before .before .before .before .before .before .before .before .before .if2 .left)
+        (c .before .before .before .before .before .before .before .before .before .before .before .before .before .before .before .before .before .before .before .if3 .left)
+        (c .before .before .before .before .before .before .before .before .before .before .before .before .before .before .before .before .before .before .if4 .left)
+        t)
 
 pub decide-spec : {M : Type 1} → statement M
 decide-spec =

@@ -26,15 +26,20 @@ u64-at-requires-2 c κs = search needs
 
 -- src/decide.rt:30:9
 returns-3 : tie.Need-returns-3
-returns-3 c = lent-other _ _ (c .before .before .before .before .if1 .left) (c .before .before .before .u64-at .ensures .is) (c .before .before .if2 .left) (c .before .u64-at2 .ensures .is) (c .if3 .taken)
+returns-3 c = lent-other _ _ (c .before .before .before .before .if1 .left) (c .before .before .before .u64-at .ensures .is)
+    (c .before .before .if2 .left) (c .before .u64-at2 .ensures .is) (c .if3 .taken)
 
 -- src/decide.rt:33:9
 returns-4 : tie.Need-returns-4
-returns-4 c = lent-long _ _ (c .before .before .before .before .before .if1 .left) (c .before .before .before .before .u64-at .ensures .is) (c .before .before .before .if2 .left) (c .before .before .u64-at2 .ensures .is) (c .before .if3 .left) (c .if4 .taken)
+returns-4 c = lent-long _ _ (c .before .before .before .before .before .if1 .left)
+    (c .before .before .before .before .u64-at .ensures .is) (c .before .before .before .if2 .left)
+    (c .before .before .u64-at2 .ensures .is) (c .before .if3 .left) (c .if4 .taken)
 
 -- src/decide.rt:20:1
 returns-5 : tie.Need-returns-5
-returns-5 c = lent-fine _ _ (c .before .before .before .before .before .if1 .left) (c .before .before .before .before .u64-at .ensures .is) (c .before .before .before .if2 .left) (c .before .before .u64-at2 .ensures .is) (c .before .if3 .left) (c .if4 .left)
+returns-5 c = lent-fine _ _ (c .before .before .before .before .before .if1 .left)
+    (c .before .before .before .before .u64-at .ensures .is) (c .before .before .before .if2 .left)
+    (c .before .before .u64-at2 .ensures .is) (c .before .if3 .left) (c .if4 .left)
 
 pub lent-in-spec : {M : Type 1} → statement M
 lent-in-spec =

@@ -19,7 +19,8 @@ is-in-requires c κs = search needs
 returns-2 : tie.Need-returns-2
 returns-2 c =
     let a = c .before .before .before .before .before .args in
-    ends-met _ _ _ (c .before .before .if1 .left) (in-chain (a .memo .now) 4352 (a .count) (a .a) (c .before .is-in .ensures) (c .if2 .taken))
+    ends-met _ _ _ (c .before .before .if1 .left) (in-chain (a .memo .now) 4352 (a .count) (a .a) (c .before .is-in .ensures)
+        (c .if2 .taken))
 
 whole-at-requires : tie.Need-whole-at-requires
 whole-at-requires c κs = search needs
@@ -30,7 +31,9 @@ enum-known-whole c = search needs
 returns-3 : tie.Need-returns-3
 returns-3 c =
     let a = c .before .before .before .before .before .before .before .before .before .args in
-    goes-refused _ _ _ (c .before .before .before .before .before .before .if1 .left) (in-chain (a .memo .now) 4352 (a .count) (a .a) (c .before .before .before .before .before .is-in .ensures) (c .before .before .before .before .if2 .left)) (so-refused (c .before .before .before .whole-at .ensures) (c .before .whole .given .1))
+    goes-refused _ _ _ (c .before .before .before .before .before .before .if1 .left) (in-chain (a .memo .now) 4352 (a .count)
+        (a .a) (c .before .before .before .before .before .is-in .ensures) (c .before .before .before .before .if2 .left))
+        (so-refused (c .before .before .before .whole-at .ensures) (c .before .whole .given .1))
 
 enum-told : tie.Need-enum-told
 enum-told c = search needs
@@ -47,19 +50,34 @@ links-at-requires c κs = search needs
 returns-4 : tie.Need-returns-4
 returns-4 c =
     let a = c .before .before .before .before .before .before .before .before .before .before .before .before .before .args in
-    goes-unlinked _ _ _ (c .before .before .before .before .before .before .before .before .before .before .if1 .left) (in-chain (a .memo .now) 4352 (a .count) (a .a) (c .before .before .before .before .before .before .before .before .before .is-in .ensures) (c .before .before .before .before .before .before .before .before .if2 .left)) (so-fine (c .before .before .before .before .before .before .before .whole-at .ensures) (c .before .before .before .before .before .enum-told .given .1))
-    (so-copied (a .image .now) (a .a) (c .before .before .before .before .kind-at .ensures) (c .before .before .before .is-copied .ensures) (c .before .before .if3 .taken)) (omega arith)
+    goes-unlinked _ _ _ (c .before .before .before .before .before .before .before .before .before .before .if1 .left) (in-chain
+        (a .memo .now) 4352 (a .count) (a .a)
+        (c .before .before .before .before .before .before .before .before .before .is-in .ensures)
+        (c .before .before .before .before .before .before .before .before .if2 .left)) (so-fine
+        (c .before .before .before .before .before .before .before .whole-at .ensures)
+        (c .before .before .before .before .before .enum-told .given .1))
+    (so-copied (a .image .now) (a .a) (c .before .before .before .before .kind-at .ensures)
+        (c .before .before .before .is-copied .ensures) (c .before .before .if3 .taken)) (omega arith)
 
 returns-5 : tie.Need-returns-5
 returns-5 c =
     let a = c .before .before .before .before .before .before .before .before .before .before .before .before .before .args in
-    goes-on _ _ _ (c .before .before .before .before .before .before .before .before .before .before .if1 .left) (in-chain (a .memo .now) 4352 (a .count) (a .a) (c .before .before .before .before .before .before .before .before .before .is-in .ensures) (c .before .before .before .before .before .before .before .before .if2 .left)) (so-fine (c .before .before .before .before .before .before .before .whole-at .ensures) (c .before .before .before .before .before .enum-told .given .1))
-    (so-copied (a .image .now) (a .a) (c .before .before .before .before .kind-at .ensures) (c .before .before .before .is-copied .ensures) (c .before .before .if3 .taken)) (omega arith)
+    goes-on _ _ _ (c .before .before .before .before .before .before .before .before .before .before .if1 .left) (in-chain
+        (a .memo .now) 4352 (a .count) (a .a)
+        (c .before .before .before .before .before .before .before .before .before .is-in .ensures)
+        (c .before .before .before .before .before .before .before .before .if2 .left)) (so-fine
+        (c .before .before .before .before .before .before .before .whole-at .ensures)
+        (c .before .before .before .before .before .enum-told .given .1))
+    (so-copied (a .image .now) (a .a) (c .before .before .before .before .kind-at .ensures)
+        (c .before .before .before .is-copied .ensures) (c .before .before .if3 .taken)) (omega arith)
 
 returns-6 : tie.Need-returns-6
 returns-6 c =
     let a = c .before .before .before .before .before .before .before .before .before .before .before .args in
-    ends-other _ _ _ (c .before .before .before .before .before .before .before .before .if1 .left) (in-chain (a .memo .now) 4352 (a .count) (a .a) (c .before .before .before .before .before .before .before .is-in .ensures) (c .before .before .before .before .before .before .if2 .left)) (so-fine (c .before .before .before .before .before .whole-at .ensures) (c .before .before .before .enum-told .given .1))
+    ends-other _ _ _ (c .before .before .before .before .before .before .before .before .if1 .left) (in-chain (a .memo .now) 4352
+        (a .count) (a .a) (c .before .before .before .before .before .before .before .is-in .ensures)
+        (c .before .before .before .before .before .before .if2 .left)) (so-fine
+        (c .before .before .before .before .before .whole-at .ensures) (c .before .before .before .enum-told .given .1))
     (so-copied (a .image .now) (a .a) (c .before .before .kind-at .ensures) (c .before .is-copied .ensures) (c .if3 .left))
 
 pub goes-on-spec : {M : Type 1} → statement M

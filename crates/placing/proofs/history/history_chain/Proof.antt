@@ -25,7 +25,9 @@ same-length : tie.Need-same-length Inv-loop μ-loop
 same-length c = search needs
 
 returns : tie.Need-returns Inv-loop μ-loop
-returns c = walk-ends (c .before .before .before .before .before .loop .inv) (c .before .before .before .before .loop-test .taken) (so-begun (c .before .before .goes-on .ensures) (c .enum-told .given .1))
+returns c = walk-ends (c .before .before .before .before .before .loop .inv)
+    (c .before .before .before .before .loop-test .taken) (so-begun (c .before .before .goes-on .ensures)
+    (c .enum-told .given .1))
 
 enum-known-begun : tie.Need-enum-known-begun Inv-loop μ-loop
 enum-known-begun c = search needs
@@ -34,7 +36,9 @@ same-length-2 : tie.Need-same-length-2 Inv-loop μ-loop
 same-length-2 c = search needs
 
 returns-2 : tie.Need-returns-2 Inv-loop μ-loop
-returns-2 c = walk-refused (c .before .before .before .before .before .before .loop .inv) (c .before .before .before .before .before .loop-test .taken) (so-begun (c .before .before .before .goes-on .ensures) (c .before .begun .given .1))
+returns-2 c = walk-refused (c .before .before .before .before .before .before .loop .inv)
+    (c .before .before .before .before .before .loop-test .taken) (so-begun (c .before .before .before .goes-on .ensures)
+    (c .before .begun .given .1))
 
 enum-told-2 : tie.Need-enum-told-2 Inv-loop μ-loop
 enum-told-2 c = search needs
@@ -52,7 +56,12 @@ same-length-3 : tie.Need-same-length-3 Inv-loop μ-loop
 same-length-3 c = search needs
 
 returns-3 : tie.Need-returns-3 Inv-loop μ-loop
-returns-3 c = walk-stopped (c .before .before .before .before .before .before .before .before .before .before .before .before .loop .inv) (c .before .before .before .before .before .before .before .before .before .before .before .loop-test .taken) (so-begun (c .before .before .before .before .before .before .before .before .before .goes-on .ensures) (c .before .before .before .before .before .before .before .enum-told2 .given .1)) (c .before .before .before .before .before .copy-root .ensures .0) (c .before .got2 .given .1)
+returns-3 c = walk-stopped
+    (c .before .before .before .before .before .before .before .before .before .before .before .before .loop .inv)
+    (c .before .before .before .before .before .before .before .before .before .before .before .loop-test .taken) (so-begun
+    (c .before .before .before .before .before .before .before .before .before .goes-on .ensures)
+    (c .before .before .before .before .before .before .before .enum-told2 .given .1))
+    (c .before .before .before .before .before .copy-root .ensures .0) (c .before .got2 .given .1)
 
 add-memo : tie.Need-add-memo Inv-loop μ-loop
 add-memo c = search needs
@@ -77,7 +86,13 @@ loop-less c = search needs
 
 loop-again : tie.Need-loop-again Inv-loop μ-loop
 loop-again c =
-    walk-next (c .before .before .before .before .before .before .before .before .before .before .before .before .before .loop .inv) (c .before .before .before .before .before .before .before .before .before .before .before .before .loop-test .taken) (so-begun (c .before .before .before .before .before .before .before .before .before .before .goes-on .ensures) (c .before .before .before .before .before .before .before .before .enum-told2 .given .1)) (c .before .before .before .before .before .before .copy-root .ensures .0) (c .before .before .before .before .before .before .copy-root .ensures .1) (c .before .before .got .given .1)
+    walk-next
+        (c .before .before .before .before .before .before .before .before .before .before .before .before .before .loop .inv)
+        (c .before .before .before .before .before .before .before .before .before .before .before .before .loop-test .taken)
+        (so-begun (c .before .before .before .before .before .before .before .before .before .before .goes-on .ensures)
+        (c .before .before .before .before .before .before .before .before .enum-told2 .given .1))
+        (c .before .before .before .before .before .before .copy-root .ensures .0)
+        (c .before .before .before .before .before .before .copy-root .ensures .1) (c .before .before .got .given .1)
     (c .before .before .before .before .before .before .copy-root .kept .1 .0) (c .first-link .ensures)
 
 same-length-4 : tie.Need-same-length-4 Inv-loop μ-loop

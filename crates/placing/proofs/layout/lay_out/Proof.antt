@@ -13,25 +13,56 @@ enum-known-begun : tie.Need-enum-known-begun
 enum-known-begun c = search needs
 
 aligned-requires : tie.Need-aligned-requires
-aligned-requires c κs = let o = begins-at _ _ _ _ (c .before .before .before .before .before .first-copies .ensures) (c .before .begun .given .1) in let k = o .after in omega arith
+aligned-requires c κs = let o = begins-at _ _ _ _ (c .before .before .before .before .before .first-copies .ensures)
+    (c .before .begun .given .1) in let k = o .after in omega arith
 
 md-bytes-requires : tie.Need-md-bytes-requires
 md-bytes-requires c κs = search needs
 
 add-fh : tie.Need-add-fh
-add-fh c = let o = begins-at _ _ _ _ (c .before .before .before .before .before .before .before .first-copies .ensures) (c .before .before .before .begun .given .1) in let z = first-near o (c .before .aligned .ensures) _ (c .md-bytes .ensures) (c .before .before .before .before .before .before .before .before .before .before .before .before .before .pre .3) in omega arith
+add-fh c = let o = begins-at _ _ _ _ (c .before .before .before .before .before .before .before .first-copies .ensures)
+    (c .before .before .before .begun .given .1) in let z = first-near o (c .before .aligned .ensures) _ (c .md-bytes .ensures)
+    (c .before .before .before .before .before .before .before .before .before .before .before .before .before .pre .3) in omega
+    arith
 
 add-t27 : tie.Need-add-t27
-add-t27 c = let o = begins-at _ _ _ _ (c .before .before .before .before .before .before .before .before .first-copies .ensures) (c .before .before .before .before .begun .given .1) in let z = first-near o (c .before .before .aligned .ensures) _ (c .before .md-bytes .ensures) (c .before .before .before .before .before .before .before .before .before .before .before .before .before .before .pre .3) in omega arith
+add-t27 c = let o = begins-at _ _ _ _ (c .before .before .before .before .before .before .before .before .first-copies .ensures)
+    (c .before .before .before .before .begun .given .1) in let z = first-near o (c .before .before .aligned .ensures) _
+    (c .before .md-bytes .ensures)
+    (c .before .before .before .before .before .before .before .before .before .before .before .before .before .before .pre .3)
+    in omega arith
 
 copy-columns-requires : tie.Need-copy-columns-requires
-copy-columns-requires c κs = let o = begins-at _ _ _ _ (c .before .before .before .before .before .before .before .before .first-copies .ensures) (c .before .before .before .before .begun .given .1) in let z = first-near o (c .before .before .aligned .ensures) _ (c .before .md-bytes .ensures) (c .before .before .before .before .before .before .before .before .before .before .before .before .before .before .pre .3) in (c .before .before .before .before .before .before .before .before .before .before .before .before .before .before .pre .0, omega (arith, c .before .before .before .before .before .before .before .before .before .before .before .before .before .before .pre .1, c .before .before .before .before .before .before .before .before .first-copies .kept .1 .0), z .room)
+copy-columns-requires c κs = let o = begins-at _ _ _ _
+    (c .before .before .before .before .before .before .before .before .first-copies .ensures)
+    (c .before .before .before .before .begun .given .1) in let z = first-near o (c .before .before .aligned .ensures) _
+    (c .before .md-bytes .ensures)
+    (c .before .before .before .before .before .before .before .before .before .before .before .before .before .before .pre .3)
+    in (c .before .before .before .before .before .before .before .before .before .before .before .before .before .before .pre .0,
+    omega (arith,
+    c .before .before .before .before .before .before .before .before .before .before .before .before .before .before .pre .1,
+    c .before .before .before .before .before .before .before .before .first-copies .kept .1 .0), z .room)
 
 enum-known-got : tie.Need-enum-known-got
 enum-known-got c = search needs
 
 place-rest-requires : tie.Need-place-rest-requires
-place-rest-requires c κs = let o = begins-at _ _ _ _ (c .before .before .before .before .before .before .before .before .before .before .before .before .before .before .before .first-copies .ensures) (c .before .before .before .before .before .before .before .before .before .before .before .begun .given .1) in let z = first-near o (c .before .before .before .before .before .before .before .before .before .aligned .ensures) _ (c .before .before .before .before .before .before .before .before .md-bytes .ensures) (c .before .before .before .before .before .before .before .before .before .before .before .before .before .before .before .before .before .before .before .before .before .pre .3) in let y = after-at (c .before .before .before .before .before .before .copy-columns .ensures .1) (c .before .before .got .given .1) in (c .before .before .before .before .before .before .before .before .before .before .before .before .before .before .before .before .before .before .before .before .before .pre .0, omega (arith, c .before .before .before .before .before .before .before .before .before .before .before .before .before .before .before .before .before .before .before .before .before .pre .1, c .before .before .before .before .before .before .before .before .before .before .before .before .before .before .before .first-copies .kept .1 .0, c .before .before .before .before .before .before .copy-columns .kept .1 .1 .1 .0), c .before .before .before .before .before .before .before .before .before .before .before .before .before .before .before .before .before .before .before .before .before .pre .2, omega (arith, y .most), omega (arith, y .most, y .near, z .near), c .before .before .before .before .before .before .before .before .before .before .before .before .before .before .before .before .before .before .before .before .before .pre .4)
+place-rest-requires c κs = let o = begins-at _ _ _ _
+    (c .before .before .before .before .before .before .before .before .before .before .before .before .before .before .before .first-copies .ensures)
+    (c .before .before .before .before .before .before .before .before .before .before .before .begun .given .1) in let z =
+    first-near o (c .before .before .before .before .before .before .before .before .before .aligned .ensures) _
+    (c .before .before .before .before .before .before .before .before .md-bytes .ensures)
+    (c .before .before .before .before .before .before .before .before .before .before .before .before .before .before .before .before .before .before .before .before .before .pre .3)
+    in let y = after-at (c .before .before .before .before .before .before .copy-columns .ensures .1)
+    (c .before .before .got .given .1) in
+    (c .before .before .before .before .before .before .before .before .before .before .before .before .before .before .before .before .before .before .before .before .before .pre .0,
+    omega (arith,
+    c .before .before .before .before .before .before .before .before .before .before .before .before .before .before .before .before .before .before .before .before .before .pre .1,
+    c .before .before .before .before .before .before .before .before .before .before .before .before .before .before .before .first-copies .kept .1 .0,
+    c .before .before .before .before .before .before .copy-columns .kept .1 .1 .1 .0),
+    c .before .before .before .before .before .before .before .before .before .before .before .before .before .before .before .before .before .before .before .before .before .pre .2,
+    omega (arith, y .most), omega (arith, y .most, y .near, z .near),
+    c .before .before .before .before .before .before .before .before .before .before .before .before .before .before .before .before .before .before .before .before .before .pre .4)
 
 enum-known-rest : tie.Need-enum-known-rest
 enum-known-rest c = search needs
@@ -40,7 +71,20 @@ same-length : tie.Need-same-length
 same-length c = search needs
 
 returns : tie.Need-returns
-returns c = let o = begins-at _ _ _ _ (c .before .before .before .before .before .before .before .before .before .before .before .before .before .before .before .before .before .before .before .before .before .first-copies .ensures) (c .before .before .before .before .before .before .before .before .before .before .before .before .before .before .before .before .before .begun .given .1) in whole-done _ _ _ _ _ _ _ o (c .before .before .before .before .before .before .before .before .before .before .before .before .before .before .before .aligned .ensures) (c .before .before .before .before .before .before .before .before .before .before .before .before .before .before .md-bytes .ensures) (c .before .before .before .before .before .before .before .before .before .before .before .before .copy-columns .ensures .0) (c .before .before .before .before .before .before .before .before .got .given .1) (rests-at _ _ _ _ _ _ _ _ _ (c .before .before .before .before .before .place-rest .ensures) (c .before .rest .given .1)) (c .before .before .before .before .before .before .before .before .before .before .before .before .before .before .before .before .before .before .before .before .before .first-copies .kept .1 .0) (c .before .before .before .before .before .before .before .before .before .before .before .before .copy-columns .kept .1 .1 .1 .0) (c .before .before .before .before .before .place-rest .kept .1 .1 .1 .1 .1 .0) (c .before .before .before .before .before .before .before .before .before .before .before .before .before .before .before .before .before .before .before .before .before .before .before .before .before .before .before .pre .1) (c .before .before .before .before .before .before .before .before .before .before .before .before .copy-columns .ensures .1)
+returns c = let o = begins-at _ _ _ _
+    (c .before .before .before .before .before .before .before .before .before .before .before .before .before .before .before .before .before .before .before .before .before .first-copies .ensures)
+    (c .before .before .before .before .before .before .before .before .before .before .before .before .before .before .before .before .before .begun .given .1)
+    in whole-done _ _ _ _ _ _ _ o
+    (c .before .before .before .before .before .before .before .before .before .before .before .before .before .before .before .aligned .ensures)
+    (c .before .before .before .before .before .before .before .before .before .before .before .before .before .before .md-bytes .ensures)
+    (c .before .before .before .before .before .before .before .before .before .before .before .before .copy-columns .ensures .0)
+    (c .before .before .before .before .before .before .before .before .got .given .1) (rests-at _ _ _ _ _ _ _ _ _
+    (c .before .before .before .before .before .place-rest .ensures) (c .before .rest .given .1))
+    (c .before .before .before .before .before .before .before .before .before .before .before .before .before .before .before .before .before .before .before .before .before .first-copies .kept .1 .0)
+    (c .before .before .before .before .before .before .before .before .before .before .before .before .copy-columns .kept .1 .1 .1 .0)
+    (c .before .before .before .before .before .place-rest .kept .1 .1 .1 .1 .1 .0)
+    (c .before .before .before .before .before .before .before .before .before .before .before .before .before .before .before .before .before .before .before .before .before .before .before .before .before .before .before .pre .1)
+    (c .before .before .before .before .before .before .before .before .before .before .before .before .copy-columns .ensures .1)
 
 enum-known-rest-2 : tie.Need-enum-known-rest-2
 enum-known-rest-2 c = search needs
@@ -49,7 +93,15 @@ same-length-2 : tie.Need-same-length-2
 same-length-2 c = search needs
 
 returns-2 : tie.Need-returns-2
-returns-2 c = let o = begins-at _ _ _ _ (c .before .before .before .before .before .before .before .before .before .before .before .before .before .before .before .before .before .before .before .before .before .first-copies .ensures) (c .before .before .before .before .before .before .before .before .before .before .before .before .before .before .before .before .before .begun .given .1) in whole-rest _ _ _ _ _ _ _ o (c .before .before .before .before .before .before .before .before .before .before .before .before .before .before .before .aligned .ensures) (c .before .before .before .before .before .before .before .before .before .before .before .before .before .before .md-bytes .ensures) (c .before .before .before .before .before .before .before .before .before .before .before .before .copy-columns .ensures .0) (c .before .before .before .before .before .before .before .before .got .given .1) _ (c .before .before .before .before .before .place-rest .ensures) (c .before .rest2 .given .1)
+returns-2 c = let o = begins-at _ _ _ _
+    (c .before .before .before .before .before .before .before .before .before .before .before .before .before .before .before .before .before .before .before .before .before .first-copies .ensures)
+    (c .before .before .before .before .before .before .before .before .before .before .before .before .before .before .before .before .before .begun .given .1)
+    in whole-rest _ _ _ _ _ _ _ o
+    (c .before .before .before .before .before .before .before .before .before .before .before .before .before .before .before .aligned .ensures)
+    (c .before .before .before .before .before .before .before .before .before .before .before .before .before .before .md-bytes .ensures)
+    (c .before .before .before .before .before .before .before .before .before .before .before .before .copy-columns .ensures .0)
+    (c .before .before .before .before .before .before .before .before .got .given .1) _
+    (c .before .before .before .before .before .place-rest .ensures) (c .before .rest2 .given .1)
 
 enum-known-got-2 : tie.Need-enum-known-got-2
 enum-known-got-2 c = search needs
@@ -58,7 +110,12 @@ same-length-3 : tie.Need-same-length-3
 same-length-3 c = search needs
 
 returns-3 : tie.Need-returns-3
-returns-3 c = let o = begins-at _ _ _ _ (c .before .before .before .before .before .before .before .before .before .before .before .before .before .before .first-copies .ensures) (c .before .before .before .before .before .before .before .before .before .before .begun .given .1) in whole-columns _ _ _ _ _ _ _ o (c .before .before .before .before .before .before .before .before .aligned .ensures) (c .before .before .before .before .before .before .before .md-bytes .ensures) (c .before .before .before .before .before .copy-columns .ensures .0) (c .before .got2 .given .1)
+returns-3 c = let o = begins-at _ _ _ _
+    (c .before .before .before .before .before .before .before .before .before .before .before .before .before .before .first-copies .ensures)
+    (c .before .before .before .before .before .before .before .before .before .before .begun .given .1) in whole-columns _ _ _ _
+    _ _ _ o (c .before .before .before .before .before .before .before .before .aligned .ensures)
+    (c .before .before .before .before .before .before .before .md-bytes .ensures)
+    (c .before .before .before .before .before .copy-columns .ensures .0) (c .before .got2 .given .1)
 
 enum-known-begun-2 : tie.Need-enum-known-begun-2
 enum-known-begun-2 c = search needs
@@ -67,7 +124,8 @@ same-length-4 : tie.Need-same-length-4
 same-length-4 c = search needs
 
 returns-4 : tie.Need-returns-4
-returns-4 c = whole-first _ _ _ _ _ _ _ _ _ (c .before .before .before .before .before .first-copies .ensures) (c .before .begun2 .given .1)
+returns-4 c = whole-first _ _ _ _ _ _ _ _ _ (c .before .before .before .before .before .first-copies .ensures)
+    (c .before .begun2 .given .1)
 
 pub lay-out-spec : {M : Type 1} → statement M
 lay-out-spec =

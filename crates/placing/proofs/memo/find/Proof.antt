@@ -10,7 +10,8 @@ use Rattle.placing.proofs.memo.find.Statement.{statement}
 use Rattle.placing.proofs.memo.find.Tie as tie
 
 abbrev Inv-loop : tie.InvT-loop
-Inv-loop memo used a p₀ left₀ p left = (p + 2 * left ≡ 2 * used) × (copyOf a (copiesFrom memo p left) ≡ copyOf a (copiesFrom memo 0 used))
+Inv-loop memo used a p₀ left₀ p left = (p + 2 * left ≡ 2 * used) × (copyOf a (copiesFrom memo p left) ≡ copyOf a (copiesFrom memo
+    0 used))
 
 abbrev μ-loop : tie.MeasureT-loop
 μ-loop memo used a p₀ left₀ p left = left
@@ -34,7 +35,8 @@ shared-slice-read-t13 : tie.Need-shared-slice-read-t13 Inv-loop μ-loop
 shared-slice-read-t13 c = search needs
 
 returns : tie.Need-returns Inv-loop μ-loop
-returns c = find-hit _ _ _ _ (c .before .before .before .before .loop .inv .1) (c .before .before .before .loop-test .taken) (c .before .if1 .taken)
+returns c = find-hit _ _ _ _ (c .before .before .before .before .loop .inv .1) (c .before .before .before .loop-test .taken)
+    (c .before .if1 .taken)
 
 add-p : tie.Need-add-p Inv-loop μ-loop
 add-p c = search needs
@@ -46,7 +48,8 @@ loop-less : tie.Need-loop-less Inv-loop μ-loop
 loop-less c = search needs
 
 loop-again : tie.Need-loop-again Inv-loop μ-loop
-loop-again c = (search needs, find-miss _ _ _ _ (c .before .before .before .loop .inv .1) (c .before .before .loop-test .taken) (c .if1 .left))
+loop-again c = (search needs, find-miss _ _ _ _ (c .before .before .before .loop .inv .1) (c .before .before .loop-test .taken)
+    (c .if1 .left))
 
 returns-2 : tie.Need-returns-2 Inv-loop μ-loop
 returns-2 c = find-end _ _ _ _ (c .before .loop .inv .1) (omega arith)

@@ -41,7 +41,8 @@ returns : tie.Need-returns
 returns c =
     let a = c .before .before .args in
     let h : a .state .used * 2 + 1 < length (a .memo .now) = omega arith in
-    (place-is (a .memo .now) (a .a) (a .size) (c .aligned .result) (a .state) h (c .aligned .ensures), place-past (a .memo .now) (a .a) (a .size) (c .aligned .result) (a .state) h)
+    (place-is (a .memo .now) (a .a) (a .size) (c .aligned .result) (a .state) h (c .aligned .ensures), place-past (a .memo .now)
+        (a .a) (a .size) (c .aligned .result) (a .state) h)
 
 pub place-spec : {M : Type 1} → statement M
 place-spec =

@@ -15,7 +15,8 @@ use Rattle.placing.proofs.roots.column_roots.Tie as tie
 abbrev Inv-loop : tie.InvT-loop
 Inv-loop image memo₀ dg cg cn i₀ st₀ memo i st =
     (i ≤ 9) × Held memo₀ st₀ memo st × (8192 ≤ length memo)
-    × (copyRoots image (drop i (roots image dg cg cn)) (standing memo st) ≡ copyRoots image (roots image dg cg cn) (standing memo₀ st₀))
+    × (copyRoots image (drop i (roots image dg cg cn)) (standing memo st) ≡ copyRoots image (roots image dg cg cn) (standing
+        memo₀ st₀))
 
 abbrev μ-loop : tie.MeasureT-loop
 μ-loop image memo₀ dg cg cn i₀ st₀ memo i st = 9 - i
@@ -41,9 +42,14 @@ same-length c = search needs
 returns : tie.Need-returns Inv-loop μ-loop
 returns c =
     let a = c .before .before .before .before .before .before .before .before .before .before .before .before .args in
-    let n = roots-nine (a .image .now) (a .dg) (a .cg) (a .cn) in
-    (roots-refused _ (roots (a .image .now) (a .dg) (a .cg) (a .cn)) (c .before .before .before .before .before .before .before .before .before .loop .i) _ _ _ (c .before .before .before .before .before .before .before .before .before .loop .inv .3) (omega arith) (c .before .before .before .before .before .copy-root .ensures .0) (c .before .got2 .given .1)
-    (c .before .before .before .before .before .before .before .root .ensures), tt)
+    let n = roots-nine (a .image .now) (a .dg) (a .cg) (a .cn) in (
+      roots-refused _ (roots (a .image .now) (a .dg) (a .cg) (a .cn))
+          (c .before .before .before .before .before .before .before .before .before .loop .i) _ _ _
+          (c .before .before .before .before .before .before .before .before .before .loop .inv .3) (omega arith)
+          (c .before .before .before .before .before .copy-root .ensures .0) (c .before .got2 .given .1)
+          (c .before .before .before .before .before .before .before .root .ensures),
+      tt,
+    )
 
 add-i : tie.Need-add-i Inv-loop μ-loop
 add-i c = search needs
@@ -54,11 +60,20 @@ loop-less c = search needs
 loop-again : tie.Need-loop-again Inv-loop μ-loop
 loop-again c =
     let a = c .before .before .before .before .before .before .before .before .before .before .before .before .args in
-    let n = roots-nine (a .image .now) (a .dg) (a .cg) (a .cn) in
-    (search needs, held-next (c .before .before .before .before .before .before .before .before .before .loop .inv .1) (c .before .before .before .before .before .copy-root .ensures .0) (c .before .before .before .before .before .copy-root .ensures .1) (c .before .got .given .1) (c .before .before .before .before .before .copy-root .kept .1 .0),
-    omega (arith, c .before .before .before .before .before .copy-root .kept .1 .0, c .before .before .before .before .before .before .before .before .before .loop .inv .2),
-    roots-next _ (roots (a .image .now) (a .dg) (a .cg) (a .cn)) (c .before .before .before .before .before .before .before .before .before .loop .i) _ _ _ (c .before .before .before .before .before .before .before .before .before .loop .inv .3) (omega arith) (c .before .before .before .before .before .copy-root .ensures .0) (c .before .got .given .1)
-    (c .before .before .before .before .before .before .before .root .ensures))
+    let n = roots-nine (a .image .now) (a .dg) (a .cg) (a .cn) in (
+      search needs,
+      held-next (c .before .before .before .before .before .before .before .before .before .loop .inv .1)
+          (c .before .before .before .before .before .copy-root .ensures .0)
+          (c .before .before .before .before .before .copy-root .ensures .1) (c .before .got .given .1)
+          (c .before .before .before .before .before .copy-root .kept .1 .0),
+      omega (arith, c .before .before .before .before .before .copy-root .kept .1 .0,
+          c .before .before .before .before .before .before .before .before .before .loop .inv .2),
+      roots-next _ (roots (a .image .now) (a .dg) (a .cg) (a .cn))
+          (c .before .before .before .before .before .before .before .before .before .loop .i) _ _ _
+          (c .before .before .before .before .before .before .before .before .before .loop .inv .3) (omega arith)
+          (c .before .before .before .before .before .copy-root .ensures .0) (c .before .got .given .1)
+          (c .before .before .before .before .before .before .before .root .ensures),
+    )
 
 same-length-2 : tie.Need-same-length-2 Inv-loop μ-loop
 same-length-2 c = search needs
@@ -68,7 +83,8 @@ returns-2 c =
     let a = c .before .before .before .before .args in
     let i = c .before .loop .inv in
     let n = roots-nine (a .image .now) (a .dg) (a .cg) (a .cn) in
-    (roots-end _ (roots (a .image .now) (a .dg) (a .cg) (a .cn)) (c .before .loop .i) _ _ (i .3) (omega arith) (i .1), i .1 .after)
+    (roots-end _ (roots (a .image .now) (a .dg) (a .cg) (a .cn)) (c .before .loop .i) _ _ (i .3) (omega arith) (i .1),
+        i .1 .after)
 
 pub column-roots-spec : {M : Type 1} → statement M
 column-roots-spec =

@@ -78,9 +78,14 @@ returns-10 : tie.Need-returns-10
 returns-10 c =
     let a = c .before .before .before .before .before .before .before .before .before .before .args in
     let h : 9 ≤ a .i =
-          past 8 _ (past 7 _ (past 6 _ (past 5 _ (past 4 _ (past 3 _ (past 2 _ (past 1 _ (past 0 _ (omega arith) (c .before .before .before .before .before .before .before .before .if1 .left)) (c .before .before .before .before .before .before .before .if2 .left)) (c .before .before .before .before .before .before .if3 .left)) (c .before .before .before .before .before .if4 .left))
-          (c .before .before .before .before .if5 .left)) (c .before .before .before .if6 .left)) (c .before .before .if7 .left)) (c .before .if8 .left)) (c .if9 .left) in
-    sym (List·getD-eq-default (roots (a .image .now) (a .dg) (a .cg) (a .cn)) 0 (rw (roots-nine (a .image .now) (a .dg) (a .cg) (a .cn)) h))
+    past 8 _ (past 7 _ (past 6 _ (past 5 _ (past 4 _ (past 3 _ (past 2 _ (past 1 _ (past 0 _ (omega arith)
+        (c .before .before .before .before .before .before .before .before .if1 .left))
+        (c .before .before .before .before .before .before .before .if2 .left))
+        (c .before .before .before .before .before .before .if3 .left)) (c .before .before .before .before .before .if4 .left))
+    (c .before .before .before .before .if5 .left)) (c .before .before .before .if6 .left)) (c .before .before .if7 .left))
+        (c .before .if8 .left)) (c .if9 .left) in
+    sym (List·getD-eq-default (roots (a .image .now) (a .dg) (a .cg) (a .cn)) 0 (rw (roots-nine (a .image .now) (a .dg) (a .cg)
+        (a .cn)) h))
 
 pub root-spec : {M : Type 1} → statement M
 root-spec =

@@ -28,7 +28,11 @@ signal-word-requires : tie.Need-signal-word-requires
 signal-word-requires c κs = search needs
 
 sub-put-column : tie.Need-sub-put-column
-sub-put-column c = omega (arith, channel-bounds _ _ 0 0 0 _ 0 0 _ [] _ (c .before .before .before .before .before .before .before .decide .result) (c .before .before .before .before .before .before .before .decide .last .1 .0) (c .before .before .before .before .before .before .before .decide .ensures) (c .before .before .before .decision3 .given .1) (omega arith))
+sub-put-column c = omega (arith, channel-bounds _ _ 0 0 0 _ 0 0 _ [] _
+    (c .before .before .before .before .before .before .before .decide .result)
+    (c .before .before .before .before .before .before .before .decide .last .1 .0)
+    (c .before .before .before .before .before .before .before .decide .ensures) (c .before .before .before .decision3 .given .1)
+    (omega arith))
 
 put-column-requires : tie.Need-put-column-requires
 put-column-requires c κs = search needs
@@ -40,7 +44,8 @@ same-length : tie.Need-same-length
 same-length c = search needs
 
 returns : tie.Need-returns
-returns c = channel-refused _ _ _ _ _ _ _ _ _ _ _ _ _ (c .before .before .before .before .before .decide .ensures) (c .before .decision .given .1)
+returns c = channel-refused _ _ _ _ _ _ _ _ _ _ _ _ _ (c .before .before .before .before .before .decide .ensures)
+    (c .before .decision .given .1)
 
 same-length-2 : tie.Need-same-length-2
 same-length-2 c = search needs
@@ -49,7 +54,9 @@ same-length-3 : tie.Need-same-length-3
 same-length-3 c = search needs
 
 returns-2 : tie.Need-returns-2
-returns-2 c = channel-omitted _ _ _ _ _ _ _ _ _ _ _ _ _ (c .before .before .before .before .before .before .before .before .before .decide .ensures) (c .before .before .before .before .before .decision2 .given .1) (omega arith) (c .before .before .put-omission .ensures)
+returns-2 c = channel-omitted _ _ _ _ _ _ _ _ _ _ _ _ _
+    (c .before .before .before .before .before .before .before .before .before .decide .ensures)
+    (c .before .before .before .before .before .decision2 .given .1) (omega arith) (c .before .before .put-omission .ensures)
 
 same-length-4 : tie.Need-same-length-4
 same-length-4 c = search needs
@@ -58,7 +65,10 @@ same-length-5 : tie.Need-same-length-5
 same-length-5 c = search needs
 
 returns-3 : tie.Need-returns-3
-returns-3 c = channel-kept _ _ _ _ _ _ _ _ _ _ _ _ _ (c .before .before .before .before .before .before .before .before .before .before .decide .ensures) (c .before .before .before .before .before .before .decision3 .given .1) (omega arith) (c .before .before .before .before .signal-word .ensures) (c .before .before .put-column .ensures)
+returns-3 c = channel-kept _ _ _ _ _ _ _ _ _ _ _ _ _
+    (c .before .before .before .before .before .before .before .before .before .before .decide .ensures)
+    (c .before .before .before .before .before .before .decision3 .given .1) (omega arith)
+    (c .before .before .before .before .signal-word .ensures) (c .before .before .put-column .ensures)
 
 pub plan-channel-spec : {M : Type 1} → statement M
 plan-channel-spec =

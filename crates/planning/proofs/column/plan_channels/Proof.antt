@@ -9,11 +9,15 @@ use Rattle.planning.proofs.column.plan_channels.Statement.{statement}
 use Rattle.planning.proofs.column.plan_channels.Tie as tie
 
 abbrev Inv-loop : tie.InvT-loop
-Inv-loop image source fragments₀ columns₀ n i g d records own master nc om nf k₀ columns-now₀ omissions-now₀ fragments-now₀ fragments columns k columns-now omissions-now fragments-now = (length columns ≡ length columns₀) × (length fragments ≡ length fragments₀)
-    × Channels image source n i g d records own master nc om nf columns₀ fragments₀ k columns-now omissions-now fragments-now columns fragments
+Inv-loop image source fragments₀ columns₀ n i g d records own master nc om nf k₀ columns-now₀ omissions-now₀ fragments-now₀
+    fragments columns k columns-now omissions-now fragments-now = (length columns ≡ length columns₀) × (length fragments ≡ length
+    fragments₀)
+    × Channels image source n i g d records own master nc om nf columns₀ fragments₀ k columns-now omissions-now fragments-now
+        columns fragments
 
 abbrev μ-loop : tie.MeasureT-loop
-μ-loop image source fragments₀ columns₀ n i g d records own master nc om nf k₀ columns-now₀ omissions-now₀ fragments-now₀ fragments columns k columns-now omissions-now fragments-now = n - k
+μ-loop image source fragments₀ columns₀ n i g d records own master nc om nf k₀ columns-now₀ omissions-now₀ fragments-now₀
+    fragments columns k columns-now omissions-now fragments-now = n - k
 
 loop-holds : tie.Need-loop-holds Inv-loop μ-loop
 loop-holds c = (refl, refl, channels-begin (omega arith) (omega arith))
@@ -31,7 +35,8 @@ same-length-2 : tie.Need-same-length-2 Inv-loop μ-loop
 same-length-2 c = search needs
 
 returns : tie.Need-returns Inv-loop μ-loop
-returns c = channels-stop (c .before .before .before .loop .inv .2) (c .before .before .loop-test .taken) (c .before .word .ensures) (omega arith) (c .if1 .taken)
+returns c = channels-stop (c .before .before .before .loop .inv .2) (c .before .before .loop-test .taken)
+    (c .before .word .ensures) (omega arith) (c .if1 .taken)
 
 word-requires-2 : tie.Need-word-requires-2 Inv-loop μ-loop
 word-requires-2 c κs = search needs
@@ -52,7 +57,14 @@ same-length-4 : tie.Need-same-length-4 Inv-loop μ-loop
 same-length-4 c = search needs
 
 returns-2 : tie.Need-returns-2 Inv-loop μ-loop
-returns-2 c = channels-refused (c .before .before .before .before .before .before .before .before .before .before .before .before .before .before .before .loop .inv .2) (c .before .before .before .before .before .before .before .before .before .before .before .before .before .before .loop-test .taken) (c .before .before .before .before .before .before .before .before .before .before .before .before .before .word .ensures) (c .before .before .before .before .before .before .before .before .before .before .before .before .if1 .left) (c .before .before .before .before .before .before .before .before .before .before .before .word2 .ensures) (c .before .before .before .before .before .before .before .before .before .before .if2 .taken) (c .before .before .before .before .before .before .before .plan-channel .ensures) (c .before .planned .given .1)
+returns-2 c = channels-refused
+    (c .before .before .before .before .before .before .before .before .before .before .before .before .before .before .before .loop .inv .2)
+    (c .before .before .before .before .before .before .before .before .before .before .before .before .before .before .loop-test .taken)
+    (c .before .before .before .before .before .before .before .before .before .before .before .before .before .word .ensures)
+    (c .before .before .before .before .before .before .before .before .before .before .before .before .if1 .left)
+    (c .before .before .before .before .before .before .before .before .before .before .before .word2 .ensures)
+    (c .before .before .before .before .before .before .before .before .before .before .if2 .taken)
+    (c .before .before .before .before .before .before .before .plan-channel .ensures) (c .before .planned .given .1)
 
 enum-known-planned-2 : tie.Need-enum-known-planned-2 Inv-loop μ-loop
 enum-known-planned-2 c = search needs
@@ -61,13 +73,22 @@ loop-less : tie.Need-loop-less Inv-loop μ-loop
 loop-less c = search needs
 
 loop-again : tie.Need-loop-again Inv-loop μ-loop
-loop-again c = (search needs, search needs, channels-on (c .before .before .before .before .before .before .before .before .before .before .before .before .before .before .before .loop .inv .2) (c .before .before .before .before .before .before .before .before .before .before .before .before .before .before .loop-test .taken) (c .before .before .before .before .before .before .before .before .before .before .before .before .before .word .ensures) (c .before .before .before .before .before .before .before .before .before .before .before .before .if1 .left) (c .before .before .before .before .before .before .before .before .before .before .before .word2 .ensures) (c .before .before .before .before .before .before .before .before .before .before .if2 .taken) (c .before .before .before .before .before .before .before .plan-channel .ensures) (c .before .planned2 .given .1))
+loop-again c = (search needs, search needs, channels-on
+    (c .before .before .before .before .before .before .before .before .before .before .before .before .before .before .before .loop .inv .2)
+    (c .before .before .before .before .before .before .before .before .before .before .before .before .before .before .loop-test .taken)
+    (c .before .before .before .before .before .before .before .before .before .before .before .before .before .word .ensures)
+    (c .before .before .before .before .before .before .before .before .before .before .before .before .if1 .left)
+    (c .before .before .before .before .before .before .before .before .before .before .before .word2 .ensures)
+    (c .before .before .before .before .before .before .before .before .before .before .if2 .taken)
+    (c .before .before .before .before .before .before .before .plan-channel .ensures) (c .before .planned2 .given .1))
 
 loop-less-2 : tie.Need-loop-less-2 Inv-loop μ-loop
 loop-less-2 c = search needs
 
 loop-again-2 : tie.Need-loop-again-2 Inv-loop μ-loop
-loop-again-2 c = (search needs, search needs, channels-pass (c .before .before .before .before .before .loop .inv .2) (c .before .before .before .before .loop-test .taken) (c .before .before .before .word .ensures) (c .before .before .if1 .left) (c .before .word2 .ensures) (c .if2 .left))
+loop-again-2 c = (search needs, search needs, channels-pass (c .before .before .before .before .before .loop .inv .2)
+    (c .before .before .before .before .loop-test .taken) (c .before .before .before .word .ensures)
+    (c .before .before .if1 .left) (c .before .word2 .ensures) (c .if2 .left))
 
 same-length-5 : tie.Need-same-length-5 Inv-loop μ-loop
 same-length-5 c = search needs

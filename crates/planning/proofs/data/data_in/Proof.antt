@@ -14,7 +14,8 @@ enum-known-found : tie.Need-enum-known-found
 enum-known-found c = search needs
 
 returns : tie.Need-returns
-returns c = data-stop _ _ _ _ _ _ _ _ (c .before .before .before .before .before .any-nonempty .ensures) (c .before .before .before .before .if1 .taken) (c .before .before .before .records-of .ensures) (c .before .found .given .1)
+returns c = data-stop _ _ _ _ _ _ _ _ (c .before .before .before .before .before .any-nonempty .ensures)
+    (c .before .before .before .before .if1 .taken) (c .before .before .before .records-of .ensures) (c .before .found .given .1)
 
 enum-told : tie.Need-enum-told
 enum-told c = search needs
@@ -23,13 +24,16 @@ signals-in-requires : tie.Need-signals-in-requires
 signals-in-requires c κs = search needs
 
 returns-2 : tie.Need-returns-2
-returns-2 c = data-on _ _ _ _ _ _ _ _ (c .before .before .before .before .before .any-nonempty .ensures) (c .before .before .before .before .if1 .taken) (c .before .before .before .records-of .ensures) (c .before .enum-told .given .1) (c .signals-in .ensures)
+returns-2 c = data-on _ _ _ _ _ _ _ _ (c .before .before .before .before .before .any-nonempty .ensures)
+    (c .before .before .before .before .if1 .taken) (c .before .before .before .records-of .ensures)
+    (c .before .enum-told .given .1) (c .signals-in .ensures)
 
 signals-in-requires-2 : tie.Need-signals-in-requires-2
 signals-in-requires-2 c κs = search needs
 
 returns-3 : tie.Need-returns-3
-returns-3 c = data-empty _ _ _ _ _ _ _ _ (c .before .before .any-nonempty .ensures) (c .before .if1 .left) (c .signals-in2 .ensures)
+returns-3 c = data-empty _ _ _ _ _ _ _ _ (c .before .before .any-nonempty .ensures) (c .before .if1 .left)
+    (c .signals-in2 .ensures)
 
 pub data-in-spec : {M : Type 1} → statement M
 data-in-spec =

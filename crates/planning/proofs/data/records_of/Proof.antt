@@ -24,7 +24,9 @@ sorted-of-requires : tie.Need-sorted-of-requires
 sorted-of-requires c κs = search needs
 
 returns-2 : tie.Need-returns-2
-returns-2 c = records-one _ _ _ _ _ _ _ _ (omega arith) (c .before .before .before .before .before .own-groups .ensures) (c .before .before .before .before .if1 .left) (c .before .before .before .first-group .ensures) (c .before .before .end-of .ensures) (c .before .least .ensures .0) (c .sorted-of .ensures)
+returns-2 c = records-one _ _ _ _ _ _ _ _ (omega arith) (c .before .before .before .before .before .own-groups .ensures)
+    (c .before .before .before .before .if1 .left) (c .before .before .before .first-group .ensures)
+    (c .before .before .end-of .ensures) (c .before .least .ensures .0) (c .sorted-of .ensures)
 
 pub records-of-spec : {M : Type 1} → statement M
 records-of-spec =

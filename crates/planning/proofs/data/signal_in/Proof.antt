@@ -26,7 +26,8 @@ word-requires-2 : tie.Need-word-requires-2
 word-requires-2 c κs = search needs
 
 returns-2 : tie.Need-returns-2
-returns-2 c = signal-none _ _ _ _ _ (c .before .before .before .word .ensures) (c .before .before .if1 .left) (c .before .word2 .ensures) (c .if2 .taken)
+returns-2 c = signal-none _ _ _ _ _ (c .before .before .before .word .ensures) (c .before .before .if1 .left)
+    (c .before .word2 .ensures) (c .if2 .taken)
 
 mul-word-3 : tie.Need-mul-word-3
 mul-word-3 c = search needs
@@ -44,7 +45,9 @@ ranges-of-requires : tie.Need-ranges-of-requires
 ranges-of-requires c κs = search needs
 
 returns-3 : tie.Need-returns-3
-returns-3 c = signal-some _ _ _ _ _ (c .before .before .before .before .before .word .ensures) (c .before .before .before .before .if1 .left) (c .before .before .before .word2 .ensures) (c .before .before .if2 .left) (c .before .word3 .ensures) (c .ranges-of .ensures)
+returns-3 c = signal-some _ _ _ _ _ (c .before .before .before .before .before .word .ensures)
+    (c .before .before .before .before .if1 .left) (c .before .before .before .word2 .ensures) (c .before .before .if2 .left)
+    (c .before .word3 .ensures) (c .ranges-of .ensures)
 
 pub signal-in-spec : {M : Type 1} → statement M
 signal-in-spec =

@@ -14,13 +14,16 @@ is-master-type-requires : tie.Need-is-master-type-requires
 is-master-type-requires c κs = search needs
 
 returns-2 : tie.Need-returns-2
-returns-2 c = left-omitted _ _ (decide-master _ _ _ _ (c .before .before .before .fits-in .ensures) (not-no _ (c .before .before .if1 .left)) (c .before .is-master-type .ensures) (c .if2 .taken))
+returns-2 c = left-omitted _ _ (decide-master _ _ _ _ (c .before .before .before .fits-in .ensures) (not-no _
+    (c .before .before .if1 .left)) (c .before .is-master-type .ensures) (c .if2 .taken))
 
 channel-type-requires : tie.Need-channel-type-requires
 channel-type-requires c κs = search needs
 
 returns-3 : tie.Need-returns-3
-returns-3 c = left-omitted _ _ (decide-type _ _ _ _ (c .before .before .before .before .before .fits-in .ensures) (not-no _ (c .before .before .before .before .if1 .left)) (c .before .before .before .is-master-type .ensures) (c .before .before .if2 .left) (c .before .channel-type .ensures .is) (c .if3 .taken))
+returns-3 c = left-omitted _ _ (decide-type _ _ _ _ (c .before .before .before .before .before .fits-in .ensures) (not-no _
+    (c .before .before .before .before .if1 .left)) (c .before .before .before .is-master-type .ensures)
+    (c .before .before .if2 .left) (c .before .channel-type .ensures .is) (c .if3 .taken))
 
 decide-composition-requires : tie.Need-decide-composition-requires
 decide-composition-requires c κs = search needs
@@ -29,7 +32,13 @@ same-length : tie.Need-same-length
 same-length c = search needs
 
 returns-4 : tie.Need-returns-4
-returns-4 c = left-same _ _ (decide-rest _ _ _ _ (c .before .before .before .before .before .before .before .before .before .fits-in .ensures) (not-no _ (c .before .before .before .before .before .before .before .before .if1 .left)) (c .before .before .before .before .before .before .before .is-master-type .ensures) (c .before .before .before .before .before .before .if2 .left) (c .before .before .before .before .before .channel-type .ensures .is) (c .before .before .before .before .if3 .left)) (c .before .before .decide-composition .ensures)
+returns-4 c = left-same _ _ (decide-rest _ _ _ _
+    (c .before .before .before .before .before .before .before .before .before .fits-in .ensures) (not-no _
+    (c .before .before .before .before .before .before .before .before .if1 .left))
+    (c .before .before .before .before .before .before .before .is-master-type .ensures)
+    (c .before .before .before .before .before .before .if2 .left)
+    (c .before .before .before .before .before .channel-type .ensures .is) (c .before .before .before .before .if3 .left))
+    (c .before .before .decide-composition .ensures)
 
 pub decide-spec : {M : Type 1} → statement M
 decide-spec =

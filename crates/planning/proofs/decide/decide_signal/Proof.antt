@@ -15,7 +15,8 @@ link-at-requires : tie.Need-link-at-requires
 link-at-requires c κs = search needs
 
 returns-2 : tie.Need-returns-2
-returns-2 c = left-unsigned _ _ (signal-none _ _ _ (c .before .before .before .channel-type .ensures .is) (c .before .before .if1 .left) (c .before .link-at .ensures) (c .if2 .taken))
+returns-2 c = left-unsigned _ _ (signal-none _ _ _ (c .before .before .before .channel-type .ensures .is)
+    (c .before .before .if1 .left) (c .before .link-at .ensures) (c .if2 .taken))
 
 header-in-requires : tie.Need-header-in-requires
 header-in-requires c κs = search needs
@@ -24,7 +25,10 @@ enum-known-header : tie.Need-enum-known-header
 enum-known-header c = search needs
 
 returns-3 : tie.Need-returns-3
-returns-3 c = left-refused _ _ (signal-refused _ _ _ (c .before .before .before .before .before .before .before .channel-type .ensures .is) (c .before .before .before .before .before .before .if1 .left) (c .before .before .before .before .before .link-at .ensures) (c .before .before .before .before .if2 .left) (c .before .before .before .header-in .ensures) (c .before .header .given .1))
+returns-3 c = left-refused _ _ (signal-refused _ _ _
+    (c .before .before .before .before .before .before .before .channel-type .ensures .is)
+    (c .before .before .before .before .before .before .if1 .left) (c .before .before .before .before .before .link-at .ensures)
+    (c .before .before .before .before .if2 .left) (c .before .before .before .header-in .ensures) (c .before .header .given .1))
 
 enum-told : tie.Need-enum-told
 enum-told c = search needs
@@ -33,7 +37,12 @@ kind-at-requires : tie.Need-kind-at-requires
 kind-at-requires c κs = search needs
 
 returns-4 : tie.Need-returns-4
-returns-4 c = left-omitted _ _ (signal-storage _ _ _ (c .before .before .before .before .before .before .before .before .channel-type .ensures .is) (c .before .before .before .before .before .before .before .if1 .left) (c .before .before .before .before .before .before .link-at .ensures) (c .before .before .before .before .before .if2 .left) (c .before .before .before .before .header-in .ensures) (c .before .before .enum-told .given .1) (c .before .kind-at .ensures) (c .if3 .taken))
+returns-4 c = left-omitted _ _ (signal-storage _ _ _
+    (c .before .before .before .before .before .before .before .before .channel-type .ensures .is)
+    (c .before .before .before .before .before .before .before .if1 .left)
+    (c .before .before .before .before .before .before .link-at .ensures) (c .before .before .before .before .before .if2 .left)
+    (c .before .before .before .before .header-in .ensures) (c .before .before .enum-told .given .1)
+    (c .before .kind-at .ensures) (c .if3 .taken))
 
 signal-at-requires : tie.Need-signal-at-requires
 signal-at-requires c κs = search needs
@@ -42,7 +51,15 @@ same-length : tie.Need-same-length
 same-length c = search needs
 
 returns-5 : tie.Need-returns-5
-returns-5 c = left-same _ _ (signal-data _ _ _ (c .before .before .before .before .before .before .before .before .before .before .before .before .channel-type .ensures .is) (c .before .before .before .before .before .before .before .before .before .before .before .if1 .left) (c .before .before .before .before .before .before .before .before .before .before .link-at .ensures) (c .before .before .before .before .before .before .before .before .before .if2 .left) (c .before .before .before .before .before .before .before .before .header-in .ensures) (c .before .before .before .before .before .before .enum-told .given .1) (c .before .before .before .before .before .kind-at .ensures) (c .before .before .before .before .if3 .left)) (c .before .before .signal-at .ensures)
+returns-5 c = left-same _ _ (signal-data _ _ _
+    (c .before .before .before .before .before .before .before .before .before .before .before .before .channel-type .ensures .is)
+    (c .before .before .before .before .before .before .before .before .before .before .before .if1 .left)
+    (c .before .before .before .before .before .before .before .before .before .before .link-at .ensures)
+    (c .before .before .before .before .before .before .before .before .before .if2 .left)
+    (c .before .before .before .before .before .before .before .before .header-in .ensures)
+    (c .before .before .before .before .before .before .enum-told .given .1)
+    (c .before .before .before .before .before .kind-at .ensures) (c .before .before .before .before .if3 .left))
+    (c .before .before .signal-at .ensures)
 
 pub decide-signal-spec : {M : Type 1} → statement M
 decide-signal-spec =

@@ -33,7 +33,9 @@ word-requires-3 : tie.Need-word-requires-3 Inv-loop μ-loop
 word-requires-3 c κs = search needs
 
 returns : tie.Need-returns Inv-loop μ-loop
-returns c = find-hit (c .before .before .before .before .before .before .loop .inv) (c .before .before .before .before .before .loop-test .taken) (c .before .before .before .before .word .ensures) (c .before .before .before .word2 .ensures) (c .before .before .if1 .taken) (c .before .if2 .taken) (c .word3 .ensures)
+returns c = find-hit (c .before .before .before .before .before .before .loop .inv)
+    (c .before .before .before .before .before .loop-test .taken) (c .before .before .before .before .word .ensures)
+    (c .before .before .before .word2 .ensures) (c .before .before .if1 .taken) (c .before .if2 .taken) (c .word3 .ensures)
 
 add-g : tie.Need-add-g Inv-loop μ-loop
 add-g c = search needs
@@ -42,19 +44,25 @@ loop-less : tie.Need-loop-less Inv-loop μ-loop
 loop-less c = search needs
 
 loop-again : tie.Need-loop-again Inv-loop μ-loop
-loop-again c = find-other (c .before .before .before .before .before .loop .inv) (c .before .before .before .before .loop-test .taken) (c .before .before .before .word .ensures) (c .before .before .word2 .ensures) (c .before .if1 .taken) (c .if2 .left)
+loop-again c = find-other (c .before .before .before .before .before .loop .inv)
+    (c .before .before .before .before .loop-test .taken) (c .before .before .before .word .ensures)
+    (c .before .before .word2 .ensures) (c .before .if1 .taken) (c .if2 .left)
 
 loop-less-2 : tie.Need-loop-less-2 Inv-loop μ-loop
 loop-less-2 c = search needs
 
 loop-again-2 : tie.Need-loop-again-2 Inv-loop μ-loop
-loop-again-2 c = find-data (c .before .before .before .before .before .loop .inv) (c .before .before .before .before .loop-test .taken) (c .before .before .before .word .ensures) (c .before .before .word2 .ensures) (c .if3 .taken) (c .before .if1 .left)
+loop-again-2 c = find-data (c .before .before .before .before .before .loop .inv)
+    (c .before .before .before .before .loop-test .taken) (c .before .before .before .word .ensures)
+    (c .before .before .word2 .ensures) (c .if3 .taken) (c .before .if1 .left)
 
 loop-less-3 : tie.Need-loop-less-3 Inv-loop μ-loop
 loop-less-3 c = search needs
 
 loop-again-3 : tie.Need-loop-again-3 Inv-loop μ-loop
-loop-again-3 c = find-channel (c .before .before .before .before .before .loop .inv) (c .before .before .before .before .loop-test .taken) (c .before .before .before .word .ensures) (c .before .before .word2 .ensures) (c .if3 .left)
+loop-again-3 c = find-channel (c .before .before .before .before .before .loop .inv)
+    (c .before .before .before .before .loop-test .taken) (c .before .before .before .word .ensures)
+    (c .before .before .word2 .ensures) (c .if3 .left)
 
 returns-2 : tie.Need-returns-2 Inv-loop μ-loop
 returns-2 c = find-end (c .before .loop .inv) (c .loop-test .left)

@@ -21,7 +21,8 @@ word-requires : tie.Need-word-requires Inv-loop μ-loop
 word-requires c κs = search needs
 
 returns : tie.Need-returns Inv-loop μ-loop
-returns c = master-over (c .before .before .before .loop .inv) (c .before .before .loop-test .taken) (c .before .word .ensures) (c .if1 .taken)
+returns c = master-over (c .before .before .before .loop .inv) (c .before .before .loop-test .taken) (c .before .word .ensures)
+    (c .if1 .taken)
 
 word-requires-2 : tie.Need-word-requires-2 Inv-loop μ-loop
 word-requires-2 c κs = search needs
@@ -30,7 +31,9 @@ is-master-requires : tie.Need-is-master-requires Inv-loop μ-loop
 is-master-requires c κs = search needs
 
 returns-2 : tie.Need-returns-2 Inv-loop μ-loop
-returns-2 c = master-hit (c .before .before .before .before .before .before .loop .inv) (c .before .before .before .before .before .loop-test .taken) (c .before .before .before .before .word .ensures) (c .before .before .before .if1 .left) (c .before .before .word2 .ensures) (c .before .is-master .ensures) (c .if2 .taken)
+returns-2 c = master-hit (c .before .before .before .before .before .before .loop .inv)
+    (c .before .before .before .before .before .loop-test .taken) (c .before .before .before .before .word .ensures)
+    (c .before .before .before .if1 .left) (c .before .before .word2 .ensures) (c .before .is-master .ensures) (c .if2 .taken)
 
 add-k : tie.Need-add-k Inv-loop μ-loop
 add-k c = search needs
@@ -39,7 +42,9 @@ loop-less : tie.Need-loop-less Inv-loop μ-loop
 loop-less c = search needs
 
 loop-again : tie.Need-loop-again Inv-loop μ-loop
-loop-again c = master-on (c .before .before .before .before .before .before .loop .inv) (c .before .before .before .before .before .loop-test .taken) (c .before .before .before .before .word .ensures) (c .before .before .before .if1 .left) (c .before .before .word2 .ensures) (c .before .is-master .ensures) (c .if2 .left)
+loop-again c = master-on (c .before .before .before .before .before .before .loop .inv)
+    (c .before .before .before .before .before .loop-test .taken) (c .before .before .before .before .word .ensures)
+    (c .before .before .before .if1 .left) (c .before .before .word2 .ensures) (c .before .is-master .ensures) (c .if2 .left)
 
 returns-3 : tie.Need-returns-3 Inv-loop μ-loop
 returns-3 c = master-end (c .before .loop .inv) (c .loop-test .left)

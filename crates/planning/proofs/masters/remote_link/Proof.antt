@@ -17,10 +17,12 @@ link-at-requires : tie.Need-link-at-requires
 link-at-requires c κs = search needs
 
 returns-2 : tie.Need-returns-2
-returns-2 c = remote-set _ _ (c .before .before .before .before .group-flags .ensures .is) (c .before .before .before .if1 .left) (c .before .before .links-at .ensures) (c .before .if2 .taken) (c .link-at .ensures)
+returns-2 c = remote-set _ _ (c .before .before .before .before .group-flags .ensures .is) (c .before .before .before .if1 .left)
+    (c .before .before .links-at .ensures) (c .before .if2 .taken) (c .link-at .ensures)
 
 returns-3 : tie.Need-returns-3
-returns-3 c = remote-short _ _ (c .before .before .before .group-flags .ensures .is) (c .before .before .if1 .left) (c .before .links-at .ensures) (c .if2 .left)
+returns-3 c = remote-short _ _ (c .before .before .before .group-flags .ensures .is) (c .before .before .if1 .left)
+    (c .before .links-at .ensures) (c .if2 .left)
 
 pub remote-link-spec : {M : Type 1} → statement M
 remote-link-spec =

@@ -26,16 +26,27 @@ enum-known-master : tie.Need-enum-known-master
 enum-known-master c = search needs
 
 returns : tie.Need-returns
-returns c = timed (remote-same _ _ _ _ _ (c .before .before .before .before .before .before .before .before .before .remote-link .ensures) (c .before .before .before .before .before .before .before .before .find-group .ensures) (c .before .before .before .before .before .before .sought .given .1) _ (c .before .before .before .before .master-of .ensures) (c .before .before .master .given .1) (c .if1 .taken))
+returns c = timed (remote-same _ _ _ _ _
+    (c .before .before .before .before .before .before .before .before .before .remote-link .ensures)
+    (c .before .before .before .before .before .before .before .before .find-group .ensures)
+    (c .before .before .before .before .before .before .sought .given .1) _
+    (c .before .before .before .before .master-of .ensures) (c .before .before .master .given .1) (c .if1 .taken))
 
 returns-2 : tie.Need-returns-2
-returns-2 c = timed (remote-none _ _ _ _ _ (c .before .before .before .remote-link .ensures) (c .before .before .find-group .ensures) (c .enum-told .given .1))
+returns-2 c = timed (remote-none _ _ _ _ _ (c .before .before .before .remote-link .ensures)
+    (c .before .before .find-group .ensures) (c .enum-told .given .1))
 
 returns-3 : tie.Need-returns-3
-returns-3 c = timed (remote-bare _ _ _ _ _ (c .before .before .before .before .before .before .before .remote-link .ensures) (c .before .before .before .before .before .before .find-group .ensures) (c .before .before .before .before .sought .given .1) _ (c .before .before .master-of .ensures) (c .enum-told2 .given .1))
+returns-3 c = timed (remote-bare _ _ _ _ _ (c .before .before .before .before .before .before .before .remote-link .ensures)
+    (c .before .before .before .before .before .before .find-group .ensures)
+    (c .before .before .before .before .sought .given .1) _ (c .before .before .master-of .ensures) (c .enum-told2 .given .1))
 
 returns-4 : tie.Need-returns-4
-returns-4 c = timed (remote-differs _ _ _ _ _ (c .before .before .before .before .before .before .before .before .before .remote-link .ensures) (c .before .before .before .before .before .before .before .before .find-group .ensures) (c .before .before .before .before .before .before .sought .given .1) _ (c .before .before .before .before .master-of .ensures) (c .before .before .master .given .1) (c .if1 .left))
+returns-4 c = timed (remote-differs _ _ _ _ _
+    (c .before .before .before .before .before .before .before .before .before .remote-link .ensures)
+    (c .before .before .before .before .before .before .before .before .find-group .ensures)
+    (c .before .before .before .before .before .before .sought .given .1) _
+    (c .before .before .before .before .master-of .ensures) (c .before .before .master .given .1) (c .if1 .left))
 
 pub remote-time-spec : {M : Type 1} → statement M
 remote-time-spec =

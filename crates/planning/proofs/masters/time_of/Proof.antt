@@ -21,7 +21,8 @@ returns : tie.Need-returns
 returns c = timed (time-own _ _ _ _ _ _ _ _ (c .before .before .before .master-of .ensures) (c .before .master .given .1))
 
 returns-2 : tie.Need-returns-2
-returns-2 c = c .remote-time .ensures ∙ timed (time-remote _ _ _ _ _ _ _ _ (c .before .before .before .master-of .ensures) (c .before .enum-told .given .1))
+returns-2 c = c .remote-time .ensures ∙ timed (time-remote _ _ _ _ _ _ _ _ (c .before .before .before .master-of .ensures)
+    (c .before .enum-told .given .1))
 
 pub time-of-spec : {M : Type 1} → statement M
 time-of-spec =

@@ -27,7 +27,12 @@ same-length-2 : tie.Need-same-length-2
 same-length-2 c = search needs
 
 returns-2 : tie.Need-returns-2
-returns-2 c = group-planned _ _ _ _ _ _ _ _ _ _ _ _ (c .before .before .before .before .before .before .before .before .before .before .before .before .before .is-storage .ensures) (c .before .before .before .before .before .before .before .before .before .before .before .before .if1 .left) (c .before .before .before .before .before .before .before .before .before .before .before .own-of .ensures) (c .before .before .before .before .before .before .before .before .before .settle .ensures) (c .before .before .before .before .plan-channels .ensures)
+returns-2 c = group-planned _ _ _ _ _ _ _ _ _ _ _ _
+    (c .before .before .before .before .before .before .before .before .before .before .before .before .before .is-storage .ensures)
+    (c .before .before .before .before .before .before .before .before .before .before .before .before .if1 .left)
+    (c .before .before .before .before .before .before .before .before .before .before .before .own-of .ensures)
+    (c .before .before .before .before .before .before .before .before .before .settle .ensures)
+    (c .before .before .before .before .plan-channels .ensures)
 
 pub plan-group-spec : {M : Type 1} → statement M
 plan-group-spec =

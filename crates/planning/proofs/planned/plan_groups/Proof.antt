@@ -9,11 +9,13 @@ use Rattle.planning.proofs.planned.plan_groups.Statement.{statement}
 use Rattle.planning.proofs.planned.plan_groups.Tie as tie
 
 abbrev Inv-loop : tie.InvT-loop
-Inv-loop image source fragments₀ columns₀ n nf i₀ g₀ d₀ columns-now₀ omissions-now₀ fragments-now₀ fragments columns i g d columns-now omissions-now fragments-now = (length columns ≡ length columns₀) × (length fragments ≡ length fragments₀)
+Inv-loop image source fragments₀ columns₀ n nf i₀ g₀ d₀ columns-now₀ omissions-now₀ fragments-now₀ fragments columns i g d
+    columns-now omissions-now fragments-now = (length columns ≡ length columns₀) × (length fragments ≡ length fragments₀)
     × Groups image source n nf columns₀ fragments₀ i g d columns-now omissions-now fragments-now columns fragments
 
 abbrev μ-loop : tie.MeasureT-loop
-μ-loop image source fragments₀ columns₀ n nf i₀ g₀ d₀ columns-now₀ omissions-now₀ fragments-now₀ fragments columns i g d columns-now omissions-now fragments-now = n - i
+μ-loop image source fragments₀ columns₀ n nf i₀ g₀ d₀ columns-now₀ omissions-now₀ fragments-now₀ fragments columns i g d
+    columns-now omissions-now fragments-now = n - i
 
 loop-holds : tie.Need-loop-holds Inv-loop μ-loop
 loop-holds c = (refl, refl, groups-begin (omega arith))
@@ -52,7 +54,14 @@ same-length-2 : tie.Need-same-length-2 Inv-loop μ-loop
 same-length-2 c = search needs
 
 returns : tie.Need-returns Inv-loop μ-loop
-returns c = groups-refused (c .before .before .before .before .before .before .before .before .before .before .before .before .before .before .before .loop .inv .2) (c .before .before .before .before .before .before .before .before .before .before .before .before .before .before .loop-test .taken) (c .before .before .before .before .before .before .before .before .before .before .before .before .before .word .ensures) (c .before .before .before .before .before .before .before .before .before .before .before .before .word2 .ensures) (c .before .before .before .before .before .before .before .before .before .before .before .if1 .taken) (c .before .before .before .before .before .before .before .before .before .before .word3 .ensures) (c .before .before .before .before .before .before .before .plan-group .ensures) (c .before .planned .given .1)
+returns c = groups-refused
+    (c .before .before .before .before .before .before .before .before .before .before .before .before .before .before .before .loop .inv .2)
+    (c .before .before .before .before .before .before .before .before .before .before .before .before .before .before .loop-test .taken)
+    (c .before .before .before .before .before .before .before .before .before .before .before .before .before .word .ensures)
+    (c .before .before .before .before .before .before .before .before .before .before .before .before .word2 .ensures)
+    (c .before .before .before .before .before .before .before .before .before .before .before .if1 .taken)
+    (c .before .before .before .before .before .before .before .before .before .before .word3 .ensures)
+    (c .before .before .before .before .before .before .before .plan-group .ensures) (c .before .planned .given .1)
 
 enum-known-planned-2 : tie.Need-enum-known-planned-2 Inv-loop μ-loop
 enum-known-planned-2 c = search needs
@@ -61,19 +70,30 @@ loop-less : tie.Need-loop-less Inv-loop μ-loop
 loop-less c = search needs
 
 loop-again : tie.Need-loop-again Inv-loop μ-loop
-loop-again c = (search needs, search needs, groups-on (c .before .before .before .before .before .before .before .before .before .before .before .before .before .before .before .loop .inv .2) (c .before .before .before .before .before .before .before .before .before .before .before .before .before .before .loop-test .taken) (c .before .before .before .before .before .before .before .before .before .before .before .before .before .word .ensures) (c .before .before .before .before .before .before .before .before .before .before .before .before .word2 .ensures) (c .before .before .before .before .before .before .before .before .before .before .before .if1 .taken) (c .before .before .before .before .before .before .before .before .before .before .word3 .ensures) (c .before .before .before .before .before .before .before .plan-group .ensures) (c .before .planned2 .given .1))
+loop-again c = (search needs, search needs, groups-on
+    (c .before .before .before .before .before .before .before .before .before .before .before .before .before .before .before .loop .inv .2)
+    (c .before .before .before .before .before .before .before .before .before .before .before .before .before .before .loop-test .taken)
+    (c .before .before .before .before .before .before .before .before .before .before .before .before .before .word .ensures)
+    (c .before .before .before .before .before .before .before .before .before .before .before .before .word2 .ensures)
+    (c .before .before .before .before .before .before .before .before .before .before .before .if1 .taken)
+    (c .before .before .before .before .before .before .before .before .before .before .word3 .ensures)
+    (c .before .before .before .before .before .before .before .plan-group .ensures) (c .before .planned2 .given .1))
 
 loop-less-2 : tie.Need-loop-less-2 Inv-loop μ-loop
 loop-less-2 c = search needs
 
 loop-again-2 : tie.Need-loop-again-2 Inv-loop μ-loop
-loop-again-2 c = (search needs, search needs, groups-data (c .before .before .before .before .before .loop .inv .2) (c .before .before .before .before .loop-test .taken) (c .before .before .before .word .ensures) (c .before .before .word2 .ensures) (c .if2 .taken) (c .before .if1 .left))
+loop-again-2 c = (search needs, search needs, groups-data (c .before .before .before .before .before .loop .inv .2)
+    (c .before .before .before .before .loop-test .taken) (c .before .before .before .word .ensures)
+    (c .before .before .word2 .ensures) (c .if2 .taken) (c .before .if1 .left))
 
 loop-less-3 : tie.Need-loop-less-3 Inv-loop μ-loop
 loop-less-3 c = search needs
 
 loop-again-3 : tie.Need-loop-again-3 Inv-loop μ-loop
-loop-again-3 c = (search needs, search needs, groups-channel (c .before .before .before .before .before .loop .inv .2) (c .before .before .before .before .loop-test .taken) (c .before .before .before .word .ensures) (c .before .before .word2 .ensures) (c .if2 .left))
+loop-again-3 c = (search needs, search needs, groups-channel (c .before .before .before .before .before .loop .inv .2)
+    (c .before .before .before .before .loop-test .taken) (c .before .before .before .word .ensures)
+    (c .before .before .word2 .ensures) (c .if2 .left))
 
 same-length-3 : tie.Need-same-length-3 Inv-loop μ-loop
 same-length-3 c = search needs

@@ -15,7 +15,17 @@ enum-known-met-2 : tie.Need-enum-known-met-2
 enum-known-met-2 c = search needs
 
 plan-read-requires : tie.Need-plan-read-requires
-plan-read-requires c κs = (read-few _ _ _ (omega (arith, c .before .before .before .before .before .before .before .before .before .before .before .before .before .before .before .before .before .pre)) (omega (arith, c .before .before .before .before .before .before .before .before .before .before .before .before .before .before .before .before .before .pre)) _ _ (c .before .before .before .before .before .before .before .before .before .before .read .ensures) (c .before .before .before .before .met2 .given .1) .0, read-few _ _ _ (omega (arith, c .before .before .before .before .before .before .before .before .before .before .before .before .before .before .before .before .before .pre)) (omega (arith, c .before .before .before .before .before .before .before .before .before .before .before .before .before .before .before .before .before .pre)) _ _ (c .before .before .before .before .before .before .before .before .before .before .read .ensures) (c .before .before .before .before .met2 .given .1) .1, search needs, search needs)
+plan-read-requires c κs = (read-few _ _ _ (omega (arith,
+    c .before .before .before .before .before .before .before .before .before .before .before .before .before .before .before .before .before .pre))
+    (omega (arith,
+    c .before .before .before .before .before .before .before .before .before .before .before .before .before .before .before .before .before .pre))
+    _ _ (c .before .before .before .before .before .before .before .before .before .before .read .ensures)
+    (c .before .before .before .before .met2 .given .1) .0, read-few _ _ _ (omega (arith,
+    c .before .before .before .before .before .before .before .before .before .before .before .before .before .before .before .before .before .pre))
+    (omega (arith,
+    c .before .before .before .before .before .before .before .before .before .before .before .before .before .before .before .before .before .pre))
+    _ _ (c .before .before .before .before .before .before .before .before .before .before .read .ensures)
+    (c .before .before .before .before .met2 .given .1) .1, search needs, search needs)
 
 same-length : tie.Need-same-length
 same-length c = search needs
@@ -24,7 +34,11 @@ same-length-2 : tie.Need-same-length-2
 same-length-2 c = search needs
 
 returns : tie.Need-returns
-returns c = all-unread _ _ _ (omega (arith, c .before .before .before .before .before .before .before .before .before .before .before .before .before .before .pre)) (omega (arith, c .before .before .before .before .before .before .before .before .before .before .before .before .before .before .pre)) _ _ (c .before .before .before .before .before .before .before .read .ensures) _ _ (c .before .met .given .1)
+returns c = all-unread _ _ _ (omega (arith,
+    c .before .before .before .before .before .before .before .before .before .before .before .before .before .before .pre))
+    (omega (arith,
+    c .before .before .before .before .before .before .before .before .before .before .before .before .before .before .pre)) _ _
+    (c .before .before .before .before .before .before .before .read .ensures) _ _ (c .before .met .given .1)
 
 same-length-3 : tie.Need-same-length-3
 same-length-3 c = search needs
@@ -36,7 +50,13 @@ same-length-5 : tie.Need-same-length-5
 same-length-5 c = search needs
 
 returns-2 : tie.Need-returns-2
-returns-2 c = all-planned _ _ _ (omega (arith, c .before .before .before .before .before .before .before .before .before .before .before .before .before .before .before .before .before .before .before .before .before .before .pre)) (omega (arith, c .before .before .before .before .before .before .before .before .before .before .before .before .before .before .before .before .before .before .before .before .before .before .pre)) _ _ (c .before .before .before .before .before .before .before .before .before .before .before .before .before .before .before .read .ensures) (c .before .before .before .before .before .before .before .before .before .met2 .given .1) _ _ (c .before .before .before .before .plan-read .ensures)
+returns-2 c = all-planned _ _ _ (omega (arith,
+    c .before .before .before .before .before .before .before .before .before .before .before .before .before .before .before .before .before .before .before .before .before .before .pre))
+    (omega (arith,
+    c .before .before .before .before .before .before .before .before .before .before .before .before .before .before .before .before .before .before .before .before .before .before .pre))
+    _ _ (c .before .before .before .before .before .before .before .before .before .before .before .before .before .before .before .read .ensures)
+    (c .before .before .before .before .before .before .before .before .before .met2 .given .1) _ _
+    (c .before .before .before .before .plan-read .ensures)
 
 pub plan-all-spec : {M : Type 1} → statement M
 plan-all-spec =

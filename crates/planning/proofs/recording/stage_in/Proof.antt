@@ -20,7 +20,8 @@ blocks-in-requires : tie.Need-blocks-in-requires
 blocks-in-requires c κs = search needs
 
 returns-2 : tie.Need-returns-2
-returns-2 c = stage-blocks _ _ _ _ _ _ _ _ (c .before .before .before .all-data-in .ensures) (c .before .enum-told .given .1) (c .blocks-in .ensures)
+returns-2 c = stage-blocks _ _ _ _ _ _ _ _ (c .before .before .before .all-data-in .ensures) (c .before .enum-told .given .1)
+    (c .blocks-in .ensures)
 
 pub stage-in-spec : {M : Type 1} → statement M
 stage-in-spec =

@@ -30,19 +30,24 @@ add-k : tie.Need-add-k Inv-loop μ-loop
 add-k c = search needs
 
 returns : tie.Need-returns Inv-loop μ-loop
-returns c = pass-hit (c .before .before .before .before .before .loop .inv) (c .before .before .before .before .loop-test .taken) (c .before .before .before .word .ensures) (c .before .before .word2 .ensures) (c .before .if1 .taken) (c .if2 .taken) (c .before .before .before .before .before .before .least .ensures .0)
+returns c = pass-hit (c .before .before .before .before .before .loop .inv) (c .before .before .before .before .loop-test .taken)
+    (c .before .before .before .word .ensures) (c .before .before .word2 .ensures) (c .before .if1 .taken) (c .if2 .taken)
+    (c .before .before .before .before .before .before .least .ensures .0)
 
 loop-less : tie.Need-loop-less Inv-loop μ-loop
 loop-less c = search needs
 
 loop-again : tie.Need-loop-again Inv-loop μ-loop
-loop-again c = pass-other (c .before .before .before .before .before .loop .inv) (c .before .before .before .before .loop-test .taken) (c .before .before .before .word .ensures) (c .before .before .word2 .ensures) (c .before .if1 .taken) (c .if2 .left)
+loop-again c = pass-other (c .before .before .before .before .before .loop .inv)
+    (c .before .before .before .before .loop-test .taken) (c .before .before .before .word .ensures)
+    (c .before .before .word2 .ensures) (c .before .if1 .taken) (c .if2 .left)
 
 loop-less-2 : tie.Need-loop-less-2 Inv-loop μ-loop
 loop-less-2 c = search needs
 
 loop-again-2 : tie.Need-loop-again-2 Inv-loop μ-loop
-loop-again-2 c = pass-on (c .before .before .before .before .loop .inv) (c .before .before .before .loop-test .taken) (c .before .before .word .ensures) (c .before .word2 .ensures) (c .if1 .left)
+loop-again-2 c = pass-on (c .before .before .before .before .loop .inv) (c .before .before .before .loop-test .taken)
+    (c .before .before .word .ensures) (c .before .word2 .ensures) (c .if1 .left)
 
 returns-2 : tie.Need-returns-2 Inv-loop μ-loop
 returns-2 c = pass-end (c .before .loop .inv) (c .loop-test .left) (c .before .before .least .ensures .0)

@@ -27,7 +27,8 @@ sub-result : tie.Need-sub-result Inv-loop μ-loop
 sub-result c = search needs
 
 returns : tie.Need-returns Inv-loop μ-loop
-returns c = end-stop (c .before .before .before .loop .inv) (c .before .before .loop-test .taken) (c .before .word .ensures) (c .if1 .taken) (c .before .before .before .before .least .ensures .0)
+returns c = end-stop (c .before .before .before .loop .inv) (c .before .before .loop-test .taken) (c .before .word .ensures)
+    (c .if1 .taken) (c .before .before .before .before .least .ensures .0)
 
 add-k : tie.Need-add-k Inv-loop μ-loop
 add-k c = search needs
@@ -36,7 +37,8 @@ loop-less : tie.Need-loop-less Inv-loop μ-loop
 loop-less c = search needs
 
 loop-again : tie.Need-loop-again Inv-loop μ-loop
-loop-again c = end-on (c .before .before .before .loop .inv) (c .before .before .loop-test .taken) (c .before .word .ensures) (c .if1 .left)
+loop-again c = end-on (c .before .before .before .loop .inv) (c .before .before .loop-test .taken) (c .before .word .ensures)
+    (c .if1 .left)
 
 returns-2 : tie.Need-returns-2 Inv-loop μ-loop
 returns-2 c = end-end (c .before .loop .inv) (c .loop-test .left) (c .before .before .least .ensures .0)

@@ -24,13 +24,16 @@ word-requires : tie.Need-word-requires Inv-loop μ-loop
 word-requires c κs = search needs
 
 returns : tie.Need-returns Inv-loop μ-loop
-returns c = seek-stop (c .before .before .before .loop .inv) (c .before .before .loop-test .taken) (c .before .word .ensures) (c .if1 .taken) (c .before .before .before .before .least .ensures .0)
+returns c = seek-stop (c .before .before .before .loop .inv) (c .before .before .loop-test .taken) (c .before .word .ensures)
+    (c .if1 .taken) (c .before .before .before .before .least .ensures .0)
 
 word-requires-2 : tie.Need-word-requires-2 Inv-loop μ-loop
 word-requires-2 c κs = search needs
 
 returns-2 : tie.Need-returns-2 Inv-loop μ-loop
-returns-2 c = seek-hit (c .before .before .before .before .before .loop .inv) (c .before .before .before .before .loop-test .taken) (c .before .before .before .word .ensures) (c .before .if2 .taken) (c .word2 .ensures) (c .before .before .before .before .before .before .least .ensures .0)
+returns-2 c = seek-hit (c .before .before .before .before .before .loop .inv)
+    (c .before .before .before .before .loop-test .taken) (c .before .before .before .word .ensures) (c .before .if2 .taken)
+    (c .word2 .ensures) (c .before .before .before .before .before .before .least .ensures .0)
 
 add-k : tie.Need-add-k Inv-loop μ-loop
 add-k c = search needs
@@ -39,7 +42,8 @@ loop-less : tie.Need-loop-less Inv-loop μ-loop
 loop-less c = search needs
 
 loop-again : tie.Need-loop-again Inv-loop μ-loop
-loop-again c = seek-on (c .before .before .before .before .loop .inv) (c .before .before .before .loop-test .taken) (c .before .before .word .ensures) (c .before .if1 .left) (c .if2 .left)
+loop-again c = seek-on (c .before .before .before .before .loop .inv) (c .before .before .before .loop-test .taken)
+    (c .before .before .word .ensures) (c .before .if1 .left) (c .if2 .left)
 
 returns-3 : tie.Need-returns-3 Inv-loop μ-loop
 returns-3 c = seek-end (c .before .loop .inv) (c .loop-test .left) (c .before .before .least .ensures .0)

@@ -37,16 +37,19 @@ loop-less : tie.Need-loop-less Inv-loop μ-loop
 loop-less c = search needs
 
 loop-again : tie.Need-loop-again Inv-loop μ-loop
-loop-again c = tally-cg (c .before .before .before .loop .inv) (c .before .before .loop-test .taken) (c .before .word .ensures) (c .if1 .taken)
+loop-again c = tally-cg (c .before .before .before .loop .inv) (c .before .before .loop-test .taken) (c .before .word .ensures)
+    (c .if1 .taken)
 
 loop-less-2 : tie.Need-loop-less-2 Inv-loop μ-loop
 loop-less-2 c = search needs
 
 loop-again-2 : tie.Need-loop-again-2 Inv-loop μ-loop
-loop-again-2 c = tally-on (c .before .before .before .loop .inv) (c .before .before .loop-test .taken) (c .before .word .ensures) (c .if1 .left)
+loop-again-2 c = tally-on (c .before .before .before .loop .inv) (c .before .before .loop-test .taken) (c .before .word .ensures)
+    (c .if1 .left)
 
 returns : tie.Need-returns Inv-loop μ-loop
-returns c = tally-end (c .before .loop .inv) (c .loop-test .left) (c .before .before .least2 .ensures .0 ∙ ap (min _) (c .before .before .before .least .ensures .0))
+returns c = tally-end (c .before .loop .inv) (c .loop-test .left) (c .before .before .least2 .ensures .0 ∙ ap (min _)
+    (c .before .before .before .least .ensures .0))
 
 pub groups-before-spec : {M : Type 1} → statement M
 groups-before-spec =

@@ -24,7 +24,8 @@ word-requires : tie.Need-word-requires Inv-loop μ-loop
 word-requires c κs = search needs
 
 returns : tie.Need-returns Inv-loop μ-loop
-returns c = count-stop (c .before .before .before .loop .inv) (c .before .before .loop-test .taken) (c .before .word .ensures) (c .if1 .taken) (c .before .before .before .before .least .ensures .0)
+returns c = count-stop (c .before .before .before .loop .inv) (c .before .before .loop-test .taken) (c .before .word .ensures)
+    (c .if1 .taken) (c .before .before .before .before .least .ensures .0)
 
 add-groups : tie.Need-add-groups Inv-loop μ-loop
 add-groups c = search needs
@@ -36,7 +37,8 @@ loop-less : tie.Need-loop-less Inv-loop μ-loop
 loop-less c = search needs
 
 loop-again : tie.Need-loop-again Inv-loop μ-loop
-loop-again c = count-on (c .before .before .before .loop .inv) (c .before .before .loop-test .taken) (c .before .word .ensures) (c .if1 .left)
+loop-again c = count-on (c .before .before .before .loop .inv) (c .before .before .loop-test .taken) (c .before .word .ensures)
+    (c .if1 .left)
 
 returns-2 : tie.Need-returns-2 Inv-loop μ-loop
 returns-2 c = count-end (c .before .loop .inv) (c .loop-test .left) (c .before .before .least .ensures .0)

@@ -18,7 +18,8 @@ is-nonempty-requires : tie.Need-is-nonempty-requires Inv-loop μ-loop
 is-nonempty-requires c κs = search needs
 
 returns : tie.Need-returns Inv-loop μ-loop
-returns c = any-hit (c .before .before .before .loop .inv) (c .before .before .loop-test .taken) (c .before .is-nonempty .ensures) (c .if1 .taken)
+returns c = any-hit (c .before .before .before .loop .inv) (c .before .before .loop-test .taken)
+    (c .before .is-nonempty .ensures) (c .if1 .taken)
 
 add-k : tie.Need-add-k Inv-loop μ-loop
 add-k c = search needs
@@ -27,7 +28,8 @@ loop-less : tie.Need-loop-less Inv-loop μ-loop
 loop-less c = search needs
 
 loop-again : tie.Need-loop-again Inv-loop μ-loop
-loop-again c = any-on (c .before .before .before .loop .inv) (c .before .before .loop-test .taken) (c .before .is-nonempty .ensures) (c .if1 .left)
+loop-again c = any-on (c .before .before .before .loop .inv) (c .before .before .loop-test .taken)
+    (c .before .is-nonempty .ensures) (c .if1 .left)
 
 returns-2 : tie.Need-returns-2 Inv-loop μ-loop
 returns-2 c = any-end (c .before .loop .inv) (c .loop-test .left)

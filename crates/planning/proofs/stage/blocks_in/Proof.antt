@@ -46,7 +46,11 @@ block-count-requires : tie.Need-block-count-requires Inv-loop μ-loop
 block-count-requires c κs = search needs
 
 returns : tie.Need-returns Inv-loop μ-loop
-returns c = blocks-stop _ _ (c .before .before .before .before .before .before .before .loop .inv) (c .before .before .before .before .before .before .loop-test .taken) (c .before .before .before .before .before .word .ensures) (c .before .before .before .before .word2 .ensures) (c .before .before .before .word3 .ensures) (c .before .before .width-of .ensures .is) (c .before .block-count .ensures) (c .if1 .taken)
+returns c = blocks-stop _ _ (c .before .before .before .before .before .before .before .loop .inv)
+    (c .before .before .before .before .before .before .loop-test .taken)
+    (c .before .before .before .before .before .word .ensures) (c .before .before .before .before .word2 .ensures)
+    (c .before .before .before .word3 .ensures) (c .before .before .width-of .ensures .is) (c .before .block-count .ensures)
+    (c .if1 .taken)
 
 add-k : tie.Need-add-k Inv-loop μ-loop
 add-k c = search needs
@@ -55,7 +59,11 @@ loop-less : tie.Need-loop-less Inv-loop μ-loop
 loop-less c = search needs
 
 loop-again : tie.Need-loop-again Inv-loop μ-loop
-loop-again c = blocks-next _ _ (c .before .before .before .before .before .before .before .loop .inv) (c .before .before .before .before .before .before .loop-test .taken) (c .before .before .before .before .before .word .ensures) (c .before .before .before .before .word2 .ensures) (c .before .before .before .word3 .ensures) (c .before .before .width-of .ensures .is) (c .before .block-count .ensures) (c .if1 .left)
+loop-again c = blocks-next _ _ (c .before .before .before .before .before .before .before .loop .inv)
+    (c .before .before .before .before .before .before .loop-test .taken)
+    (c .before .before .before .before .before .word .ensures) (c .before .before .before .before .word2 .ensures)
+    (c .before .before .before .word3 .ensures) (c .before .before .width-of .ensures .is) (c .before .block-count .ensures)
+    (c .if1 .left)
 
 returns-2 : tie.Need-returns-2 Inv-loop μ-loop
 returns-2 c = blocks-end _ _ (c .before .loop .inv) (c .loop-test .left)

@@ -44,10 +44,15 @@ word-requires-4 : tie.Need-word-requires-4
 word-requires-4 c κs = search needs
 
 returns-2 : tie.Need-returns-2
-returns-2 c = nonempty-by _ _ _ _ (c .before .before .before .before .before .before .word .ensures) (c .before .before .before .before .before .if1 .left) (c .before .before .before .before .word2 .ensures) (c .before .before .before .word3 .ensures) (c .before .before .width-of .ensures .is) (c .before .if2 .taken) (c .word4 .ensures)
+returns-2 c = nonempty-by _ _ _ _ (c .before .before .before .before .before .before .word .ensures)
+    (c .before .before .before .before .before .if1 .left) (c .before .before .before .before .word2 .ensures)
+    (c .before .before .before .word3 .ensures) (c .before .before .width-of .ensures .is) (c .before .if2 .taken)
+    (c .word4 .ensures)
 
 returns-3 : tie.Need-returns-3
-returns-3 c = nonempty-narrow _ _ _ _ (c .before .before .before .before .before .word .ensures) (c .before .before .before .before .if1 .left) (c .before .before .before .word2 .ensures) (c .before .before .word3 .ensures) (c .before .width-of .ensures .is) (c .if2 .left)
+returns-3 c = nonempty-narrow _ _ _ _ (c .before .before .before .before .before .word .ensures)
+    (c .before .before .before .before .if1 .left) (c .before .before .before .word2 .ensures)
+    (c .before .before .word3 .ensures) (c .before .width-of .ensures .is) (c .if2 .left)
 
 pub is-nonempty-spec : {M : Type 1} → statement M
 is-nonempty-spec =

@@ -27,7 +27,8 @@ same-length-2 : tie.Need-same-length-2
 same-length-2 c = search needs
 
 returns-2 : tie.Need-returns-2
-returns-2 c = time-new _ _ _ _ _ _ _ (omega arith) (c .before .before .before .before .before .time-column .ensures) (c .before .before .put-column .ensures) (c .before .before .before .before .if1 .left)
+returns-2 c = time-new _ _ _ _ _ _ _ (omega arith) (c .before .before .before .before .before .time-column .ensures)
+    (c .before .before .put-column .ensures) (c .before .before .before .before .if1 .left)
 
 pub add-time-spec : {M : Type 1} → statement M
 add-time-spec =

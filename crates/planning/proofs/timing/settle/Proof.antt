@@ -32,13 +32,15 @@ same-length : tie.Need-same-length
 same-length c = search needs
 
 returns-2 : tie.Need-returns-2
-returns-2 c = settle-differs _ _ _ _ _ _ _ _ _ _ (c .before .before .before .before .before .before .time-of .ensures) (c .before .before .before .before .enum-told2 .given .1) (c .before .before .put-omission .ensures)
+returns-2 c = settle-differs _ _ _ _ _ _ _ _ _ _ (c .before .before .before .before .before .before .time-of .ensures)
+    (c .before .before .before .before .enum-told2 .given .1) (c .before .before .put-omission .ensures)
 
 same-length-2 : tie.Need-same-length-2
 same-length-2 c = search needs
 
 returns-3 : tie.Need-returns-3
-returns-3 c = settle-at _ _ _ _ _ _ _ _ _ _ (c .before .before .before .before .before .before .before .time-of .ensures) (c .before .before .before .before .before .time .given .1) (c .before .before .add-time .ensures)
+returns-3 c = settle-at _ _ _ _ _ _ _ _ _ _ (c .before .before .before .before .before .before .before .time-of .ensures)
+    (c .before .before .before .before .before .time .given .1) (c .before .before .add-time .ensures)
 
 pub settle-spec : {M : Type 1} → statement M
 settle-spec =

@@ -21,7 +21,8 @@ same-length : tie.Need-same-length
 same-length c = search needs
 
 returns : tie.Need-returns
-returns c = put-eight _ _ _ _ _ _ _ _ _ _ (c .before .before .before .before .before .before .put-source .ensures) (c .before .before .put-source2 .ensures)
+returns c = put-eight _ _ _ _ _ _ _ _ _ _ (c .before .before .before .before .before .before .put-source .ensures)
+    (c .before .before .put-source2 .ensures)
 
 pub put-column-spec : {M : Type 1} → statement M
 put-column-spec =

@@ -21,7 +21,8 @@ add-result : tie.Need-add-result Inv-loop μ-loop
 add-result c = search needs
 
 returns : tie.Need-returns Inv-loop μ-loop
-returns c = search-hit (c .before .before .before .loop .inv) (c .before .before .loop-test .taken) (c .before .is-time .ensures) (c .if1 .taken)
+returns c = search-hit (c .before .before .before .loop .inv) (c .before .before .loop-test .taken) (c .before .is-time .ensures)
+    (c .if1 .taken)
 
 add-k : tie.Need-add-k Inv-loop μ-loop
 add-k c = search needs
@@ -30,7 +31,8 @@ loop-less : tie.Need-loop-less Inv-loop μ-loop
 loop-less c = search needs
 
 loop-again : tie.Need-loop-again Inv-loop μ-loop
-loop-again c = search-on (c .before .before .before .loop .inv) (c .before .before .loop-test .taken) (c .before .is-time .ensures) (c .if1 .left)
+loop-again c = search-on (c .before .before .before .loop .inv) (c .before .before .loop-test .taken)
+    (c .before .is-time .ensures) (c .if1 .left)
 
 returns-2 : tie.Need-returns-2 Inv-loop μ-loop
 returns-2 c = search-end (c .before .loop .inv) (c .loop-test .left)

@@ -32,7 +32,8 @@ count-dg-requires : tie.Need-count-dg-requires Inv-loop μ-loop
 count-dg-requires c κs =
     let l = c .before .before .before in
     let p = l .before .before .before .before .before .before in
-    count-ready (l .before .loop .inv) (l .loop-test .taken) (c .before .before .span .ensures) (c .before .end-at .ensures) (p .pre .0)
+    count-ready (l .before .loop .inv) (l .loop-test .taken) (c .before .before .span .ensures) (c .before .end-at .ensures)
+        (p .pre .0)
     (let m = l .before .loop .inv .length-same in omega arith)
 
 enum-known-counted : tie.Need-enum-known-counted Inv-loop μ-loop
@@ -45,7 +46,8 @@ returns : tie.Need-returns Inv-loop μ-loop
 returns c =
     let p = c .before .before .before .before .before in
     let s = p .before .before .before in
-    count-refused (s .before .before .loop .inv) (s .before .loop-test .taken) (s .span .ensures) (p .before .before .end-at .ensures) _
+    count-refused (s .before .before .loop .inv) (s .before .loop-test .taken) (s .span .ensures)
+        (p .before .before .end-at .ensures) _
     (p .count-dg .result) (p .count-dg .ensures) (c .before .counted .given .1)
 
 enum-told : tie.Need-enum-told Inv-loop μ-loop
@@ -56,7 +58,8 @@ add-g c =
     let e = c .before .before .before .before .before .before in
     let l = e .before .before .before in
     let p = l .before .before .before .before .before in
-    let m = count-ready (l .loop .inv) (e .before .before .loop-test .taken) (e .before .span .ensures) (e .end-at .ensures) (p .pre .0)
+    let m = count-ready (l .loop .inv) (e .before .before .loop-test .taken) (e .before .span .ensures) (e .end-at .ensures)
+        (p .pre .0)
     (let j = l .loop .inv .length-same in omega arith) in omega arith
 
 loop-less : tie.Need-loop-less Inv-loop μ-loop
@@ -64,14 +67,16 @@ loop-less c =
     let e = c .before .before .before .before .before .before in
     let l = e .before .before .before in
     let p = l .before .before .before .before .before in
-    let m = count-next (l .loop .inv) (e .before .before .loop-test .taken) (e .before .span .ensures) (e .end-at .ensures) (p .pre .0)
+    let m = count-next (l .loop .inv) (e .before .before .loop-test .taken) (e .before .span .ensures) (e .end-at .ensures)
+        (p .pre .0)
     in omega arith
 
 loop-again : tie.Need-loop-again Inv-loop μ-loop
 loop-again c =
     let p = c .before .before .before .before in
     let s = p .before .before .before in
-    count-on (s .before .before .loop .inv) (s .before .loop-test .taken) (s .span .ensures) (p .before .before .end-at .ensures) _
+    count-on (s .before .before .loop .inv) (s .before .loop-test .taken) (s .span .ensures) (p .before .before .end-at .ensures)
+        _
     (p .count-dg .result) (p .count-dg .ensures) (c .enum-told .given .1) (omega arith)
 
 same-length-2 : tie.Need-same-length-2 Inv-loop μ-loop

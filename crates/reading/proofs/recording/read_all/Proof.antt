@@ -49,7 +49,8 @@ returns-2 : tie.Need-returns-2
 returns-2 c =
     let w = c .before .before .before .before .before .before .before in
     let e = w .before .before .before in
-    all-stopped _ _ _ (e .before .before .identify .ensures) (e .enum-told .given .1) (w .walk .last .1 .0) (w .walk .last .1 .1 .0)
+    all-stopped _ _ _ (e .before .before .identify .ensures) (e .enum-told .given .1) (w .walk .last .1 .0)
+        (w .walk .last .1 .1 .0)
     (w .walk .ensures) (c .before .met .given .1)
 
 same-length-3 : tie.Need-same-length-3

@@ -16,7 +16,8 @@ abbrev μ-loop : tie.MeasureT-loop
 
 loop-holds : tie.Need-loop-holds Inv-loop μ-loop
 loop-holds c =
-    record { within = search needs; room = search needs; long = search needs; few = search needs; next = refl; groups = zero-add _ }
+    record { within = search needs; room = search needs; long = search needs; few = search needs; next = refl; groups = zero-add
+        _ }
 
 add-k : tie.Need-add-k Inv-loop μ-loop
 add-k c = search needs

@@ -27,7 +27,8 @@ same-length-2 c = search needs
 returns-2 : tie.Need-returns-2
 returns-2 c =
     let b = c .before .before .before in
-    visit-refused _ _ _ _ _ _ _ (b .before .before .seen .ensures) (b .block-at .ensures) (b .before .if1 .left) (c .before .checked .given .1)
+    visit-refused _ _ _ _ _ _ _ (b .before .before .seen .ensures) (b .block-at .ensures) (b .before .if1 .left)
+        (c .before .checked .given .1)
 
 enum-told : tie.Need-enum-told
 enum-told c = search needs

@@ -15,21 +15,24 @@ use Rattle.reading.proofs.recording.walk_from.Tie as tie
 
 abbrev Inv-channels : tie.InvT-channels
 Inv-channels image source₀ fragments first n₀ ndg ncg ncn₀ nf dg cg cn₀ source n ncn cn =
-    Turn levelCN (belowCN image) image cn₀ (state source₀ fragments n₀ ndg ncg ncn₀ nf) cn ncn (state source fragments n ndg ncg ncn nf)
+    Turn levelCN (belowCN image) image cn₀ (state source₀ fragments n₀ ndg ncg ncn₀ nf) cn ncn (state source fragments n ndg ncg
+        ncn nf)
 
 abbrev μ-channels : tie.MeasureT-channels
 μ-channels image source₀ fragments first n₀ ndg ncg ncn₀ nf dg cg cn₀ source n ncn cn = mostItems - ncn
 
 abbrev Inv-groups : tie.InvT-groups
 Inv-groups image source₀ fragments first n₀ ndg ncg₀ ncn₀ nf dg cg₀ source n ncg ncn cg =
-    Turn levelCG (belowCG image) image cg₀ (state source₀ fragments n₀ ndg ncg₀ ncn₀ nf) cg ncg (state source fragments n ndg ncg ncn nf)
+    Turn levelCG (belowCG image) image cg₀ (state source₀ fragments n₀ ndg ncg₀ ncn₀ nf) cg ncg (state source fragments n ndg ncg
+        ncn nf)
 
 abbrev μ-groups : tie.MeasureT-groups
 μ-groups image source₀ fragments first n₀ ndg ncg₀ ncn₀ nf dg cg₀ source n ncg ncn cg = mostItems - ncg
 
 abbrev Inv-walk : tie.InvT-walk
 Inv-walk image source₀ fragments₀ first n₀ ndg₀ ncg₀ ncn₀ nf₀ dg₀ source fragments n ndg ncg ncn nf dg =
-    Turn levelDG (belowDG image) image dg₀ (state source₀ fragments₀ n₀ ndg₀ ncg₀ ncn₀ nf₀) dg ndg (state source fragments n ndg ncg ncn nf)
+    Turn levelDG (belowDG image) image dg₀ (state source₀ fragments₀ n₀ ndg₀ ncg₀ ncn₀ nf₀) dg ndg (state source fragments n ndg
+        ncg ncn nf)
 
 abbrev μ-walk : tie.MeasureT-walk
 μ-walk image source₀ fragments₀ first n₀ ndg₀ ncg₀ ncn₀ nf₀ dg₀ source fragments n ndg ncg ncn nf dg = mostItems - ndg
@@ -76,7 +79,8 @@ groups-holds c =
     let v = f .before .before .before .before .before .before in
     let w = v .before .before .before in
     begin _ _ _ _ _ (data-within _ _ _ (f .take-data .ensures) (after-done _ _ (c .before .before .before .taken2 .given .1))
-    (dg-within _ _ _ (w .walk .inv .within) (v .visit .ensures) (after-fine _ _ (f .before .before .enum-told .given .1)) (omega arith)))
+    (dg-within _ _ _ (w .walk .inv .within) (v .visit .ensures) (after-fine _ _ (f .before .before .enum-told .given .1)) (omega
+        arith)))
 
 walk-less : tie.Need-walk-less Inv-channels μ-channels Inv-groups μ-groups Inv-walk μ-walk
 walk-less c =
@@ -84,7 +88,8 @@ walk-less c =
     let f = g .before .before .before .before .before .before .before .before in
     let v = f .before .before .before .before .before .before in
     let w = v .before .before .before in
-    let r = dg-within _ _ _ (w .walk .inv .within) (v .visit .ensures) (after-fine _ _ (f .before .before .enum-told .given .1)) (omega arith) in
+    let r = dg-within _ _ _ (w .walk .inv .within) (v .visit .ensures) (after-fine _ _ (f .before .before .enum-told .given .1))
+        (omega arith) in
     omega arith
 
 walk-again : tie.Need-walk-again Inv-channels μ-channels Inv-groups μ-groups Inv-walk μ-walk
@@ -124,22 +129,27 @@ link-at-requires-4 c κs = search needs
 channels-holds : tie.Need-channels-holds Inv-channels μ-channels Inv-groups μ-groups Inv-walk μ-walk
 channels-holds c =
     let g = c .before .before .before .before .before .before .before .before .before in
-    begin _ _ _ _ _ (cg-within _ _ _ (g .groups .inv .within) (c .before .before .before .before .before .before .met-cg .ensures) (after-fine _ _ (c .before .before .enum-told2 .given .1)) (omega arith))
+    begin _ _ _ _ _ (cg-within _ _ _ (g .groups .inv .within)
+        (c .before .before .before .before .before .before .met-cg .ensures) (after-fine _ _
+        (c .before .before .enum-told2 .given .1)) (omega arith))
 
 groups-less : tie.Need-groups-less Inv-channels μ-channels Inv-groups μ-groups Inv-walk μ-walk
 groups-less c =
     let n = c .before in
     let g = n .before .before .before .before .before .before .before .before .before .before in
-    let r = cg-within _ _ _ (g .groups .inv .within) (n .before .before .before .before .before .before .before .met-cg .ensures) (after-fine _ _ (n .before .before .before .enum-told2 .given .1)) (omega arith) in
+    let r = cg-within _ _ _ (g .groups .inv .within) (n .before .before .before .before .before .before .before .met-cg .ensures)
+        (after-fine _ _ (n .before .before .before .enum-told2 .given .1)) (omega arith) in
     omega arith
 
 groups-again : tie.Need-groups-again Inv-channels μ-channels Inv-groups μ-groups Inv-walk μ-walk
 groups-again c =
     let n = c .before in
     let g = n .before .before .before .before .before .before .before .before .before .before in
-    turn-on (g .groups .inv) (n .before .before .before .before .before .before .before .before .before .groups-test .taken) (g .groups .inv .within .cg-room)
+    turn-on (g .groups .inv) (n .before .before .before .before .before .before .before .before .before .groups-test .taken)
+        (g .groups .inv .within .cg-room)
     (cg-block _ _ _ (n .before .before .link-at3 .ensures)
-    (cg-gives _ _ _ (g .groups .inv .within) (n .before .before .before .before .before .before .before .met-cg .ensures) (after-fine _ _ (n .before .before .before .enum-told2 .given .1)))
+    (cg-gives _ _ _ (g .groups .inv .within) (n .before .before .before .before .before .before .before .met-cg .ensures)
+        (after-fine _ _ (n .before .before .before .enum-told2 .given .1)))
     (turn-end (n .channels .inv) (c .channels-test .left) (n .channels .inv .within .cn-room)))
     (n .before .link-at4 .ensures) (omega arith) (n .channels .inv .within) (omega arith) refl
 
@@ -164,16 +174,20 @@ link-at-requires-5 c κs = search needs
 channels-less : tie.Need-channels-less Inv-channels μ-channels Inv-groups μ-groups Inv-walk μ-walk
 channels-less c =
     let n = c .before .before .before .before .before .before .before .before in
-    let r = cn-within _ _ _ (n .channels .inv .within) (c .before .before .before .before .before .met-cn .ensures) (after-fine _ _ (c .before .enum-told3 .given .1)) (omega arith) in
+    let r = cn-within _ _ _ (n .channels .inv .within) (c .before .before .before .before .before .met-cn .ensures) (after-fine _
+        _ (c .before .enum-told3 .given .1)) (omega arith) in
     omega arith
 
 channels-again : tie.Need-channels-again Inv-channels μ-channels Inv-groups μ-groups Inv-walk μ-walk
 channels-again c =
     let n = c .before .before .before .before .before .before .before .before in
-    turn-on (n .channels .inv) (c .before .before .before .before .before .before .before .channels-test .taken) (n .channels .inv .within .cn-room)
-    (cn-block _ _ (cn-gives _ _ _ (n .channels .inv .within) (c .before .before .before .before .before .met-cn .ensures) (after-fine _ _ (c .before .enum-told3 .given .1))))
+    turn-on (n .channels .inv) (c .before .before .before .before .before .before .before .channels-test .taken)
+        (n .channels .inv .within .cn-room)
+    (cn-block _ _ (cn-gives _ _ _ (n .channels .inv .within) (c .before .before .before .before .before .met-cn .ensures)
+        (after-fine _ _ (c .before .enum-told3 .given .1))))
     (c .link-at5 .ensures) (omega arith)
-    (cn-within _ _ _ (n .channels .inv .within) (c .before .before .before .before .before .met-cn .ensures) (after-fine _ _ (c .before .enum-told3 .given .1)) (omega arith))
+    (cn-within _ _ _ (n .channels .inv .within) (c .before .before .before .before .before .met-cn .ensures) (after-fine _ _
+        (c .before .enum-told3 .given .1)) (omega arith))
     (omega arith) refl
 
 same-length : tie.Need-same-length Inv-channels μ-channels Inv-groups μ-groups Inv-walk μ-walk
@@ -196,7 +210,8 @@ returns-2 c =
     let v = c .before .before .before .before .before in
     let w = v .before .before .before in
     walk-stops _ _ _ _ (turn-stop (w .walk .inv) (v .before .before .if1 .left) (w .walk .inv .within .dg-room)
-    (dg-block-stops _ _ (dg-stops _ _ _ (w .walk .inv .within) (v .visit .ensures) (after-refused _ _ (c .before .met .given .1)))))
+    (dg-block-stops _ _ (dg-stops _ _ _ (w .walk .inv .within) (v .visit .ensures) (after-refused _ _
+        (c .before .met .given .1)))))
 
 same-length-5 : tie.Need-same-length-5 Inv-channels μ-channels Inv-groups μ-groups Inv-walk μ-walk
 same-length-5 c = search needs
@@ -230,26 +245,32 @@ returns-4 c =
     (dg-below-stops _ _ _ (g .before .before .link-at .ensures)
     (dg-gives _ _ _ (w .walk .inv .within) (v .visit .ensures) (after-fine _ _ (f .before .before .enum-told .given .1)))
     (data-gives _ _ _ (f .take-data .ensures) (after-done _ _ (g .before .before .before .before .taken2 .given .1)))
-    (turn-stop (g .groups .inv) (c .before .before .before .before .before .before .before .groups-test .taken) (g .groups .inv .within .cg-room)
-    (cg-block-stops _ _ (cg-stops _ _ _ (g .groups .inv .within) (c .before .before .before .before .before .met-cg .ensures) (after-refused _ _ (c .before .met2 .given .1)))))))
+    (turn-stop (g .groups .inv) (c .before .before .before .before .before .before .before .groups-test .taken)
+        (g .groups .inv .within .cg-room)
+    (cg-block-stops _ _ (cg-stops _ _ _ (g .groups .inv .within) (c .before .before .before .before .before .met-cg .ensures)
+        (after-refused _ _ (c .before .met2 .given .1)))))))
 
 same-length-9 : tie.Need-same-length-9 Inv-channels μ-channels Inv-groups μ-groups Inv-walk μ-walk
 same-length-9 c =
-    omega (arith,
-    c .before .before .before .before .before .before .before .before .before .before .before .before .before .before .before .before .before .before .before .before .before .before .before .before .before .before .before .before .before .before .before .before .before .before .before .walk .inv .words-same,
-    c .before .before .before .before .before .before .before .before .before .before .before .before .before .before .before .before .before .before .before .before .before .before .before .before .before .before .before .before .before .before .before .before .visit .kept,
-    c .before .before .before .before .before .before .before .before .before .before .before .before .before .before .before .before .before .before .groups .inv .words-same,
-    c .before .before .before .before .before .before .before .before .before .before .before .before .before .before .before .met-cg .kept,
-    c .before .before .before .before .before .before .before .before .channels .inv .words-same,
-    c .before .before .before .before .before .met-cn .kept)
+    omega (
+      arith,
+      c .before .before .before .before .before .before .before .before .before .before .before .before .before .before .before .before .before .before .before .before .before .before .before .before .before .before .before .before .before .before .before .before .before .before .before .walk .inv .words-same,
+      c .before .before .before .before .before .before .before .before .before .before .before .before .before .before .before .before .before .before .before .before .before .before .before .before .before .before .before .before .before .before .before .before .visit .kept,
+      c .before .before .before .before .before .before .before .before .before .before .before .before .before .before .before .before .before .before .groups .inv .words-same,
+      c .before .before .before .before .before .before .before .before .before .before .before .before .before .before .before .met-cg .kept,
+      c .before .before .before .before .before .before .before .before .channels .inv .words-same,
+      c .before .before .before .before .before .met-cn .kept,
+    )
 
 same-length-10 : tie.Need-same-length-10 Inv-channels μ-channels Inv-groups μ-groups Inv-walk μ-walk
 same-length-10 c =
-    omega (arith,
-    c .before .before .before .before .before .before .before .before .before .before .before .before .before .before .before .before .before .before .before .before .before .before .before .before .before .before .before .before .before .before .before .before .before .before .before .walk .inv .frags-same,
-    c .before .before .before .before .before .before .before .before .before .before .before .before .before .before .before .before .before .before .before .before .before .before .before .before .before .before .take-data .kept,
-    c .before .before .before .before .before .before .before .before .before .before .before .before .before .before .before .before .before .before .groups .inv .frags-same,
-    c .before .before .before .before .before .before .before .before .channels .inv .frags-same)
+    omega (
+      arith,
+      c .before .before .before .before .before .before .before .before .before .before .before .before .before .before .before .before .before .before .before .before .before .before .before .before .before .before .before .before .before .before .before .before .before .before .before .walk .inv .frags-same,
+      c .before .before .before .before .before .before .before .before .before .before .before .before .before .before .before .before .before .before .before .before .before .before .before .before .before .before .take-data .kept,
+      c .before .before .before .before .before .before .before .before .before .before .before .before .before .before .before .before .before .before .groups .inv .frags-same,
+      c .before .before .before .before .before .before .before .before .channels .inv .frags-same,
+    )
 
 returns-5 : tie.Need-returns-5 Inv-channels μ-channels Inv-groups μ-groups Inv-walk μ-walk
 returns-5 c =
@@ -262,11 +283,15 @@ returns-5 c =
     (dg-below-stops _ _ _ (g .before .before .link-at .ensures)
     (dg-gives _ _ _ (w .walk .inv .within) (v .visit .ensures) (after-fine _ _ (f .before .before .enum-told .given .1)))
     (data-gives _ _ _ (f .take-data .ensures) (after-done _ _ (g .before .before .before .before .taken2 .given .1)))
-    (turn-stop (g .groups .inv) (n .before .before .before .before .before .before .before .before .before .groups-test .taken) (g .groups .inv .within .cg-room)
+    (turn-stop (g .groups .inv) (n .before .before .before .before .before .before .before .before .before .groups-test .taken)
+        (g .groups .inv .within .cg-room)
     (cg-below-stops _ _ _ (n .before .before .link-at3 .ensures)
-    (cg-gives _ _ _ (g .groups .inv .within) (n .before .before .before .before .before .before .before .met-cg .ensures) (after-fine _ _ (n .before .before .before .enum-told2 .given .1)))
-    (turn-stop (n .channels .inv) (c .before .before .before .before .before .before .before .channels-test .taken) (n .channels .inv .within .cn-room)
-    (cn-block-stops _ _ (cn-stops _ _ _ (n .channels .inv .within) (c .before .before .before .before .before .met-cn .ensures) (after-refused _ _ (c .before .met3 .given .1)))))))))
+    (cg-gives _ _ _ (g .groups .inv .within) (n .before .before .before .before .before .before .before .met-cg .ensures)
+        (after-fine _ _ (n .before .before .before .enum-told2 .given .1)))
+    (turn-stop (n .channels .inv) (c .before .before .before .before .before .before .before .channels-test .taken)
+        (n .channels .inv .within .cn-room)
+    (cn-block-stops _ _ (cn-stops _ _ _ (n .channels .inv .within) (c .before .before .before .before .before .met-cn .ensures)
+        (after-refused _ _ (c .before .met3 .given .1)))))))))
 
 pub walk-from-spec : {M : Type 1} → statement M
 walk-from-spec =

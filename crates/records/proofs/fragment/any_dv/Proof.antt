@@ -39,7 +39,8 @@ loop-less : tie.Need-loop-less Inv-loop μ-loop
 loop-less c = search needs
 
 loop-again : tie.Need-loop-again Inv-loop μ-loop
-loop-again c = (omega arith, dv-next _ _ (c .before .before .before .loop .inv .1) (omega arith) (c .before .word-at .ensures) (c .if1 .left))
+loop-again c = (omega arith, dv-next _ _ (c .before .before .before .loop .inv .1) (omega arith) (c .before .word-at .ensures)
+    (c .if1 .left))
 
 returns-2 : tie.Need-returns-2 Inv-loop μ-loop
 returns-2 c = dv-end _ _ (c .before .loop .inv .1) (omega arith)

@@ -40,7 +40,8 @@ returns c =
 
 returns-2 : tie.Need-returns-2 Inv-loop μ-loop
 returns-2 c =
-    ranges-out _ _ _ (c .before .before .before .before .before .loop .inv .1) (omega arith) (c .before .before .before .word-at .ensures)
+    ranges-out _ _ _ (c .before .before .before .before .before .loop .inv .1) (omega arith)
+        (c .before .before .before .word-at .ensures)
     (c .before .before .word-at2 .ensures) (omega arith)
 
 add-i : tie.Need-add-i Inv-loop μ-loop
@@ -50,9 +51,11 @@ loop-less : tie.Need-loop-less Inv-loop μ-loop
 loop-less c = search needs
 
 loop-again : tie.Need-loop-again Inv-loop μ-loop
-loop-again c =
-    (omega arith, ranges-next _ _ _ (c .before .before .before .before .before .loop .inv .1) (omega arith)
-    (c .before .before .before .word-at .ensures) (c .before .before .word-at2 .ensures) (omega arith))
+loop-again c = (
+  omega arith,
+  ranges-next _ _ _ (c .before .before .before .before .before .loop .inv .1) (omega arith)
+      (c .before .before .before .word-at .ensures) (c .before .before .word-at2 .ensures) (omega arith),
+)
 
 returns-3 : tie.Need-returns-3 Inv-loop μ-loop
 returns-3 c = ranges-end _ _ _ (c .before .loop .inv .1) (omega arith)

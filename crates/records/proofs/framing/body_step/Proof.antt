@@ -29,7 +29,8 @@ returns c = record-none _ _ _ _ (so-missing (c .before .before .body-of .ensures
 returns-2 : tie.Need-returns-2
 returns-2 c =
     record-short _ _ _ _ (so-value (c .before .before .before .before .before .before .body-of .ensures)
-    (c .before .before .before .before .size .given .1)) (so-past _ _ (c .before .before .skip-on .ensures) (c .enum-told2 .given .1))
+    (c .before .before .before .before .size .given .1)) (so-past _ _ (c .before .before .skip-on .ensures)
+        (c .enum-told2 .given .1))
 
 returns-3 : tie.Need-returns-3
 returns-3 c =

@@ -35,19 +35,30 @@ u8-at-requires c κs = search needs
 
 returns : tie.Need-returns Inv-loop μ-loop
 returns c =
-    record { is = byte-is _ _ (c .u8-at .ensures .is)
-    ∙ byte-here _ _ _ _ _ _ (c .before .before .inside .ensures) (c .before .before .before .loop .inv) (c .before .if1 .taken); small = c
-    .u8-at .ensures .small }
+    record {
+      is = byte-is _ _ (c .u8-at .ensures .is)
+          ∙ byte-here _ _ _ _ _ _ (c .before .before .inside .ensures) (c .before .before .before .loop .inv)
+              (c .before .if1 .taken);
+      small = c
+          .u8-at .ensures .small;
+    }
 
 returns-2 : tie.Need-returns-2 Inv-loop μ-loop
 returns-2 c =
-    record { is = byte-over _ _ _ _ _ _ (c .before .before .inside .ensures) (c .before .before .before .loop .inv) (c .before .if1 .left)
-    (omega arith); small = omega arith }
+    record {
+      is = byte-over _ _ _ _ _ _ (c .before .before .inside .ensures) (c .before .before .before .loop .inv)
+          (c .before .if1 .left)
+          (omega arith);
+      small = omega arith;
+    }
 
 returns-3 : tie.Need-returns-3 Inv-loop μ-loop
 returns-3 c =
-    record { is = byte-over _ _ _ _ _ _ (c .before .before .before .inside .ensures) (c .before .before .before .before .loop .inv)
-    (c .before .before .if1 .left) (omega arith); small = omega arith }
+    record {
+      is = byte-over _ _ _ _ _ _ (c .before .before .before .inside .ensures) (c .before .before .before .before .loop .inv)
+          (c .before .before .if1 .left) (omega arith);
+      small = omega arith;
+    }
 
 word-at-requires : tie.Need-word-at-requires Inv-loop μ-loop
 word-at-requires c κs = search needs

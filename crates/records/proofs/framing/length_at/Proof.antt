@@ -37,8 +37,11 @@ add-result-3 c = search needs
 
 returns : tie.Need-returns
 returns c =
-    record { is = four-bytes _ (c .before .before .before .byte-at .ensures .is) (c .before .before .byte-at2 .ensures .is)
-    (c .before .byte-at3 .ensures .is) (c .byte-at4 .ensures .is); small = omega arith }
+    record {
+      is = four-bytes _ (c .before .before .before .byte-at .ensures .is) (c .before .before .byte-at2 .ensures .is)
+          (c .before .byte-at3 .ensures .is) (c .byte-at4 .ensures .is);
+      small = omega arith;
+    }
 
 pub length-at-spec : {M : Type 1} → statement M
 length-at-spec =

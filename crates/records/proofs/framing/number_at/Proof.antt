@@ -21,7 +21,8 @@ loop-holds : tie.Need-loop-holds Inv-loop μ-loop
 loop-holds c = (omega arith, omega arith, number-start _ _)
 
 returns : tie.Need-returns Inv-loop μ-loop
-returns c = number-big _ _ _ (c .before .before .loop .inv .2) (c .before .before .loop .inv .0) (c .before .loop-test .taken) (c .if1 .taken)
+returns c = number-big _ _ _ (c .before .before .loop .inv .2) (c .before .before .loop .inv .0) (c .before .loop-test .taken)
+    (c .if1 .taken)
 
 sub-i : tie.Need-sub-i Inv-loop μ-loop
 sub-i c = search needs
@@ -39,9 +40,12 @@ loop-less : tie.Need-loop-less Inv-loop μ-loop
 loop-less c = search needs
 
 loop-again : tie.Need-loop-again Inv-loop μ-loop
-loop-again c =
-    (omega arith, (let b = c .byte-at .ensures .small in omega arith), number-more _ _ _ (c .before .before .before .loop .inv .2)
-    (c .before .before .before .loop .inv .0) (c .before .before .loop-test .taken) (c .byte-at .ensures .is))
+loop-again c = (
+  omega arith,
+  (let b = c .byte-at .ensures .small in omega arith),
+  number-more _ _ _ (c .before .before .before .loop .inv .2)
+      (c .before .before .before .loop .inv .0) (c .before .before .loop-test .taken) (c .byte-at .ensures .is),
+)
 
 returns-2 : tie.Need-returns-2 Inv-loop μ-loop
 returns-2 c = number-done _ _ _ (c .before .loop .inv .2) (c .before .loop .inv .0) (omega arith) (c .before .loop .inv .1)

@@ -59,10 +59,13 @@ loop-less : tie.Need-loop-less Inv-loop μ-loop
 loop-less c = search needs
 
 loop-again : tie.Need-loop-again Inv-loop μ-loop
-loop-again c =
-    (omega arith, skip-move _ _ _ _ _ _ (c .before .before .before .before .before .inside .ensures)
-    (c .before .before .before .before .before .before .loop .inv .1) (c .before .before .before .before .if1 .left) (omega arith)
-    (c .before .word-at .ensures) (c .word-at2 .ensures))
+loop-again c = (
+  omega arith,
+  skip-move _ _ _ _ _ _ (c .before .before .before .before .before .inside .ensures)
+      (c .before .before .before .before .before .before .loop .inv .1) (c .before .before .before .before .if1 .left) (omega
+          arith)
+      (c .before .word-at .ensures) (c .word-at2 .ensures),
+)
 
 pub skip-on-spec : {M : Type 1} → statement M
 skip-on-spec =

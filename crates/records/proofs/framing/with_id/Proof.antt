@@ -37,9 +37,11 @@ loop-less : tie.Need-loop-less Inv-loop μ-loop
 loop-less c = search needs
 
 loop-again : tie.Need-loop-again Inv-loop μ-loop
-loop-again c =
-    (omega arith, id-next _ _ _ _ (c .before .before .before .before .loop .inv .1) (c .before .before .before .loop-test .taken)
-    (c .before .before .word-at .ensures) (c .before .record-id .ensures) (c .if1 .left))
+loop-again c = (
+  omega arith,
+  id-next _ _ _ _ (c .before .before .before .before .loop .inv .1) (c .before .before .before .loop-test .taken)
+      (c .before .before .word-at .ensures) (c .before .record-id .ensures) (c .if1 .left),
+)
 
 returns-2 : tie.Need-returns-2 Inv-loop μ-loop
 returns-2 c = id-end _ _ _ _ (c .before .loop .inv .1) (omega arith)

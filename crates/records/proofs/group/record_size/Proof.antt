@@ -28,8 +28,11 @@ add-result-2 c = search needs
 
 returns-2 : tie.Need-returns-2
 returns-2 c =
-    record { is = size-dt _ _ _ (c .before .before .before .if1 .left) (c .before .before .id-size .ensures .is)
-    (c .before .samples-of2 .ensures .is) (c .inval-bytes .ensures .is); small = omega arith }
+    record {
+      is = size-dt _ _ _ (c .before .before .before .if1 .left) (c .before .before .id-size .ensures .is)
+          (c .before .samples-of2 .ensures .is) (c .inval-bytes .ensures .is);
+      small = omega arith;
+    }
 
 pub record-size-spec : {M : Type 1} → statement M
 record-size-spec =

@@ -42,13 +42,15 @@ loop-less c = search needs
 
 loop-again : tie.Need-loop-again Inv-loop μ-loop
 loop-again c =
-    (simp length-set (c .before .before .loop .inv .0), zero-turn _ _ _ (c .before .loop-test .taken) (c .before .before .loop .inv .1))
+    (simp length-set (c .before .before .loop .inv .0), zero-turn _ _ _ (c .before .loop-test .taken)
+        (c .before .before .loop .inv .1))
 
 same-length-2 : tie.Need-same-length-2 Inv-loop μ-loop
 same-length-2 c = search needs
 
 returns-2 : tie.Need-returns-2 Inv-loop μ-loop
-returns-2 c = zero-done (c .before .loop .left) (c .before .loop .p) (c .before .loop .words) (omega arith) (c .before .loop .inv .1)
+returns-2 c = zero-done (c .before .loop .left) (c .before .loop .p) (c .before .loop .words) (omega arith)
+    (c .before .loop .inv .1)
 
 pub clear-spec : {M : Type 1} → statement M
 clear-spec =

@@ -43,25 +43,35 @@ add-t26 c = search needs
 
 records-less : tie.Need-records-less Inv-records μ-records
 records-less c =
-    move-less (c .before .before .before .before .before .before .before .before .before .before .before .before .before .before .before
-    .args .image .now) (c .before .before .before .before .before .before .before .before .before .before .before .before .before .before
-    .before .args .n) (c .before .before .before .before .before .before .before .before .before .before .before .before .before .before
-    .before .args .groups .now) (c .before .before .before .before .before .before .before .before .before .before .before .before .before
+    move-less
+        (c .before .before .before .before .before .before .before .before .before .before .before .before .before .before .before
+    .args .image .now)
+        (c .before .before .before .before .before .before .before .before .before .before .before .before .before .before
+    .before .args .n)
+        (c .before .before .before .before .before .before .before .before .before .before .before .before .before .before
+    .before .args .groups .now)
+        (c .before .before .before .before .before .before .before .before .before .before .before .before .before
     .before .before .args .fragments .now) _ (c .before .before .before .before .before .before .records .f .at)
     (c .before .before .before .before .before .before .records .position)
-    (c .before .before .before .before .before .before .records .left) (c .before .before .before .before .before .before .records .counts)
+    (c .before .before .before .before .before .before .records .left)
+        (c .before .before .before .before .before .before .records .counts)
     (c .before .before .before .before .before .before .records .inv) (c .before .before .before .before .before .inside .ensures)
     (c .before .before .before .before .if1 .taken) (omega arith) (c .before .word-at .ensures) (c .word-at2 .ensures)
 
 records-again : tie.Need-records-again Inv-records μ-records
 records-again c =
-    read-move (c .before .before .before .before .before .before .before .before .before .before .before .before .before .before .before
-    .args .image .now) (c .before .before .before .before .before .before .before .before .before .before .before .before .before .before
-    .before .args .n) (c .before .before .before .before .before .before .before .before .before .before .before .before .before .before
-    .before .args .groups .now) (c .before .before .before .before .before .before .before .before .before .before .before .before .before
+    read-move
+        (c .before .before .before .before .before .before .before .before .before .before .before .before .before .before .before
+    .args .image .now)
+        (c .before .before .before .before .before .before .before .before .before .before .before .before .before .before
+    .before .args .n)
+        (c .before .before .before .before .before .before .before .before .before .before .before .before .before .before
+    .before .args .groups .now)
+        (c .before .before .before .before .before .before .before .before .before .before .before .before .before
     .before .before .args .fragments .now) _ (c .before .before .before .before .before .before .records .f .at)
     (c .before .before .before .before .before .before .records .position)
-    (c .before .before .before .before .before .before .records .left) (c .before .before .before .before .before .before .records .counts)
+    (c .before .before .before .before .before .before .records .left)
+        (c .before .before .before .before .before .before .records .counts)
     (c .before .before .before .before .before .before .records .inv) (c .before .before .before .before .before .inside .ensures)
     (c .before .before .before .before .if1 .taken) (omega arith) (c .before .word-at .ensures) (c .word-at2 .ensures)
 
@@ -85,20 +95,23 @@ count-up-requires c κs =
 
 records-less-2 : tie.Need-records-less-2 Inv-records μ-records
 records-less-2 c =
-    record-less _ _ _ _ _ _ _ _ _ (c .before .before .before .before .before .before .before .before .before .before .records .inv) _ _ _
+    record-less _ _ _ _ _ _ _ _ _
+        (c .before .before .before .before .before .before .before .before .before .before .records .inv) _ _ _
     (c .before .before .before .before .before .before .before .before .before .before .before .before .before .before .before .before
     .before .before .before .pre .0) (so-record _ _ (c .before .before .before .before .before .before .before .step .ensures)
     (c .before .before .before .before .before .step2 .given .1))
 
 records-again-2 : tie.Need-records-again-2 Inv-records μ-records
 records-again-2 c =
-    read-record _ _ _ _ _ _ _ _ _ (c .before .before .before .before .before .before .before .before .before .before .records .inv) _ _ _
+    read-record _ _ _ _ _ _ _ _ _
+        (c .before .before .before .before .before .before .before .before .before .before .records .inv) _ _ _
     (c .before .before .before .before .before .before .before .before .before .before .before .before .before .before .before .before
     .before .before .before .pre .0) (so-record _ _ (c .before .before .before .before .before .before .before .step .ensures)
     (c .before .before .before .before .before .step2 .given .1)) (c .before .before .count-up .ensures)
 
 same-length : tie.Need-same-length Inv-records μ-records
-same-length c = omega (arith, c .before .before .before .records .inv .same, c .before .before .before .before .before .before .clear .kept)
+same-length c = omega (arith, c .before .before .before .records .inv .same,
+    c .before .before .before .before .before .before .clear .kept)
 
 returns : tie.Need-returns Inv-records μ-records
 returns c =
@@ -106,31 +119,44 @@ returns c =
     (c .before .before .before .before .before .before .before .before .before .before .before .before .args .n)
     (c .before .before .before .before .before .before .before .before .before .before .before .before .args .groups .now)
     (c .before .before .before .before .before .before .before .before .before .before .before .before .args .fragments .now) _
-    (c .before .before .before .records .f .at) (c .before .before .before .records .position) (c .before .before .before .records .left)
+    (c .before .before .before .records .f .at) (c .before .before .before .records .position)
+        (c .before .before .before .records .left)
     (c .before .before .before .records .counts) (c .before .before .before .records .inv) _
-    (c .before .before .before .before .before .before .clear .ensures) (c .before .before .inside .ensures) (c .before .if1 .taken)
+    (c .before .before .before .before .before .before .clear .ensures) (c .before .before .inside .ensures)
+        (c .before .if1 .taken)
     (omega arith)
 
 same-length-2 : tie.Need-same-length-2 Inv-records μ-records
 same-length-2 c =
-    omega (arith, c .before .before .before .before .records .inv .same, c .before .before .before .before .before .before .before .clear
-    .kept)
+    omega (
+      arith,
+      c .before .before .before .before .records .inv .same,
+      c .before .before .before .before .before .before .before .clear
+          .kept,
+    )
 
 returns-2 : tie.Need-returns-2 Inv-records μ-records
 returns-2 c =
     read-end (c .before .before .before .before .before .before .before .before .before .before .before .before .before .args .image .now)
     (c .before .before .before .before .before .before .before .before .before .before .before .before .before .args .n)
     (c .before .before .before .before .before .before .before .before .before .before .before .before .before .args .groups .now)
-    (c .before .before .before .before .before .before .before .before .before .before .before .before .before .args .fragments .now) _
+    (c .before .before .before .before .before .before .before .before .before .before .before .before .before .args .fragments .now)
+        _
     (c .before .before .before .before .records .f .at) (c .before .before .before .before .records .position)
     (c .before .before .before .before .records .left) (c .before .before .before .before .records .counts)
-    (c .before .before .before .before .records .inv) _ (c .before .before .before .before .before .before .before .clear .ensures)
+    (c .before .before .before .before .records .inv) _
+        (c .before .before .before .before .before .before .before .clear .ensures)
     (c .before .before .before .inside .ensures) (c .before .before .if1 .taken) (omega arith)
 
 same-length-3 : tie.Need-same-length-3 Inv-records μ-records
 same-length-3 c =
-    omega (arith, c .before .before .before .before .before .before .before .before .before .records .inv .same, c .before .before .before
-    .before .before .before .before .before .before .before .before .before .clear .kept, c .before .before .clear2 .kept)
+    omega (
+      arith,
+      c .before .before .before .before .before .before .before .before .before .records .inv .same,
+      c .before .before .before
+          .before .before .before .before .before .before .before .before .before .clear .kept,
+      c .before .before .clear2 .kept,
+    )
 
 returns-3 : tie.Need-returns-3 Inv-records μ-records
 returns-3 c =

@@ -26,7 +26,8 @@ count-frames-requires c κs =
     let h = several-passed (c .before .before .before .before .before .before .before .before .before .args .image .now)
     (c .before .before .before .before .before .before .before .before .before .args .d)
     (c .before .before .before .before .before .before .before .before .before .args .groups .now) _
-    (so-fine (c .before .before .before .before .several-in .ensures) (c .before .before .enum-told .given .1)) in let e = c .before
+    (so-fine (c .before .before .before .before .several-in .ensures) (c .before .before .enum-told .given .1)) in let e =
+        c .before
     .id-size .ensures .is in (omega arith, h .ranges, h .size)
 
 same-length : tie.Need-same-length

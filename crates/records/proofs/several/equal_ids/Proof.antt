@@ -33,8 +33,10 @@ is-id-of-requires c κs = search needs
 
 returns : tie.Need-returns Inv-loop μ-loop
 returns c =
-    equal-met _ _ _ (c .before .before .before .before .before .loop .inv .1) (c .before .before .before .before .loop-test .taken)
-    (c .before .before .before .word-at .ensures) (c .before .before .record-id .ensures) (c .before .is-id-of .ensures) (c .if1 .taken)
+    equal-met _ _ _ (c .before .before .before .before .before .loop .inv .1)
+        (c .before .before .before .before .loop-test .taken)
+    (c .before .before .before .word-at .ensures) (c .before .before .record-id .ensures) (c .before .is-id-of .ensures)
+        (c .if1 .taken)
 
 add-i : tie.Need-add-i Inv-loop μ-loop
 add-i c = search needs
@@ -43,10 +45,12 @@ loop-less : tie.Need-loop-less Inv-loop μ-loop
 loop-less c = search needs
 
 loop-again : tie.Need-loop-again Inv-loop μ-loop
-loop-again c =
-    (omega arith, equal-next _ _ _ (c .before .before .before .before .before .loop .inv .1)
-    (c .before .before .before .before .loop-test .taken) (c .before .before .before .word-at .ensures)
-    (c .before .before .record-id .ensures) (c .before .is-id-of .ensures) (c .if1 .left))
+loop-again c = (
+  omega arith,
+  equal-next _ _ _ (c .before .before .before .before .before .loop .inv .1)
+      (c .before .before .before .before .loop-test .taken) (c .before .before .before .word-at .ensures)
+      (c .before .before .record-id .ensures) (c .before .is-id-of .ensures) (c .if1 .left),
+)
 
 returns-2 : tie.Need-returns-2 Inv-loop μ-loop
 returns-2 c =

@@ -24,7 +24,8 @@ any-dv-requires c κs = search needs
 
 returns-3 : tie.Need-returns-3
 returns-3 c =
-    several-dv _ _ _ _ (c .before .before .before .before .before .equal-ids .ensures) (c .before .before .before .before .if1 .left)
+    several-dv _ _ _ _ (c .before .before .before .before .before .equal-ids .ensures)
+        (c .before .before .before .before .if1 .left)
     (c .before .before .before .id-size .ensures .is) (c .before .before .if2 .left) (c .before .any-dv .ensures) (c .if3 .taken)
 
 ranges-in-requires : tie.Need-ranges-in-requires

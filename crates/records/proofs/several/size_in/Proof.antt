@@ -14,7 +14,8 @@ use Rattle.records.proofs.several.size_in.Tie as tie
 
 abbrev Inv-loop : tie.InvT-loop
 Inv-loop d fragments n i₀ sum₀ i sum =
-    (i ≤ length fragments) × (sum ≤ 18446744073709551615) × (sum + sizeOf (fragmentsFrom fragments i) ≡ sizeOf (fragmentsOf fragments))
+    (i ≤ length fragments) × (sum ≤ 18446744073709551615) × (sum + sizeOf (fragmentsFrom fragments i) ≡ sizeOf (fragmentsOf
+        fragments))
 
 abbrev μ-loop : tie.MeasureT-loop
 μ-loop d fragments n i₀ sum₀ i sum = length fragments - i
@@ -36,8 +37,10 @@ sub-if1 c = search needs
 
 returns : tie.Need-returns Inv-loop μ-loop
 returns c =
-    size-over _ _ (let m = size-next (c .before .before .before .before .before .args .fragments .now) (c .before .before .before .loop .i)
-    (c .before .before .before .loop .sum) (c .before .before .before .loop .inv .2) (omega arith) in let e = c .before .word-at .ensures
+    size-over _ _ (let m = size-next (c .before .before .before .before .before .args .fragments .now)
+        (c .before .before .before .loop .i)
+    (c .before .before .before .loop .sum) (c .before .before .before .loop .inv .2) (omega arith) in let e =
+        c .before .word-at .ensures
     in omega arith)
 
 add-sum : tie.Need-add-sum Inv-loop μ-loop
@@ -50,10 +53,13 @@ loop-less : tie.Need-loop-less Inv-loop μ-loop
 loop-less c = search needs
 
 loop-again : tie.Need-loop-again Inv-loop μ-loop
-loop-again c =
-    (omega arith, omega arith, rw (c .before .word-at .ensures)
-    (size-next (c .before .before .before .before .before .args .fragments .now) (c .before .before .before .loop .i)
-    (c .before .before .before .loop .sum) (c .before .before .before .loop .inv .2) (omega arith)))
+loop-again c = (
+  omega arith,
+  omega arith,
+  rw (c .before .word-at .ensures)
+      (size-next (c .before .before .before .before .before .args .fragments .now) (c .before .before .before .loop .i)
+      (c .before .before .before .loop .sum) (c .before .before .before .loop .inv .2) (omega arith)),
+)
 
 returns-2 : tie.Need-returns-2 Inv-loop μ-loop
 returns-2 c =

@@ -36,7 +36,8 @@ returns : tie.Need-returns Inv-loop μ-loop
 returns c =
     within-over _ _ (let m = bytes-next (c .before .before .before .before .before .args .dv)
     (c .before .before .before .before .before .args .fragments .now) (c .before .before .before .loop .i)
-    (c .before .before .before .loop .sum) (c .before .before .before .loop .inv .2) (omega arith) in let e = c .before .own-bytes .ensures
+    (c .before .before .before .loop .sum) (c .before .before .before .loop .inv .2) (omega arith) in let e =
+        c .before .own-bytes .ensures
     in omega arith)
 
 add-sum : tie.Need-add-sum Inv-loop μ-loop
@@ -49,14 +50,20 @@ loop-less : tie.Need-loop-less Inv-loop μ-loop
 loop-less c = search needs
 
 loop-again : tie.Need-loop-again Inv-loop μ-loop
-loop-again c =
-    (omega arith, omega arith, rw (c .before .own-bytes .ensures)
-    (bytes-next (c .before .before .before .before .before .args .dv) (c .before .before .before .before .before .args .fragments .now)
-    (c .before .before .before .loop .i) (c .before .before .before .loop .sum) (c .before .before .before .loop .inv .2) (omega arith)))
+loop-again c = (
+  omega arith,
+  omega arith,
+  rw (c .before .own-bytes .ensures)
+      (bytes-next (c .before .before .before .before .before .args .dv)
+          (c .before .before .before .before .before .args .fragments .now)
+      (c .before .before .before .loop .i) (c .before .before .before .loop .sum) (c .before .before .before .loop .inv .2)
+          (omega arith)),
+)
 
 returns-2 : tie.Need-returns-2 Inv-loop μ-loop
 returns-2 c =
-    let a = c .before .before .before .args in let e = bytes-end (a .dv) (a .fragments .now) (c .before .loop .i) (c .before .loop .sum)
+    let a = c .before .before .before .args in let e = bytes-end (a .dv) (a .fragments .now) (c .before .loop .i)
+        (c .before .loop .sum)
     (c .before .loop .inv .2) (omega arith) in rw (← e) (within-in _ _ (omega arith))
 
 pub bytes-of-spec : {M : Type 1} → statement M

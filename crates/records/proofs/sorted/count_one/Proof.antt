@@ -48,11 +48,13 @@ returns-2 c =
 
 returns-3 : tie.Need-returns-3
 returns-3 c =
-    one-count _ _ _ _ (so-counted (c .before .before .before .before .before .before .before .before .before .before .before .before
+    one-count _ _ _ _ (so-counted
+        (c .before .before .before .before .before .before .before .before .before .before .before .before
     .bytes-of .ensures) (c .before .before .before .before .before .before .before .before .before .before .dt2 .given .1))
     (so-counted (c .before .before .before .before .before .before .before .before .bytes-of2 .ensures)
     (c .before .before .before .before .before .before .dv2 .given .1))
-    (quotient-at _ _ (c .before .before .before .quotient-of .ensures) (c .before .before .before .before .record-size .ensures .is))
+    (quotient-at _ _ (c .before .before .before .quotient-of .ensures)
+        (c .before .before .before .before .record-size .ensures .is))
     (quotient-at _ _ (c .before .quotient-of2 .ensures) (c .before .before .record-size2 .ensures .is)) (c .sum-within .ensures)
 
 pub count-one-spec : {M : Type 1} → statement M

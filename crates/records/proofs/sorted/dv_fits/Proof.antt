@@ -12,12 +12,14 @@ inval-bytes-requires c κs = search needs
 
 returns : tie.Need-returns
 returns c =
-    fits-not _ _ _ _ (c .before .before .before .any-dv .ensures) (c .before .before .if1 .taken) (c .before .inval-bytes .ensures .is)
+    fits-not _ _ _ _ (c .before .before .before .any-dv .ensures) (c .before .before .if1 .taken)
+        (c .before .inval-bytes .ensures .is)
     (c .if2 .taken)
 
 returns-2 : tie.Need-returns-2
 returns-2 c =
-    fits-dv _ _ _ _ (c .before .before .before .any-dv .ensures) (c .before .before .if1 .taken) (c .before .inval-bytes .ensures .is)
+    fits-dv _ _ _ _ (c .before .before .before .any-dv .ensures) (c .before .before .if1 .taken)
+        (c .before .inval-bytes .ensures .is)
     (c .if2 .left)
 
 returns-3 : tie.Need-returns-3

@@ -18,7 +18,8 @@ word-at-requires c κs = search needs
 
 returns : tie.Need-returns
 returns c =
-    own-dv _ _ _ (c .before .before .before .is-dv .ensures) (c .before .before .if1 .taken) (c .before .if2 .taken) (c .word-at .ensures)
+    own-dv _ _ _ (c .before .before .before .is-dv .ensures) (c .before .before .if1 .taken) (c .before .if2 .taken)
+        (c .word-at .ensures)
 
 returns-2 : tie.Need-returns-2
 returns-2 c = other-dv _ _ _ (c .before .before .is-dv .ensures) (c .before .if1 .taken) (c .if2 .left)
@@ -34,7 +35,8 @@ word-at-requires-2 c κs = search needs
 
 returns-4 : tie.Need-returns-4
 returns-4 c =
-    own-dt _ _ _ (c .before .before .before .is-dv .ensures) (c .before .before .if1 .left) (c .before .if3 .left) (c .word-at2 .ensures)
+    own-dt _ _ _ (c .before .before .before .is-dv .ensures) (c .before .before .if1 .left) (c .before .if3 .left)
+        (c .word-at2 .ensures)
 
 pub own-bytes-spec : {M : Type 1} → statement M
 own-bytes-spec =

@@ -54,7 +54,8 @@ word-at-requires-2 c κs = search needs
 
 start-of-requires : tie.Need-start-of-requires Inv-loop μ-loop
 start-of-requires c κs =
-    let h = pass-in _ _ _ _ _ _ _ (omega arith) _ (c .before .before .before .before .before .before .before .before .loop .inv .2) in let
+    let h = pass-in _ _ _ _ _ _ _ (omega arith) _
+        (c .before .before .before .before .before .before .before .before .loop .inv .2) in let
     p = c .before .before .before .word-at .ensures in let q = c .word-at2 .ensures in omega arith
 
 add-i : tie.Need-add-i Inv-loop μ-loop
@@ -64,15 +65,19 @@ loop-less : tie.Need-loop-less Inv-loop μ-loop
 loop-less c = search needs
 
 loop-again : tie.Need-loop-again Inv-loop μ-loop
-loop-again c =
-    (omega arith, c .before .before .remaining .ensures .small, pass-on _ _ _ _ _ _ _ (omega arith)
-    (c .before .before .before .before .before .before .before .before .before .loop .dv) _
-    (c .before .before .before .before .before .before .before .before .before .loop .inv .2)
-    (c .before .before .before .before .before .before .before .is-dv .ensures)
-    (sym (c .before .before .before .before .before .before .straddles-in .ensures)
-    ∙ c .before .before .before .before .before .if1 .left) (c .before .before .before .record-size .ensures .is)
-    (c .before .word-at2 .ensures) (c .before .before .before .before .word-at .ensures) (c .before .before .remaining .ensures .is)
-    (c .start-of .ensures))
+loop-again c = (
+  omega arith,
+  c .before .before .remaining .ensures .small,
+  pass-on _ _ _ _ _ _ _ (omega arith)
+      (c .before .before .before .before .before .before .before .before .before .loop .dv) _
+      (c .before .before .before .before .before .before .before .before .before .loop .inv .2)
+      (c .before .before .before .before .before .before .before .is-dv .ensures)
+      (sym (c .before .before .before .before .before .before .straddles-in .ensures)
+      ∙ c .before .before .before .before .before .if1 .left) (c .before .before .before .record-size .ensures .is)
+      (c .before .word-at2 .ensures) (c .before .before .before .before .word-at .ensures)
+          (c .before .before .remaining .ensures .is)
+      (c .start-of .ensures),
+)
 
 returns-2 : tie.Need-returns-2 Inv-loop μ-loop
 returns-2 c = pass-early _ _ _ _ _ _ _ _ (c .before .before .loop .inv .2) (omega arith) (c .if2 .taken)

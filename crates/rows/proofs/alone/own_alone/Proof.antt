@@ -16,7 +16,8 @@ enum-told : tie.Need-enum-told
 enum-told c = search needs
 
 put-alone-requires : tie.Need-put-alone-requires
-put-alone-requires c κs = sorted-ranges _ _ _ _ (so-fine (c .before .before .before .sorted-in .ensures) (c .before .enum-told .given .1))
+put-alone-requires c κs = sorted-ranges _ _ _ _ (so-fine (c .before .before .before .sorted-in .ensures)
+    (c .before .enum-told .given .1))
 
 returns : tie.Need-returns
 returns c = own-refused _ _ _ (so-refused (c .before .before .before .sorted-in .ensures) (c .before .checked .given .1))

@@ -21,8 +21,12 @@ rem-result-2 c = search needs
 
 returns-2 : tie.Need-returns-2
 returns-2 c =
-    record { is = remaining-some _ _ _ (c .if1 .left); small = let m = mod-lt
-    (c .before .args .begun + c .before .args .size % c .before .args .n) {m = c .before .args .n} (omega arith) in omega arith }
+    record {
+      is = remaining-some _ _ _ (c .if1 .left);
+      small = let m = mod-lt
+          (c .before .args .begun + c .before .args .size % c .before .args .n) {m = c .before .args .n} (omega arith) in omega
+              arith;
+    }
 
 pub passed-by-spec : {M : Type 1} → statement M
 passed-by-spec = tie.close (tie.spec returns rem-result add-result rem-result-2 returns-2)

@@ -49,9 +49,12 @@ word-at-requires-2 c κs = search needs
 put-part-requires : tie.Need-put-part-requires Inv-loop μ-loop
 put-part-requires c κs =
     let h = going-in (c .before .before .before .before .before .before .before .loop .inv .3)
-    (omega arith) in let p = c .before .before .word-at .ensures in let q = c .before .word-at2 .ensures in
-    (c .before .before .before .before .before .before .before .loop .inv .3 .low, omega arith, c .before .before .before .before .before
-    .before .before .loop .inv .1)
+    (omega arith) in let p = c .before .before .word-at .ensures in let q = c .before .word-at2 .ensures in (
+      c .before .before .before .before .before .before .before .loop .inv .3 .low,
+      omega arith,
+      c .before .before .before .before .before
+          .before .before .loop .inv .1,
+    )
 
 passed-by-requires : tie.Need-passed-by-requires Inv-loop μ-loop
 passed-by-requires c κs = search needs
@@ -63,15 +66,24 @@ loop-less : tie.Need-loop-less Inv-loop μ-loop
 loop-less c = search needs
 
 loop-again : tie.Need-loop-again Inv-loop μ-loop
-loop-again c =
-    (omega arith, c .passed-by .ensures .small, omega (arith, c .before .before .before .put-part .kept, c .before .before .before .before
-    .before .before .before .before .before .before .before .loop .inv .2), going-on
-    (c .before .before .before .before .before .before .before .before .before .before .before .loop .inv .3) (omega arith)
-    (c .before .before .before .before .before .before .before .before .before .is-dv .ensures)
-    (c .before .before .before .before .before .before .before .before .record-size .ensures .is)
-    (c .before .before .before .before .before .before .before .id-bytes .ensures)
-    (c .before .before .before .before .before .before .word-at .ensures) (c .before .before .before .before .before .word-at2 .ensures)
-    (c .before .before .before .put-part .ensures) (c .passed-by .ensures .is))
+loop-again c = (
+  omega arith,
+  c .passed-by .ensures .small,
+  omega (
+    arith,
+    c .before .before .before .put-part .kept,
+    c .before .before .before .before
+        .before .before .before .before .before .before .before .loop .inv .2,
+  ),
+  going-on
+      (c .before .before .before .before .before .before .before .before .before .before .before .loop .inv .3) (omega arith)
+      (c .before .before .before .before .before .before .before .before .before .is-dv .ensures)
+      (c .before .before .before .before .before .before .before .before .record-size .ensures .is)
+      (c .before .before .before .before .before .before .before .id-bytes .ensures)
+      (c .before .before .before .before .before .before .word-at .ensures)
+          (c .before .before .before .before .before .word-at2 .ensures)
+      (c .before .before .before .put-part .ensures) (c .passed-by .ensures .is),
+)
 
 same-length : tie.Need-same-length Inv-loop μ-loop
 same-length c = search needs

@@ -40,10 +40,14 @@ loop-less c = search needs
 loop-again : tie.Need-loop-again Inv-loop μ-loop
 loop-again c =
     let e = c .passed .ensures in let a = after-low (c .before .before .before .before .before .before .before .args .n)
-    (c .before .before .before .loop .r) in
-    (c .before .before .before .loop .inv .0, c .before .before .before .loop .inv .1, omega arith, omega arith,
-    byte-id _ _ _ _ _ _ _ _ (c .before .before .before .loop .inv .4) (c .before .before .loop-test .taken) (omega arith)
-    (c .passed .ensures) (c .before .if2 .taken))
+    (c .before .before .before .loop .r) in (
+      c .before .before .before .loop .inv .0,
+      c .before .before .before .loop .inv .1,
+      omega arith,
+      omega arith,
+      byte-id _ _ _ _ _ _ _ _ (c .before .before .before .loop .inv .4) (c .before .before .loop-test .taken) (omega arith)
+          (c .passed .ensures) (c .before .if2 .taken),
+    )
 
 same-length : tie.Need-same-length Inv-loop μ-loop
 same-length c = search needs
@@ -76,18 +80,24 @@ loop-less-2 c = search needs
 
 loop-again-2 : tie.Need-loop-again-2 Inv-loop μ-loop
 loop-again-2 c =
-    let e = c .passed2 .ensures in let a = after-low (c .before .before .before .before .before .before .before .before .before .args .n)
-    (c .before .before .before .before .before .loop .r) in
-    (simp length-set (c .before .before .before .before .before .loop .inv .0), simp length-set (omega arith), omega arith, omega arith,
-    byte-own _ _ _ _ _ _ _ _ (c .before .before .before .before .before .loop .inv .4)
-    (c .before .before .before .before .loop-test .taken) (omega arith) (c .passed2 .ensures) (omega arith))
+    let e = c .passed2 .ensures in let a = after-low
+        (c .before .before .before .before .before .before .before .before .before .args .n)
+    (c .before .before .before .before .before .loop .r) in (
+      simp length-set (c .before .before .before .before .before .loop .inv .0),
+      simp length-set (omega arith),
+      omega arith,
+      omega arith,
+      byte-own _ _ _ _ _ _ _ _ (c .before .before .before .before .before .loop .inv .4)
+          (c .before .before .before .before .loop-test .taken) (omega arith) (c .passed2 .ensures) (omega arith),
+    )
 
 same-length-2 : tie.Need-same-length-2 Inv-loop μ-loop
 same-length-2 c = search needs
 
 returns-3 : tie.Need-returns-3 Inv-loop μ-loop
 returns-3 c =
-    bytes-some _ _ _ _ _ _ (c .before .before .if1 .left) (byte-end _ _ _ _ _ _ _ _ (c .before .loop .inv .4) (c .before .loop .inv .1)
+    bytes-some _ _ _ _ _ _ (c .before .before .if1 .left) (byte-end _ _ _ _ _ _ _ _ (c .before .loop .inv .4)
+        (c .before .loop .inv .1)
     (omega arith))
 
 pub put-part-spec : {M : Type 1} → statement M

@@ -38,7 +38,8 @@ same-length c = search needs
 
 returns-2 : tie.Need-returns-2
 returns-2 c =
-    let a = c .before .before .before .before .before .before .before .before .before .before .before .before .before .before .args in
+    let a = c .before .before .before .before .before .before .before .before .before .before .before .before .before .before .args
+        in
     let e = several-fine (a .image .now) (a .d) (a .groups .now) (fragmentsOf (a .fragments .now)) _
     (c .before .before .before .before .before .before .before .before .count-several .ensures)
     (c .before .before .before .before .before .enum-told .given .1) in

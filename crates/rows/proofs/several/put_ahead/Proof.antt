@@ -31,7 +31,8 @@ same-length c = search needs
 
 returns : tie.Need-returns Inv-loop μ-loop
 returns c =
-    ahead-over (c .before .before .before .before .loop .inv .1) (c .before .before .inside .ensures) (c .before .if1 .taken) (omega arith)
+    ahead-over (c .before .before .before .before .loop .inv .1) (c .before .before .inside .ensures) (c .before .if1 .taken)
+        (omega arith)
 
 same-length-2 : tie.Need-same-length-2 Inv-loop μ-loop
 same-length-2 c = search needs
@@ -57,10 +58,13 @@ loop-less : tie.Need-loop-less Inv-loop μ-loop
 loop-less c = search needs
 
 loop-again : tie.Need-loop-again Inv-loop μ-loop
-loop-again c =
-    (c .before .before .before .before .before .before .before .loop .inv .0, ahead-next
-    (c .before .before .before .before .before .before .before .loop .inv .1) (c .before .before .before .before .before .inside .ensures)
-    (c .before .before .before .before .if1 .taken) (omega arith) (c .before .word-at .ensures) (c .word-at2 .ensures))
+loop-again c = (
+  c .before .before .before .before .before .before .before .loop .inv .0,
+  ahead-next
+      (c .before .before .before .before .before .before .before .loop .inv .1)
+          (c .before .before .before .before .before .inside .ensures)
+      (c .before .before .before .before .if1 .taken) (omega arith) (c .before .word-at .ensures) (c .word-at2 .ensures),
+)
 
 same-length-3 : tie.Need-same-length-3 Inv-loop μ-loop
 same-length-3 c = search needs
@@ -96,10 +100,13 @@ loop-less-2 : tie.Need-loop-less-2 Inv-loop μ-loop
 loop-less-2 c = search needs
 
 loop-again-2 : tie.Need-loop-again-2 Inv-loop μ-loop
-loop-again-2 c =
-    (simp length-set (c .before .before .before .before .before .loop .inv .0), ahead-byte
-    (c .before .before .before .before .before .loop .inv .1) (c .before .before .before .inside .ensures) (c .before .before .if1 .left)
-    (c .before .before .before .before .loop-test .taken) (omega arith))
+loop-again-2 c = (
+  simp length-set (c .before .before .before .before .before .loop .inv .0),
+  ahead-byte
+      (c .before .before .before .before .before .loop .inv .1) (c .before .before .before .inside .ensures)
+          (c .before .before .if1 .left)
+      (c .before .before .before .before .loop-test .taken) (omega arith),
+)
 
 same-length-4 : tie.Need-same-length-4 Inv-loop μ-loop
 same-length-4 c = search needs

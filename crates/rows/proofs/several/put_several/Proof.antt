@@ -28,7 +28,8 @@ same-length : tie.Need-same-length Inv-records μ-records
 same-length c = c .before .before .before .records .inv .same
 
 returns : tie.Need-returns Inv-records μ-records
-returns c = take-end (c .before .before .before .records .inv) (c .before .before .inside .ensures) (c .before .if1 .taken) (omega arith)
+returns c = take-end (c .before .before .before .records .inv) (c .before .before .inside .ensures) (c .before .if1 .taken)
+    (omega arith)
 
 same-length-2 : tie.Need-same-length-2 Inv-records μ-records
 same-length-2 c = c .before .before .before .before .records .inv .same
@@ -73,8 +74,10 @@ same-length-3 c = c .before .before .before .before .before .records .inv .same
 
 returns-3 : tie.Need-returns-3 Inv-records μ-records
 returns-3 c =
-    absurd (take-broken (c .before .before .before .before .before .records .inv) (c .before .before .before .before .inside .ensures)
-    (c .before .before .before .before .before .before .before .before .before .before .pre .1) (c .before .before .before .if1 .left)
+    absurd (take-broken (c .before .before .before .before .before .records .inv)
+        (c .before .before .before .before .inside .ensures)
+    (c .before .before .before .before .before .before .before .before .before .before .pre .1)
+        (c .before .before .before .if1 .left)
     (so-broken _ _ (c .before .before .step .ensures) (c .enum-told .given .1)))
 
 enum-known-step : tie.Need-enum-known-step Inv-records μ-records

@@ -7,16 +7,23 @@ use Rattle.writing.proofs.attached.write_attachment.Statement.{statemen
 use Rattle.writing.proofs.attached.write_attachment.Tie as tie
 
 write-copies-requires : tie.Need-write-copies-requires
-write-copies-requires c κs = (c .before .before .before .before .pre .0, c .before .before .before .before .pre .1, c .before .before .before .before .pre .2, c .before .before .before .before .pre .3, laid-to _ _ _ _ _ (c .before .before .before .before .pre .4 .laid) (omega (arith, c .before .before .before .before .pre .4 .ends)))
+write-copies-requires c κs = (c .before .before .before .before .pre .0, c .before .before .before .before .pre .1,
+    c .before .before .before .before .pre .2, c .before .before .before .before .pre .3, laid-to _ _ _ _ _
+    (c .before .before .before .before .pre .4 .laid) (omega (arith, c .before .before .before .before .pre .4 .ends)))
 
 write-at-requires : tie.Need-write-at-requires
-write-at-requires c κs = (own-end (c .before .before .before .before .before .before .before .before .pre .4) _ _ _ (c .before .before .before .write-copies .ensures), c .before .before .before .before .before .before .before .before .pre .4 .moved, omega (arith, c .before .before .before .before .before .before .before .before .pre .4 .ends, c .before .before .before .write-copies .kept))
+write-at-requires c κs = (own-end (c .before .before .before .before .before .before .before .before .pre .4) _ _ _
+    (c .before .before .before .write-copies .ensures),
+    c .before .before .before .before .before .before .before .before .pre .4 .moved, omega (arith,
+    c .before .before .before .before .before .before .before .before .pre .4 .ends,
+    c .before .before .before .write-copies .kept))
 
 same-length : tie.Need-same-length
 same-length c = search needs
 
 returns : tie.Need-returns
-returns c = wrote-attachment (c .before .before .before .before .before .before .before .before .before .before .before .pre .4) _ _ _ _ (c .before .before .before .before .before .before .write-copies .ensures) (c .before .before .write-at .ensures)
+returns c = wrote-attachment (c .before .before .before .before .before .before .before .before .before .before .before .pre .4)
+    _ _ _ _ (c .before .before .before .before .before .before .write-copies .ensures) (c .before .before .write-at .ensures)
 
 pub write-attachment-spec : {M : Type 1} → statement M
 write-attachment-spec =

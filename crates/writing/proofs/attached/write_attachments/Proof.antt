@@ -15,7 +15,8 @@ use Rattle.writing.proofs.attached.write_attachments.Tie as tie
 abbrev Inv-loop : tie.InvT-loop
 Inv-loop out₀ at image memo used chain fh first count i₀ own₀ p₀ out i own p =
     AttachmentsLeft image memo (part historyAt chain memo) used fh at
-    (attachmentBlocks image (part historyAt chain memo) (copiesIn memo used) fh (attachmentsIn memo first count)) out₀ count i own p out
+    (attachmentBlocks image (part historyAt chain memo) (copiesIn memo used) fh (attachmentsIn memo first count)) out₀ count i
+        own p out
 
 abbrev μ-loop : tie.MeasureT-loop
 μ-loop out₀ at image memo used chain fh first count i₀ own₀ p₀ out i own p = count - i
@@ -60,10 +61,16 @@ add-next-place : tie.Need-add-next-place Inv-loop μ-loop
 add-next-place c = search needs
 
 next-place-requires : tie.Need-next-place-requires Inv-loop μ-loop
-next-place-requires c κs = (c .before .before .before .before .before .before .before .before .pre .2, c .before .before .before .before .before .before .before .before .pre .3)
+next-place-requires c κs = (c .before .before .before .before .before .before .before .before .pre .2,
+    c .before .before .before .before .before .before .before .before .pre .3)
 
 write-attachment-requires : tie.Need-write-attachment-requires Inv-loop μ-loop
-write-attachment-requires c κs = (omega arith, next-end (c .before .before .before .before .before .before .loop .inv) (c .before .before .before .before .before .loop-test .taken), c .before .before .before .before .before .before .before .before .before .before .pre .1, c .before .before .before .before .before .before .before .before .before .before .pre .3, next-placing (c .before .before .before .before .before .before .loop .inv) (c .before .before .before .before .before .loop-test .taken) refl)
+write-attachment-requires c κs = (omega arith, next-end (c .before .before .before .before .before .before .loop .inv)
+    (c .before .before .before .before .before .loop-test .taken),
+    c .before .before .before .before .before .before .before .before .before .before .pre .1,
+    c .before .before .before .before .before .before .before .before .before .before .pre .3, next-placing
+    (c .before .before .before .before .before .before .loop .inv) (c .before .before .before .before .before .loop-test .taken)
+    refl)
 
 add-i : tie.Need-add-i Inv-loop μ-loop
 add-i c = search needs
@@ -72,7 +79,9 @@ loop-less : tie.Need-loop-less Inv-loop μ-loop
 loop-less c = search needs
 
 loop-again : tie.Need-loop-again Inv-loop μ-loop
-loop-again c = attachments-turn (c .before .before .before .before .before .before .before .before .before .loop .inv) (c .before .before .before .before .before .before .before .before .loop-test .taken) refl (c .before .before .before .before .next-place .ensures) (c .before .before .write-attachment .ensures) (search needs)
+loop-again c = attachments-turn (c .before .before .before .before .before .before .before .before .before .loop .inv)
+    (c .before .before .before .before .before .before .before .before .loop-test .taken) refl
+    (c .before .before .before .before .next-place .ensures) (c .before .before .write-attachment .ensures) (search needs)
 
 same-length : tie.Need-same-length Inv-loop μ-loop
 same-length c = search needs

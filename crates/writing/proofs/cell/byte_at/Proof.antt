@@ -22,7 +22,8 @@ shared-slice-read-result c = byte-settled _ _ (c .before .before .before .before
     (c .before .before .skip .ensures) (c .before .settle .ensures) .0
 
 returns : tie.Need-returns
-returns c = byte-settled _ _ (c .before .before .before .before .before .args .k) _ _ (c .before .before .before .before .before .args .i)
+returns c = byte-settled _ _ (c .before .before .before .before .before .args .k) _ _
+    (c .before .before .before .before .before .args .i)
     (c .before .before .before .before .before .pre .0) (c .before .before .skip .ensures) (c .before .settle .ensures) .1
 
 pub byte-at-spec : {M : Type 1} → statement M

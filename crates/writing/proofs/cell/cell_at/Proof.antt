@@ -9,18 +9,21 @@ use Rattle.writing.proofs.cell.cell_at.Tie as tie
 
 cell-here-requires : tie.Need-cell-here-requires
 cell-here-requires c κs = let r = ranges-here _ _ _ (c .before .before .before .before .before .before .before .pre .1)
-    in (c .before .before .before .before .before .before .before .pre .0, omega arith,
-    c .before .before .before .before .before .before .before .pre .3)
+    in (
+      c .before .before .before .before .before .before .before .pre .0,
+      omega arith,
+      c .before .before .before .before .before .before .before .pre .3,
+    )
 
 same-length : tie.Need-same-length
 same-length c = search needs
 
 returns : tie.Need-returns
-returns c = 
+returns c =
     let a = c .before .before .before .before .before .before .before .before .before .before .args in
     let e = take-here (a .image .now) (a .fragments .now) (a .k) (a .h .length)
-        (c .before .before .before .before .before .before .before .before .before .before .pre .1)
-        (c .before .before .before .before .if1 .taken) in
+    (c .before .before .before .before .before .before .before .before .before .before .pre .1)
+    (c .before .before .before .before .if1 .taken) in
     c .before .before .cell-here .ensures ∙ rw e
 
 cell-joined-requires : tie.Need-cell-joined-requires

@@ -13,7 +13,7 @@ add-copy-within : tie.Need-add-copy-within
 add-copy-within c = search needs
 
 copy-within-requires : tie.Need-copy-within-requires
-copy-within-requires c κs = 
+copy-within-requires c κs =
     let p = c .before .before .before .before .pre in
     let b = room-bytes (p .0) in
     let f = p .0 .fit in
@@ -37,7 +37,8 @@ add-out : tie.Need-add-out
 add-out c = search needs
 
 slice-write-out : tie.Need-slice-write-out
-slice-write-out c = let k = room-kept (c .before .before .before .before .before .before .before .before .before .before .before .pre .0)
+slice-write-out c = let k = room-kept
+    (c .before .before .before .before .before .before .before .before .before .before .before .pre .0)
     (c .before .before .before .if1 .taken) in omega arith
 
 same-length : tie.Need-same-length
@@ -51,7 +52,8 @@ returns c =
     let f = w .fit in
     let n = length-part (a .q) (a .h .length) s (omega arith) in
     cell-kept w (part (a .q) (a .h .length) s) (a .to) _ _ (c .before .before .before .if1 .taken) (omega arith)
-    (c .before .before .before .before .before .before .copy-within .ensures ∙ rw (part-in (a .q) (a .h .length) (a .h .first) (a .h .bytes) s f))
+    (c .before .before .before .before .before .before .copy-within .ensures ∙ rw (part-in (a .q) (a .h .length) (a .h .first)
+        (a .h .bytes) s f))
     (byte-in (a .q) (a .h .length) (a .h .inval) s (w .kept (c .before .before .before .if1 .taken)))
 
 same-length-2 : tie.Need-same-length-2

@@ -23,12 +23,16 @@ copy-joined-requires c κs =
     let f = w .fit in
     let e = c .before .skip .ensures in
     let n = size-past (a .h .first) (ahead (a .fragments .now) (a .k)) (omega arith) in
-    let b = room-bytes w in
-    (rw e (ranges-past (a .image .now) (a .h .first) (ahead (a .fragments .now) (a .k))
-        (c .before .before .before .before .before .pre .1)), rw e (omega arith), omega arith)
+    let b = room-bytes w in (
+      rw e (ranges-past (a .image .now) (a .h .first) (ahead (a .fragments .now) (a .k))
+          (c .before .before .before .before .before .pre .1)),
+      rw e (omega arith),
+      omega arith,
+    )
 
 byte-at-requires : tie.Need-byte-at-requires
-byte-at-requires c κs = let k = c .before .before .before .before .before .before .before .before .before .pre .0 .kept (c .if1 .taken)
+byte-at-requires c κs = let k = c .before .before .before .before .before .before .before .before .before .pre .0 .kept
+    (c .if1 .taken)
     in (c .before .before .before .before .before .before .before .before .before .pre .1, omega arith)
 
 cast-out : tie.Need-cast-out
@@ -41,7 +45,8 @@ add-out : tie.Need-add-out
 add-out c = search needs
 
 slice-write-out : tie.Need-slice-write-out
-slice-write-out c = let k = room-kept (c .before .before .before .before .before .before .before .before .before .before .before .pre .0)
+slice-write-out c = let k = room-kept
+    (c .before .before .before .before .before .before .before .before .before .before .before .pre .0)
     (c .before .before .if1 .taken) in omega arith
 
 same-length : tie.Need-same-length
@@ -54,15 +59,20 @@ returns c =
     let s = a .image .now in
     let fs = ahead (a .fragments .now) (a .k) in
     let n = length-take-le (a .h .length) (joined s fs)
-        (rw (joined-length s fs (c .before .before .before .before .before .before .before .before .before .before .before .pre .1))
-        (c .before .before .before .before .before .before .before .before .before .before .before .pre .2)) in
+    (rw (joined-length s fs (c .before .before .before .before .before .before .before .before .before .before .before .pre .1))
+    (c .before .before .before .before .before .before .before .before .before .before .before .pre .2)) in
     let e = joined-past s (a .h .first) fs
-        (c .before .before .before .before .before .before .before .before .before .before .before .pre .1) in
+    (c .before .before .before .before .before .before .before .before .before .before .before .pre .1) in
     cell-kept w (take (a .h .length) (joined s fs)) (a .to) _ _ (c .before .before .if1 .taken) (omega arith)
     (c .before .before .before .before .before .copy-joined .ensures ∙
-        rw (c .before .before .before .before .before .before .before .skip .ensures, e, take-in (a .h .length) (a .h .first)
-        (a .h .bytes) (joined s fs) (w .fit)))
-    (c .before .byte-at .ensures ∙ sym (getD-take (a .h .length) (joined s fs) (a .h .inval) 0 (w .kept (c .before .before .if1 .taken))))
+    rw (
+      c .before .before .before .before .before .before .before .skip .ensures,
+      e,
+      take-in (a .h .length) (a .h .first)
+          (a .h .bytes) (joined s fs) (w .fit),
+    ))
+    (c .before .byte-at .ensures ∙ sym (getD-take (a .h .length) (joined s fs) (a .h .inval) 0 (w .kept
+        (c .before .before .if1 .taken))))
 
 same-length-2 : tie.Need-same-length-2
 same-length-2 c = search needs
@@ -76,8 +86,12 @@ returns-2 c =
     let e = joined-past s (a .h .first) fs (c .before .before .before .before .before .before .before .before .before .pre .1) in
     cell-bare w (take (a .h .length) (joined s fs)) (a .to) _ (c .if1 .left)
     (c .before .before .before .copy-joined .ensures ∙
-        rw (c .before .before .before .before .before .skip .ensures, e, take-in (a .h .length) (a .h .first) (a .h .bytes) (joined s fs)
-        (w .fit)))
+    rw (
+      c .before .before .before .before .before .skip .ensures,
+      e,
+      take-in (a .h .length) (a .h .first) (a .h .bytes) (joined s fs)
+          (w .fit),
+    ))
 
 pub cell-joined-spec : {M : Type 1} → statement M
 cell-joined-spec =

@@ -53,15 +53,25 @@ returns c =
     let p = c .before .before .inval-position .ensures .is in
     record {
       shaped = record {
-        first = a; bytes = b; long = rw (d, e); keep = c .before .before .before .keeps-inval .ensures; inval = rw (d, p); bit = rw p;
+        first = a;
+        bytes = b;
+        long = rw (d, e);
+        keep = c .before .before .before .keeps-inval .ensures;
+        inval = rw (d, p);
+        bit = rw p;
         fit = omega arith;
         kept = λ q. let k = kept-within s g n (sym (c .before .before .before .keeps-inval .ensures) ∙ q) in omega arith;
         short = let x = c .before .before .before .before .before .samples-of .ensures .small in let y =
             c .before .before .before .before .inval-bytes-of .ensures .small in omega arith;
-        id = c .before .id-size .ensures .is; id-short = c .before .id-size .ensures .small;
+        id = c .before .id-size .ensures .is;
+        id-short = c .before .id-size .ensures .small;
         wide = c .width-of .ensures .is;
-        fitting = c .before .before .before .before .before .before .before .before .before .pre };
-      parent = refl; group = refl; channel = refl }
+        fitting = c .before .before .before .before .before .before .before .before .before .pre;
+      };
+      parent = refl;
+      group = refl;
+      channel = refl;
+    }
 
 pub shape-of-spec : {M : Type 1} → statement M
 shape-of-spec =

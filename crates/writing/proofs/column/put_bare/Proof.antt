@@ -31,13 +31,15 @@ shared-slice-read-copy-within c = search needs
 add-copy-within : tie.Need-add-copy-within Inv-loop μ-loop
 add-copy-within c =
     let p = c .before .before .before .before .before .before .before .before .pre in
-    let r = bare-room (c .before .before .before .before .loop .inv .0) (p .0) (p .3) (p .4) (c .before .before .before .loop-test .taken) (p .1) in
+    let r = bare-room (c .before .before .before .before .loop .inv .0) (p .0) (p .3) (p .4)
+        (c .before .before .before .loop-test .taken) (p .1) in
     omega arith
 
 copy-within-requires : tie.Need-copy-within-requires Inv-loop μ-loop
 copy-within-requires c κs =
     let p = c .before .before .before .before .before .before .before .before .pre in
-    bare-room (c .before .before .before .before .loop .inv .0) (p .0) (p .3) (p .4) (c .before .before .before .loop-test .taken) (p .1)
+    bare-room (c .before .before .before .before .loop .inv .0) (p .0) (p .3) (p .4)
+        (c .before .before .before .loop-test .taken) (p .1)
 
 add-to : tie.Need-add-to Inv-loop μ-loop
 add-to c =
@@ -56,7 +58,8 @@ loop-again : tie.Need-loop-again Inv-loop μ-loop
 loop-again c =
     let p = c .before .before .before .before .before .before .before .before .before .before .before .pre in
     let t = c .before .before .before .before .before .before in
-    (bare-turn (t .before .loop .inv .0) (p .0) (p .3) (p .4) (t .loop-test .taken) (p .1) (c .before .before .copy-within .ensures), search needs)
+    (bare-turn (t .before .loop .inv .0) (p .0) (p .3) (p .4) (t .loop-test .taken) (p .1)
+        (c .before .before .copy-within .ensures), search needs)
 
 same-length : tie.Need-same-length Inv-loop μ-loop
 same-length c = search needs

@@ -22,7 +22,8 @@ abbrev start : tie.After-data-kind Inv-loop μ-loop → tie.Start Inv-loop μ-lo
 start c = c .before .before .before .before .before .before
 
 column : (c : tie.After-data-kind Inv-loop μ-loop)
-  → Held (start c .args .image .now) (start c .args .size) (start c .args .e) (c .before .before .shape-of .result) (c .data-kind .result)
+    → Held (start c .args .image .now) (start c .args .size) (start c .args .e) (c .before .before .shape-of .result)
+        (c .data-kind .result)
     (c .before .per-full .result)
 column c = held (c .before .before .shape-of .ensures) (c .data-kind .ensures) (c .before .per-full .ensures)
 
@@ -41,12 +42,13 @@ abbrev places : tie.After-least Inv-loop μ-loop → ℕ → List ℕ
 places c n = take n (drop (turn c .before .loop .done) (start (turn c .before .before) .args .places .now))
 
 piece : (c : tie.After-least Inv-loop μ-loop)
-  → Piece (turn c .before .before .before .per-full .result) (turn c .before .loop .at) (turn c .before .loop .done) (c .least .result)
+    → Piece (turn c .before .before .before .per-full .result) (turn c .before .loop .at) (turn c .before .loop .done)
+        (c .least .result)
     (length (start (turn c .before .before) .args .places .now))
 piece c = piece-of _ _ _ _ _ (some (turn c)) (turn c .loop-test .taken) (c .least .ensures)
 
 places-are : (c : tie.After-least Inv-loop μ-loop)
-  → places c (turn c .before .loop .done + c .least .result - turn c .before .loop .done) ≡ places c (c .least .result)
+    → places c (turn c .before .loop .done + c .least .result - turn c .before .loop .done) ≡ places c (c .least .result)
 places-are c =
     let n : turn c .before .loop .done + c .least .result - turn c .before .loop .done ≡ c .least .result = omega arith in
     ap (places c) n
@@ -76,7 +78,8 @@ rem-least : tie.Need-rem-least Inv-loop μ-loop
 rem-least c = let z = some (c .before .before .before .before) in omega arith
 
 sub-least : tie.Need-sub-least Inv-loop μ-loop
-sub-least c = omega (arith, mod-lt (c .before .before .before .before .before .loop .at) (some (c .before .before .before .before)))
+sub-least c = omega (arith, mod-lt (c .before .before .before .before .before .loop .at) (some
+    (c .before .before .before .before)))
 
 sub-least-2 : tie.Need-sub-least-2 Inv-loop μ-loop
 sub-least-2 c = search needs
@@ -105,7 +108,8 @@ put-cells-requires c κs =
     let x = turn t .before in
     let k = column (x .before) in
     let p = piece t in
-    let r = due-room k (start (x .before) .pre) _ (x .loop .done) _ (x .loop .inv .0) (p .some) (p .within) (p .block) (places-are t) in
+    let r = due-room k (start (x .before) .pre) _ (x .loop .done) _ (x .loop .inv .0) (p .some) (p .within) (p .block)
+        (places-are t) in
     let b = c .before .before .before .before .before .begin .ensures .0 in
     let o = x .loop .inv .2 in
     (k .shape .shaped, r .0, omega arith)
@@ -131,10 +135,15 @@ loop-again c =
     let a = start (x .before) .args in
     let v = x .loop .inv in
     let p = piece t in
-    let b = c .before .before .before .before .before .before .before .before .begin .ensures in
-    (omega arith, omega arith, search needs,
-      so-far-turn (column (x .before)) (a .i) (a .places .now) (x .loop .at) (x .loop .done) (t .least .result) (a .out .now) (x .loop .out)
-        (v .3) (v .0) (p .some) (p .within) (v .2) (p .block) (places-are t) (b .0) (b .1) (c .before .before .put-cells .ensures))
+    let b = c .before .before .before .before .before .before .before .before .begin .ensures in (
+      omega arith,
+      omega arith,
+      search needs,
+      so-far-turn (column (x .before)) (a .i) (a .places .now) (x .loop .at) (x .loop .done) (t .least .result) (a .out .now)
+          (x .loop .out)
+          (v .3) (v .0) (p .some) (p .within) (v .2) (p .block) (places-are t) (b .0) (b .1)
+              (c .before .before .put-cells .ensures),
+    )
 
 same-length : tie.Need-same-length Inv-loop μ-loop
 same-length c = search needs
@@ -143,7 +152,8 @@ returns : tie.Need-returns Inv-loop μ-loop
 returns c =
     let x = c .before in
     let a = start (x .before) .args in
-    so-far-all (a .image .now) (a .size) (a .e) (a .i) (a .places .now) (x .loop .at) (a .out .now) (x .loop .out) (x .loop .inv .3) (omega arith)
+    so-far-all (a .image .now) (a .size) (a .e) (a .i) (a .places .now) (x .loop .at) (a .out .now) (x .loop .out)
+        (x .loop .inv .3) (omega arith)
 
 pub put-column-spec : {M : Type 1} → statement M
 put-column-spec =

@@ -10,7 +10,8 @@ abbrev start : tie.After-data-kind → tie.Start
 start c = c .before .before .before .before .before .before
 
 column : (c : tie.After-data-kind)
-  → Held (start c .args .image .now) (start c .args .size) (start c .args .e) (c .before .before .shape-of .result) (c .data-kind .result)
+    → Held (start c .args .image .now) (start c .args .size) (start c .args .e) (c .before .before .shape-of .result)
+        (c .data-kind .result)
     (c .before .per-full .result)
 column c = held (c .before .before .shape-of .ensures) (c .data-kind .ensures) (c .before .per-full .ensures)
 

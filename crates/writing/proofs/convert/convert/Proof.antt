@@ -7,7 +7,6 @@ use Rattle.writing.proofs.convert.convert.Statement.{statement}
 use Rattle.writing.proofs.convert.convert.Tie as tie
 use Rattle.writing.proofs.convert.convert.Reads as reads
 use Rattle.writing.proofs.convert.convert.Lts as lts
-use Rattle.placing.proofs.decide.clear.Reads as clear-reads
 use Rattle.writing.proofs.convert.finish.Reads as finish-reads
 use Rattle.placing.proofs.decide.decide.Reads as decide-reads
 
@@ -28,7 +27,9 @@ enum-known-decision-2 c = search needs
 
 -- src/convert.rt:112:17
 finish-requires : tie.Need-finish-requires
-finish-requires c κs = stands-timed _ (decides-done (c .before .before .before .before .before .before .before .before .before .before .before .before .before .before .before .before .before .decide .ensures) (c .before .before .before .before .before .before .before .decision2 .given .1))
+finish-requires c κs = stands-timed _ (decides-done
+    (c .before .before .before .before .before .before .before .before .before .before .before .before .before .before .before .before .before .decide .ensures)
+    (c .before .before .before .before .before .before .before .decision2 .given .1))
 
 -- src/convert.rt:113:13
 clear-requires : tie.Need-clear-requires
@@ -64,19 +65,32 @@ same-length-4 c = search needs
 
 -- src/convert.rt:99:1
 returns : tie.Need-returns
-returns c = let e = refused-left _ _ _ _ _ _ _ _ _ _ _ (decides-refused (c .before .before .before .before .before .before .before .before .before .before .before .decide .ensures) (c .before .decision .given .1)) in (e, promised-by _ _ _ _ (c .before .before .before .before .before .before .before .before .before .before .before .before .before .before .before .before .are-bytes .ensures) e)
+returns c = let e = refused-left _ _ _ _ _ _ _ _ _ _ _ (decides-refused
+    (c .before .before .before .before .before .before .before .before .before .before .before .decide .ensures)
+    (c .before .decision .given .1)) in (e, promised-by _ _ _ _
+    (c .before .before .before .before .before .before .before .before .before .before .before .before .before .before .before .before .are-bytes .ensures)
+    e)
 
 -- src/convert.rt:99:1
 same-length-5 : tie.Need-same-length-5
-same-length-5 c = cleared-source (decides-done (c .before .before .before .before .before .before .before .before .before .before .before .before .before .before .before .before .before .before .before .before .before .before .before .before .before .before .before .before .before .before .before .before .before .before .before .before .before .before .decide .ensures) (c .before .before .before .before .before .before .before .before .before .before .before .before .before .before .before .before .before .before .before .before .before .before .before .before .before .before .before .before .decision2 .given .1)) _ (c .before .before .before .before .before .before .before .before .before .before .before .before .before .before .clear .ensures)
+same-length-5 c = cleared-source (decides-done
+    (c .before .before .before .before .before .before .before .before .before .before .before .before .before .before .before .before .before .before .before .before .before .before .before .before .before .before .before .before .before .before .before .before .before .before .before .before .before .before .decide .ensures)
+    (c .before .before .before .before .before .before .before .before .before .before .before .before .before .before .before .before .before .before .before .before .before .before .before .before .before .before .before .before .decision2 .given .1))
+    _ (c .before .before .before .before .before .before .before .before .before .before .before .before .before .before .clear .ensures)
 
 -- src/convert.rt:99:1
 same-length-6 : tie.Need-same-length-6
-same-length-6 c = cleared-fragments (decides-done (c .before .before .before .before .before .before .before .before .before .before .before .before .before .before .before .before .before .before .before .before .before .before .before .before .before .before .before .before .before .before .before .before .before .before .before .before .before .before .decide .ensures) (c .before .before .before .before .before .before .before .before .before .before .before .before .before .before .before .before .before .before .before .before .before .before .before .before .before .before .before .before .decision2 .given .1)) _ (c .before .before .before .before .before .before .before .before .before .before .clear2 .ensures)
+same-length-6 c = cleared-fragments (decides-done
+    (c .before .before .before .before .before .before .before .before .before .before .before .before .before .before .before .before .before .before .before .before .before .before .before .before .before .before .before .before .before .before .before .before .before .before .before .before .before .before .decide .ensures)
+    (c .before .before .before .before .before .before .before .before .before .before .before .before .before .before .before .before .before .before .before .before .before .before .before .before .before .before .before .before .decision2 .given .1))
+    _ (c .before .before .before .before .before .before .before .before .before .before .clear2 .ensures)
 
 -- src/convert.rt:99:1
 same-length-7 : tie.Need-same-length-7
-same-length-7 c = cleared-columns (decides-done (c .before .before .before .before .before .before .before .before .before .before .before .before .before .before .before .before .before .before .before .before .before .before .before .before .before .before .before .before .before .before .before .before .before .before .before .before .before .before .decide .ensures) (c .before .before .before .before .before .before .before .before .before .before .before .before .before .before .before .before .before .before .before .before .before .before .before .before .before .before .before .before .decision2 .given .1)) _ (c .before .before .before .before .before .before .clear3 .ensures)
+same-length-7 c = cleared-columns (decides-done
+    (c .before .before .before .before .before .before .before .before .before .before .before .before .before .before .before .before .before .before .before .before .before .before .before .before .before .before .before .before .before .before .before .before .before .before .before .before .before .before .decide .ensures)
+    (c .before .before .before .before .before .before .before .before .before .before .before .before .before .before .before .before .before .before .before .before .before .before .before .before .before .before .before .before .decision2 .given .1))
+    _ (c .before .before .before .before .before .before .clear3 .ensures)
 
 -- src/convert.rt:99:1
 same-length-8 : tie.Need-same-length-8
@@ -92,7 +106,16 @@ same-length-10 c = search needs
 
 -- src/convert.rt:99:1
 returns-2 : tie.Need-returns-2
-returns-2 c = let e = done-left _ _ _ _ _ _ _ _ _ _ _ _ _ _ (decides-done (c .before .before .before .before .before .before .before .before .before .before .before .before .before .before .before .before .before .before .before .before .before .before .before .before .before .before .before .before .before .before .before .before .before .before .before .before .before .before .decide .ensures) (c .before .before .before .before .before .before .before .before .before .before .before .before .before .before .before .before .before .before .before .before .before .before .before .before .before .before .before .before .decision2 .given .1)) (c .before .before .before .before .before .before .before .before .before .before .before .before .before .before .before .before .before .before .before .before .finish .ensures) (c .before .before .before .before .before .before .before .before .before .before .before .before .before .before .clear .ensures) (c .before .before .before .before .before .before .before .before .before .before .clear2 .ensures) (c .before .before .before .before .before .before .clear3 .ensures) (c .before .before .clear4 .ensures) in (e, promised-by _ _ _ _ (c .before .before .before .before .before .before .before .before .before .before .before .before .before .before .before .before .before .before .before .before .before .before .before .before .before .before .before .before .before .before .before .before .before .before .before .before .before .before .before .before .before .before .before .are-bytes .ensures) e)
+returns-2 c = let e = done-left _ _ _ _ _ _ _ _ _ _ _ _ _ _ (decides-done
+    (c .before .before .before .before .before .before .before .before .before .before .before .before .before .before .before .before .before .before .before .before .before .before .before .before .before .before .before .before .before .before .before .before .before .before .before .before .before .before .decide .ensures)
+    (c .before .before .before .before .before .before .before .before .before .before .before .before .before .before .before .before .before .before .before .before .before .before .before .before .before .before .before .before .decision2 .given .1))
+    (c .before .before .before .before .before .before .before .before .before .before .before .before .before .before .before .before .before .before .before .before .finish .ensures)
+    (c .before .before .before .before .before .before .before .before .before .before .before .before .before .before .clear .ensures)
+    (c .before .before .before .before .before .before .before .before .before .before .clear2 .ensures)
+    (c .before .before .before .before .before .before .clear3 .ensures) (c .before .before .clear4 .ensures) in (e, promised-by
+    _ _ _ _
+    (c .before .before .before .before .before .before .before .before .before .before .before .before .before .before .before .before .before .before .before .before .before .before .before .before .before .before .before .before .before .before .before .before .before .before .before .before .before .before .before .before .before .before .before .are-bytes .ensures)
+    e)
 
 pub convert-spec : {M : Type 1} → statement M
 convert-spec =

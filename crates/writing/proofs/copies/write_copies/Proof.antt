@@ -13,13 +13,15 @@ use Rattle.writing.proofs.copies.write_copies.Tie as tie
 abbrev Inv-loop : tie.InvT-loop
 Inv-loop out₀ at image memo used chain fh from to i₀ p₀ out i p =
     CopiesLeft image memo (part historyAt chain memo) (copiesIn memo used) fh at
-    (copiedBlocks image (part historyAt chain memo) (copiesIn memo used) fh (part from (to - from) (copiesIn memo used))) out₀ to i p out
+    (copiedBlocks image (part historyAt chain memo) (copiesIn memo used) fh (part from (to - from) (copiesIn memo used))) out₀ to
+        i p out
 
 abbrev μ-loop : tie.MeasureT-loop
 μ-loop out₀ at image memo used chain fh from to i₀ p₀ out i p = to - i
 
 loop-holds : tie.Need-loop-holds Inv-loop μ-loop
-loop-holds c = copies-begin _ _ _ _ _ _ _ _ _ (c .before .before .before .pre .0) (c .before .before .before .pre .1) (c .before .before .before .pre .4)
+loop-holds c = copies-begin _ _ _ _ _ _ _ _ _ (c .before .before .before .pre .0) (c .before .before .before .pre .1)
+    (c .before .before .before .pre .4)
 
 mul-j : tie.Need-mul-j Inv-loop μ-loop
 mul-j c = search needs
@@ -51,7 +53,8 @@ loop-less : tie.Need-loop-less Inv-loop μ-loop
 loop-less c = search needs
 
 loop-again : tie.Need-loop-again Inv-loop μ-loop
-loop-again c = copies-turn (c .before .before .before .before .before .before .before .loop .inv) (c .before .before .before .before .before .before .loop-test .taken) (c .before .before .write-copy .ensures) (search needs)
+loop-again c = copies-turn (c .before .before .before .before .before .before .before .loop .inv)
+    (c .before .before .before .before .before .before .loop-test .taken) (c .before .before .write-copy .ensures) (search needs)
 
 same-length : tie.Need-same-length Inv-loop μ-loop
 same-length c = search needs

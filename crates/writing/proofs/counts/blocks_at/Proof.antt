@@ -64,15 +64,26 @@ word-requires-4 c κs = search needs
 
 -- src/counts.rt:77:9
 returns : tie.Need-returns
-returns c = blocks-alone _ _ _ _ (c .before .before .before .before .before .before .word .ensures) (c .before .before .before .before .before .word2 .ensures) (c .before .before .before .before .word3 .ensures) (c .before .before .before .width-of .ensures .is) (c .before .before .block-count .ensures) (c .before .word4 .ensures) (c .before .before .before .before .before .before .before .before .before .pre .1) (c .if1 .taken)
+returns c = blocks-alone _ _ _ _ (c .before .before .before .before .before .before .word .ensures)
+    (c .before .before .before .before .before .word2 .ensures) (c .before .before .before .before .word3 .ensures)
+    (c .before .before .before .width-of .ensures .is) (c .before .before .block-count .ensures) (c .before .word4 .ensures)
+    (c .before .before .before .before .before .before .before .before .before .pre .1) (c .if1 .taken)
 
 -- src/counts.rt:79:5
 add-result : tie.Need-add-result
-add-result c = let a = c .before .before .before .before .before .before .before .before .before .args in omega (arith, data-blocks (a .image .now) (a .size) (a .columns .now) (a .k) (c .before .before .before .before .before .before .word .ensures) (c .before .before .before .before .before .word2 .ensures) (c .before .before .before .before .word3 .ensures) (c .before .before .before .width-of .ensures .is) (c .before .before .block-count .ensures) (c .before .word4 .ensures), c .before .before .before .before .before .before .before .before .before .pre .1)
+add-result c = let a = c .before .before .before .before .before .before .before .before .before .args in omega (arith,
+    data-blocks (a .image .now) (a .size) (a .columns .now) (a .k)
+    (c .before .before .before .before .before .before .word .ensures)
+    (c .before .before .before .before .before .word2 .ensures) (c .before .before .before .before .word3 .ensures)
+    (c .before .before .before .width-of .ensures .is) (c .before .before .block-count .ensures) (c .before .word4 .ensures),
+    c .before .before .before .before .before .before .before .before .before .pre .1)
 
 -- src/counts.rt:66:1
 returns-2 : tie.Need-returns-2
-returns-2 c = blocks-signal _ _ _ _ (c .before .before .before .before .before .before .word .ensures) (c .before .before .before .before .before .word2 .ensures) (c .before .before .before .before .word3 .ensures) (c .before .before .before .width-of .ensures .is) (c .before .before .block-count .ensures) (c .before .word4 .ensures) (c .before .before .before .before .before .before .before .before .before .pre .1) (c .if1 .left)
+returns-2 c = blocks-signal _ _ _ _ (c .before .before .before .before .before .before .word .ensures)
+    (c .before .before .before .before .before .word2 .ensures) (c .before .before .before .before .word3 .ensures)
+    (c .before .before .before .width-of .ensures .is) (c .before .before .block-count .ensures) (c .before .word4 .ensures)
+    (c .before .before .before .before .before .before .before .before .before .pre .1) (c .if1 .left)
 
 pub blocks-at-spec : {M : Type 1} → statement M
 blocks-at-spec =

@@ -39,7 +39,8 @@ loop-less c = search needs
 
 -- src/counts.rt:89:5
 loop-again : tie.Need-loop-again Inv-loop μ-loop
-loop-again c = sum-more (c .before .before .loop .inv) (c .before .loop-test .taken) (c .blocks-at .ensures .is) (c .blocks-at .ensures .few)
+loop-again c = sum-more (c .before .before .loop .inv) (c .before .loop-test .taken) (c .blocks-at .ensures .is)
+    (c .blocks-at .ensures .few)
 
 -- src/counts.rt:83:1
 returns : tie.Need-returns Inv-loop μ-loop

@@ -27,11 +27,13 @@ is-storage-requires c κs = search needs
 
 -- src/counts.rt:17:13
 returns : tie.Need-returns
-returns c = group-storage _ _ _ (c .before .before .before .before .word .ensures) (c .before .before .before .if1 .taken) (c .before .before .word2 .ensures) (c .before .is-storage .ensures) (c .if2 .taken)
+returns c = group-storage _ _ _ (c .before .before .before .before .word .ensures) (c .before .before .before .if1 .taken)
+    (c .before .before .word2 .ensures) (c .before .is-storage .ensures) (c .if2 .taken)
 
 -- src/counts.rt:19:9
 returns-2 : tie.Need-returns-2
-returns-2 c = group-counts _ _ _ (c .before .before .before .before .word .ensures) (c .before .before .before .if1 .taken) (c .before .before .word2 .ensures) (c .before .is-storage .ensures) (c .if2 .left)
+returns-2 c = group-counts _ _ _ (c .before .before .before .before .word .ensures) (c .before .before .before .if1 .taken)
+    (c .before .before .word2 .ensures) (c .before .is-storage .ensures) (c .if2 .left)
 
 -- src/counts.rt:10:1
 returns-3 : tie.Need-returns-3

@@ -39,7 +39,8 @@ loop-less c = search needs
 
 -- src/counts.rt:58:5
 loop-again : tie.Need-loop-again Inv-loop μ-loop
-loop-again c = sum-more (c .before .before .loop .inv) (c .before .loop-test .taken) (c .time-at .ensures .is) (c .time-at .ensures .few)
+loop-again c = sum-more (c .before .before .loop .inv) (c .before .loop-test .taken) (c .time-at .ensures .is)
+    (c .time-at .ensures .few)
 
 -- src/counts.rt:51:1
 returns : tie.Need-returns Inv-loop μ-loop

@@ -24,20 +24,24 @@ loop-holds : tie.Need-loop-holds Inv-loop μ-loop
 loop-holds c = (record { ranges = search needs; enough = search needs; room = search needs; bytes = refl }, refl)
 
 next-requires : tie.Need-next-requires Inv-loop μ-loop
-next-requires c κs = copying-next (c .before .before .before .loop .inv .0) (c .before .before .loop-test .taken) (c .if1 .taken) .0
+next-requires c κs = copying-next (c .before .before .before .loop .inv .0) (c .before .before .loop-test .taken)
+    (c .if1 .taken) .0
 
 loop-less : tie.Need-loop-less Inv-loop μ-loop
 loop-less c =
     let e = next-at (c .before .before .before .before .before .before .before .before .args .fragments .now)
-        (c .before .before .before .before .loop .k) (c .next .ensures) in
+    (c .before .before .before .before .loop .k) (c .next .ensures) in
     let w = copying-next (c .before .before .before .before .loop .inv .0) (c .before .before .before .loop-test .taken)
-        (c .before .if1 .taken) .0 in
+    (c .before .if1 .taken) .0 in
     omega arith
 
 loop-again : tie.Need-loop-again Inv-loop μ-loop
-loop-again c = (rw (c .next .ensures)
-    (copying-next (c .before .before .before .before .loop .inv .0) (c .before .before .before .loop-test .taken)
-    (c .before .if1 .taken) .1), c .before .before .before .before .loop .inv .1)
+loop-again c = (
+  rw (c .next .ensures)
+      (copying-next (c .before .before .before .before .loop .inv .0) (c .before .before .before .loop-test .taken)
+      (c .before .if1 .taken) .1),
+  c .before .before .before .before .loop .inv .1,
+)
 
 least-requires : tie.Need-least-requires Inv-loop μ-loop
 least-requires c κs = search needs
@@ -50,14 +54,14 @@ onward-requires c κs =
     let h = ranges-here _ _ _ (c .before .before .before .before .before .before .before .before .loop .inv .0 .ranges) in
     let m = c .before .before .before .before .least .ensures in
     let b = min-le-right (c .before .before .before .before .before .before .before .before .loop .left)
-        (c .before .before .before .before .before .before .before .before .loop .k .left) in
+    (c .before .before .before .before .before .before .before .before .loop .k .left) in
     (omega arith, omega arith)
 
 add-to : tie.Need-add-to Inv-loop μ-loop
 add-to c =
     let m = c .before .before .before .before .before .least .ensures in
     let a = min-le-left (c .before .before .before .before .before .before .before .before .before .loop .left)
-        (c .before .before .before .before .before .before .before .before .before .loop .k .left) in
+    (c .before .before .before .before .before .before .before .before .before .loop .k .left) in
     let r = c .before .before .before .before .before .before .before .before .before .loop .inv .0 .room in
     omega arith
 
@@ -65,30 +69,32 @@ sub-left : tie.Need-sub-left Inv-loop μ-loop
 sub-left c =
     let m = c .before .before .before .before .before .least .ensures in
     let a = min-le-left (c .before .before .before .before .before .before .before .before .before .loop .left)
-        (c .before .before .before .before .before .before .before .before .before .loop .k .left) in
+    (c .before .before .before .before .before .before .before .before .before .loop .k .left) in
     omega arith
 
 loop-less-2 : tie.Need-loop-less-2 Inv-loop μ-loop
 loop-less-2 c =
     let m = c .before .before .before .before .before .least .ensures in
     let a = min-le-left (c .before .before .before .before .before .before .before .before .before .loop .left)
-        (c .before .before .before .before .before .before .before .before .before .loop .k .left) in
+    (c .before .before .before .before .before .before .before .before .before .loop .k .left) in
     let e = moved-at _ _ (c .onward .ensures) in
     let p = some-least (c .before .before .before .before .before .before .before .before .before .loop .left)
-        (c .before .before .before .before .before .before .before .before .before .loop .k .left)
-        (c .before .before .before .before .before .before .before .before .loop-test .taken) (omega arith) in
+    (c .before .before .before .before .before .before .before .before .before .loop .k .left)
+    (c .before .before .before .before .before .before .before .before .loop-test .taken) (omega arith) in
     omega arith
 
 loop-again-2 : tie.Need-loop-again-2 Inv-loop μ-loop
 loop-again-2 c =
     let m = c .before .before .before .before .before .least .ensures in
     let a = min-le-left (c .before .before .before .before .before .before .before .before .before .loop .left)
-        (c .before .before .before .before .before .before .before .before .before .loop .k .left) in
+    (c .before .before .before .before .before .before .before .before .before .loop .k .left) in
     let b = min-le-right (c .before .before .before .before .before .before .before .before .before .loop .left)
-        (c .before .before .before .before .before .before .before .before .before .loop .k .left) in
-    (rw (c .onward .ensures)
-        (copying-piece _ (c .before .before .before .before .before .before .before .before .before .loop .inv .0) (omega arith)
-        (omega arith) (c .before .before .before .copy .ensures) (search needs)), search needs)
+    (c .before .before .before .before .before .before .before .before .before .loop .k .left) in (
+      rw (c .onward .ensures)
+          (copying-piece _ (c .before .before .before .before .before .before .before .before .before .loop .inv .0) (omega arith)
+          (omega arith) (c .before .before .before .copy .ensures) (search needs)),
+      search needs,
+    )
 
 same-length : tie.Need-same-length Inv-loop μ-loop
 same-length c = search needs

@@ -24,7 +24,7 @@ next-requires c κs = settling-next (c .before .before .loop .inv) (c .if1 .take
 loop-less : tie.Need-loop-less Inv-loop μ-loop
 loop-less c =
     let e = next-at (c .before .before .before .before .before .args .fragments .now) (c .before .before .before .loop .k)
-        (c .next .ensures) in
+    (c .next .ensures) in
     let w = settling-next (c .before .before .before .loop .inv) (c .before .if1 .taken) .0 in
     omega arith
 

@@ -27,12 +27,13 @@ next-requires c κs = more-words _ _ _ (c .before .before .before .loop .inv .en
 loop-less : tie.Need-loop-less Inv-loop μ-loop
 loop-less c =
     let e = next-at (c .before .before .before .before .before .before .before .args .fragments .now)
-        (c .before .before .before .before .loop .k) (c .next .ensures) in
+    (c .before .before .before .before .loop .k) (c .next .ensures) in
     let w = more-words _ _ _ (c .before .before .before .before .loop .inv .enough) (c .before .before .if1 .taken) in
     omega arith
 
 loop-again : tie.Need-loop-again Inv-loop μ-loop
-loop-again c = rw (c .next .ensures) (skipping-next (c .before .before .before .before .loop .inv) (c .before .before .if1 .taken))
+loop-again c = rw (c .next .ensures) (skipping-next (c .before .before .before .before .loop .inv)
+    (c .before .before .if1 .taken))
 
 onward-requires : tie.Need-onward-requires Inv-loop μ-loop
 onward-requires c κs = let h = ranges-here _ _ _ (c .before .before .loop .inv .ranges) in (omega arith, omega arith)

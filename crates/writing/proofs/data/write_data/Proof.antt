@@ -18,8 +18,10 @@ same-length c = search needs
 
 returns : tie.Need-returns
 returns c =
-    let d = c .before .before .before .before .before .before .before .before .before .before .before .before .before .before .pre in
-    filled-wrote d (c .before .before .before .before .before .before .fill-data .ensures) (c .before .before .write-between .ensures)
+    let d = c .before .before .before .before .before .before .before .before .before .before .before .before .before .before .pre
+        in
+    filled-wrote d (c .before .before .before .before .before .before .fill-data .ensures)
+        (c .before .before .write-between .ensures)
 
 pub write-data-spec : {M : Type 1} → statement M
 write-data-spec = tie.close (tie.spec fill-data-requires write-between-requires same-length returns)

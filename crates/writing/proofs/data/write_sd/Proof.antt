@@ -25,18 +25,36 @@ write-signal-requires : tie.Need-write-signal-requires
 write-signal-requires c κs = search needs
 
 add-result : tie.Need-add-result
-add-result c = let r = sd-room (c .before .before .before .before .before .before .before .before .before .before .before .before .args .image .now) (c .before .before .before .before .before .before .before .before .before .before .before .before .args .fragments .now) (c .before .before .before .before .before .before .before .before .before .before .before .before .args .sd) _ (c .before .before .before .before .before .before .before .before .before .before .before .before .args .out .now) (c .before .before .before .before .before .before .before .before .before .before .before .before .pre .1) (c .before .before .before .before .before .before .before .before .joined-size .ensures) (omega arith) (omega arith) in omega arith
+add-result c = let r = sd-room
+    (c .before .before .before .before .before .before .before .before .before .before .before .before .args .image .now)
+    (c .before .before .before .before .before .before .before .before .before .before .before .before .args .fragments .now)
+    (c .before .before .before .before .before .before .before .before .before .before .before .before .args .sd) _
+    (c .before .before .before .before .before .before .before .before .before .before .before .before .args .out .now)
+    (c .before .before .before .before .before .before .before .before .before .before .before .before .pre .1)
+    (c .before .before .before .before .before .before .before .before .joined-size .ensures) (omega arith) (omega arith) in
+    omega arith
 
 add-result-2 : tie.Need-add-result-2
-add-result-2 c = let r = sd-room (c .before .before .before .before .before .before .before .before .before .before .before .before .args .image .now) (c .before .before .before .before .before .before .before .before .before .before .before .before .args .fragments .now) (c .before .before .before .before .before .before .before .before .before .before .before .before .args .sd) _ (c .before .before .before .before .before .before .before .before .before .before .before .before .args .out .now) (c .before .before .before .before .before .before .before .before .before .before .before .before .pre .1) (c .before .before .before .before .before .before .before .before .joined-size .ensures) (omega arith) (omega arith) in omega arith
+add-result-2 c = let r = sd-room
+    (c .before .before .before .before .before .before .before .before .before .before .before .before .args .image .now)
+    (c .before .before .before .before .before .before .before .before .before .before .before .before .args .fragments .now)
+    (c .before .before .before .before .before .before .before .before .before .before .before .before .args .sd) _
+    (c .before .before .before .before .before .before .before .before .before .before .before .before .args .out .now)
+    (c .before .before .before .before .before .before .before .before .before .before .before .before .pre .1)
+    (c .before .before .before .before .before .before .before .before .joined-size .ensures) (omega arith) (omega arith) in
+    omega arith
 
 same-length : tie.Need-same-length
 same-length c = search needs
 
 returns : tie.Need-returns
-returns c = 
-    sd-wrote _ _ _ _ _ (c .before .before .before .before .before .before .before .before .before .before .before .before .pre .1) (c .before .before .before .before .before .before .before .before .joined-size .ensures) (omega arith) (omega arith) _ (c .before .before .before .before .before .before .before .before .before .before .before .before .pre .0) (c .before .before .before .before .before .before .gap .ensures)
-      (lent-is _ _ _ _ (c .before .before .write-signal .ensures))
+returns c =
+    sd-wrote _ _ _ _ _
+        (c .before .before .before .before .before .before .before .before .before .before .before .before .pre .1)
+        (c .before .before .before .before .before .before .before .before .joined-size .ensures) (omega arith) (omega arith) _
+        (c .before .before .before .before .before .before .before .before .before .before .before .before .pre .0)
+        (c .before .before .before .before .before .before .gap .ensures)
+    (lent-is _ _ _ _ (c .before .before .write-signal .ensures))
 
 pub write-sd-spec : {M : Type 1} → statement M
 write-sd-spec =

@@ -23,7 +23,8 @@ add-b : tie.Need-add-b
 add-b c = let h = c .before .before .before .before .before .before .before .pre .0 (c .before .before .if1 .left) in omega arith
 
 mul-write-sd : tie.Need-mul-write-sd
-mul-write-sd c = let h = c .before .before .before .before .before .before .before .before .pre .0 (c .before .before .before .if1 .left) in omega arith
+mul-write-sd c = let h = c .before .before .before .before .before .before .before .before .pre .0
+    (c .before .before .before .if1 .left) in omega arith
 
 sub-write-sd : tie.Need-sub-write-sd
 sub-write-sd c = search needs
@@ -32,18 +33,21 @@ part-write-sd-start : tie.Need-part-write-sd-start
 part-write-sd-start c = search needs
 
 part-write-sd-end : tie.Need-part-write-sd-end
-part-write-sd-end c = let h = c .before .before .before .before .before .before .before .before .pre .0 (c .before .before .before .if1 .left) in omega arith
+part-write-sd-end c = let h = c .before .before .before .before .before .before .before .before .pre .0
+    (c .before .before .before .if1 .left) in omega arith
 
 write-sd-requires : tie.Need-write-sd-requires
 unfolding signalWords part
-write-sd-requires c κs = signal-room _ _ _ (c .before .before .before .before .if1 .left) _ _ (c .before .before .before .before .before .before .before .before .before .pre .1)
+write-sd-requires c κs = signal-room _ _ _ (c .before .before .before .before .if1 .left) _ _
+    (c .before .before .before .before .before .before .before .before .before .pre .1)
 
 same-length : tie.Need-same-length
 same-length c = search needs
 
 returns-2 : tie.Need-returns-2
 unfolding signalWords part
-returns-2 c = signal-wrote _ _ _ (c .before .before .before .before .before .before .before .if1 .left) (c .before .before .write-sd .ensures)
+returns-2 c = signal-wrote _ _ _ (c .before .before .before .before .before .before .before .if1 .left)
+    (c .before .before .write-sd .ensures)
 
 pub write-signal-of-spec : {M : Type 1} → statement M
 write-signal-of-spec =

@@ -29,7 +29,8 @@ first-history-requires c κs = search needs
 
 -- src/file.rt:68:9
 next-place-requires : tie.Need-next-place-requires
-next-place-requires c κs = few-attachments (c .before .before .before .before .before .before .before .before .before .before .pre .0)
+next-place-requires c κs = few-attachments
+    (c .before .before .before .before .before .before .before .before .before .before .pre .0)
 
 -- src/file.rt:69:9
 comment-of-requires : tie.Need-comment-of-requires
@@ -37,28 +38,53 @@ comment-of-requires c κs = search needs
 
 -- src/file.rt:70:9
 write-front-requires : tie.Need-write-front-requires
-write-front-requires c κs = front-room (c .before .before .before .before .before .before .before .before .before .before .before .before .before .pre .0) (c .before .before .before .before .before .before .before .before .before .before .before .before .before .args .out .now) (c .before .before .before .before .before .before .before .before .before .before .before .before .before .pre .1)
+write-front-requires c κs = front-room
+    (c .before .before .before .before .before .before .before .before .before .before .before .before .before .pre .0)
+    (c .before .before .before .before .before .before .before .before .before .before .before .before .before .args .out .now)
+    (c .before .before .before .before .before .before .before .before .before .before .before .before .before .pre .1)
 
 -- src/file.rt:71:9
 write-copies-requires : tie.Need-write-copies-requires
 write-copies-requires c κs =
-    let s = c .before .before .before .before .before .before .before .before .before .before .before .before .before .before .before .before .before .pre .0 in
-    let b1 = front-done s (c .before .before .before .before .before .before .before .before .before .before .before .before .before .before .before .before .before .pre .1) (front-is s (c .before .before .before .before .before .before .before .before .first-column .ensures) (c .before .before .before .before .before .before .before .first-history .ensures) (c .before .before .before .before .before .before .next-place .ensures) (c .before .before .before .before .before .comment-of .ensures)) (c .before .before .before .write-front .ensures .1) in
+    let s = c .before .before .before .before .before .before .before .before .before .before .before .before .before .before .before .before .before .pre .0
+        in
+    let b1 = front-done s
+        (c .before .before .before .before .before .before .before .before .before .before .before .before .before .before .before .before .before .pre .1)
+        (front-is s (c .before .before .before .before .before .before .before .before .first-column .ensures)
+        (c .before .before .before .before .before .before .before .first-history .ensures)
+        (c .before .before .before .before .before .before .next-place .ensures)
+        (c .before .before .before .before .before .comment-of .ensures)) (c .before .before .before .write-front .ensures .1) in
     history-asks s _ b1
 
 -- src/file.rt:72:9
 write-history-requires : tie.Need-write-history-requires
 write-history-requires c κs =
-    let s = c .before .before .before .before .before .before .before .before .before .before .before .before .before .before .before .before .before .before .before .before .before .pre .0 in
-    let b1 = front-done s (c .before .before .before .before .before .before .before .before .before .before .before .before .before .before .before .before .before .before .before .before .before .pre .1) (front-is s (c .before .before .before .before .before .before .before .before .before .before .before .before .first-column .ensures) (c .before .before .before .before .before .before .before .before .before .before .before .first-history .ensures) (c .before .before .before .before .before .before .before .before .before .before .next-place .ensures) (c .before .before .before .before .before .before .before .before .before .comment-of .ensures)) (c .before .before .before .before .before .before .before .write-front .ensures .1) in
+    let s = c .before .before .before .before .before .before .before .before .before .before .before .before .before .before .before .before .before .before .before .before .before .pre .0
+        in
+    let b1 = front-done s
+        (c .before .before .before .before .before .before .before .before .before .before .before .before .before .before .before .before .before .before .before .before .before .pre .1)
+        (front-is s
+        (c .before .before .before .before .before .before .before .before .before .before .before .before .first-column .ensures)
+        (c .before .before .before .before .before .before .before .before .before .before .before .first-history .ensures)
+        (c .before .before .before .before .before .before .before .before .before .before .next-place .ensures)
+        (c .before .before .before .before .before .before .before .before .before .comment-of .ensures))
+        (c .before .before .before .before .before .before .before .write-front .ensures .1) in
     let b2 = history-done s _ b1 (c .before .before .before .write-copies .ensures) in
     new-asks s _ b2
 
 -- src/file.rt:73:9
 write-copies-requires-2 : tie.Need-write-copies-requires-2
 write-copies-requires-2 c κs =
-    let s = c .before .before .before .before .before .before .before .before .before .before .before .before .before .before .before .before .before .before .before .before .before .before .before .before .before .pre .0 in
-    let b1 = front-done s (c .before .before .before .before .before .before .before .before .before .before .before .before .before .before .before .before .before .before .before .before .before .before .before .before .before .pre .1) (front-is s (c .before .before .before .before .before .before .before .before .before .before .before .before .before .before .before .before .first-column .ensures) (c .before .before .before .before .before .before .before .before .before .before .before .before .before .before .before .first-history .ensures) (c .before .before .before .before .before .before .before .before .before .before .before .before .before .before .next-place .ensures) (c .before .before .before .before .before .before .before .before .before .before .before .before .before .comment-of .ensures)) (c .before .before .before .before .before .before .before .before .before .before .before .write-front .ensures .1) in
+    let s = c .before .before .before .before .before .before .before .before .before .before .before .before .before .before .before .before .before .before .before .before .before .before .before .before .before .pre .0
+        in
+    let b1 = front-done s
+        (c .before .before .before .before .before .before .before .before .before .before .before .before .before .before .before .before .before .before .before .before .before .before .before .before .before .pre .1)
+        (front-is s
+        (c .before .before .before .before .before .before .before .before .before .before .before .before .before .before .before .before .first-column .ensures)
+        (c .before .before .before .before .before .before .before .before .before .before .before .before .before .before .before .first-history .ensures)
+        (c .before .before .before .before .before .before .before .before .before .before .before .before .before .before .next-place .ensures)
+        (c .before .before .before .before .before .before .before .before .before .before .before .before .before .comment-of .ensures))
+        (c .before .before .before .before .before .before .before .before .before .before .before .write-front .ensures .1) in
     let b2 = history-done s _ b1 (c .before .before .before .before .before .before .before .write-copies .ensures) in
     let b3 = new-done s _ b2 (c .before .before .before .write-history .ensures) in
     columns-asks s _ b3
@@ -66,9 +92,19 @@ write-copies-requires-2 c κs =
 -- src/file.rt:74:9
 write-structure-requires : tie.Need-write-structure-requires
 write-structure-requires c κs =
-    let s = c .before .before .before .before .before .before .before .before .before .before .before .before .before .before .before .before .before .before .before .before .before .before .before .before .before .before .before .before .before .pre .0 in
-    let b1 = front-done s (c .before .before .before .before .before .before .before .before .before .before .before .before .before .before .before .before .before .before .before .before .before .before .before .before .before .before .before .before .before .pre .1) (front-is s (c .before .before .before .before .before .before .before .before .before .before .before .before .before .before .before .before .before .before .before .before .first-column .ensures) (c .before .before .before .before .before .before .before .before .before .before .before .before .before .before .before .before .before .before .before .first-history .ensures) (c .before .before .before .before .before .before .before .before .before .before .before .before .before .before .before .before .before .before .next-place .ensures) (c .before .before .before .before .before .before .before .before .before .before .before .before .before .before .before .before .before .comment-of .ensures)) (c .before .before .before .before .before .before .before .before .before .before .before .before .before .before .before .write-front .ensures .1) in
-    let b2 = history-done s _ b1 (c .before .before .before .before .before .before .before .before .before .before .before .write-copies .ensures) in
+    let s = c .before .before .before .before .before .before .before .before .before .before .before .before .before .before .before .before .before .before .before .before .before .before .before .before .before .before .before .before .before .pre .0
+        in
+    let b1 = front-done s
+        (c .before .before .before .before .before .before .before .before .before .before .before .before .before .before .before .before .before .before .before .before .before .before .before .before .before .before .before .before .before .pre .1)
+        (front-is s
+        (c .before .before .before .before .before .before .before .before .before .before .before .before .before .before .before .before .before .before .before .before .first-column .ensures)
+        (c .before .before .before .before .before .before .before .before .before .before .before .before .before .before .before .before .before .before .before .first-history .ensures)
+        (c .before .before .before .before .before .before .before .before .before .before .before .before .before .before .before .before .before .before .next-place .ensures)
+        (c .before .before .before .before .before .before .before .before .before .before .before .before .before .before .before .before .before .comment-of .ensures))
+        (c .before .before .before .before .before .before .before .before .before .before .before .before .before .before .before .write-front .ensures .1)
+        in
+    let b2 = history-done s _ b1
+        (c .before .before .before .before .before .before .before .before .before .before .before .write-copies .ensures) in
     let b3 = new-done s _ b2 (c .before .before .before .before .before .before .before .write-history .ensures) in
     let b4 = columns-done s _ b3 (c .before .before .before .write-copies2 .ensures) in
     structure-asks s _ b4
@@ -76,10 +112,22 @@ write-structure-requires c κs =
 -- src/file.rt:75:9
 write-data-requires : tie.Need-write-data-requires
 write-data-requires c κs =
-    let s = c .before .before .before .before .before .before .before .before .before .before .before .before .before .before .before .before .before .before .before .before .before .before .before .before .before .before .before .before .before .before .before .before .before .pre .0 in
-    let b1 = front-done s (c .before .before .before .before .before .before .before .before .before .before .before .before .before .before .before .before .before .before .before .before .before .before .before .before .before .before .before .before .before .before .before .before .before .pre .1) (front-is s (c .before .before .before .before .before .before .before .before .before .before .before .before .before .before .before .before .before .before .before .before .before .before .before .before .first-column .ensures) (c .before .before .before .before .before .before .before .before .before .before .before .before .before .before .before .before .before .before .before .before .before .before .before .first-history .ensures) (c .before .before .before .before .before .before .before .before .before .before .before .before .before .before .before .before .before .before .before .before .before .before .next-place .ensures) (c .before .before .before .before .before .before .before .before .before .before .before .before .before .before .before .before .before .before .before .before .before .comment-of .ensures)) (c .before .before .before .before .before .before .before .before .before .before .before .before .before .before .before .before .before .before .before .write-front .ensures .1) in
-    let b2 = history-done s _ b1 (c .before .before .before .before .before .before .before .before .before .before .before .before .before .before .before .write-copies .ensures) in
-    let b3 = new-done s _ b2 (c .before .before .before .before .before .before .before .before .before .before .before .write-history .ensures) in
+    let s = c .before .before .before .before .before .before .before .before .before .before .before .before .before .before .before .before .before .before .before .before .before .before .before .before .before .before .before .before .before .before .before .before .before .pre .0
+        in
+    let b1 = front-done s
+        (c .before .before .before .before .before .before .before .before .before .before .before .before .before .before .before .before .before .before .before .before .before .before .before .before .before .before .before .before .before .before .before .before .before .pre .1)
+        (front-is s
+        (c .before .before .before .before .before .before .before .before .before .before .before .before .before .before .before .before .before .before .before .before .before .before .before .before .first-column .ensures)
+        (c .before .before .before .before .before .before .before .before .before .before .before .before .before .before .before .before .before .before .before .before .before .before .before .first-history .ensures)
+        (c .before .before .before .before .before .before .before .before .before .before .before .before .before .before .before .before .before .before .before .before .before .before .next-place .ensures)
+        (c .before .before .before .before .before .before .before .before .before .before .before .before .before .before .before .before .before .before .before .before .before .comment-of .ensures))
+        (c .before .before .before .before .before .before .before .before .before .before .before .before .before .before .before .before .before .before .before .write-front .ensures .1)
+        in
+    let b2 = history-done s _ b1
+        (c .before .before .before .before .before .before .before .before .before .before .before .before .before .before .before .write-copies .ensures)
+        in
+    let b3 = new-done s _ b2
+        (c .before .before .before .before .before .before .before .before .before .before .before .write-history .ensures) in
     let b4 = columns-done s _ b3 (c .before .before .before .before .before .before .before .write-copies2 .ensures) in
     let b5 = structure-done s _ b4 (c .before .before .before .write-structure .ensures) in
     data-asks s _ b5
@@ -87,11 +135,25 @@ write-data-requires c κs =
 -- src/file.rt:76:9
 write-attachments-requires : tie.Need-write-attachments-requires
 write-attachments-requires c κs =
-    let s = c .before .before .before .before .before .before .before .before .before .before .before .before .before .before .before .before .before .before .before .before .before .before .before .before .before .before .before .before .before .before .before .before .before .before .before .before .before .pre .0 in
-    let b1 = front-done s (c .before .before .before .before .before .before .before .before .before .before .before .before .before .before .before .before .before .before .before .before .before .before .before .before .before .before .before .before .before .before .before .before .before .before .before .before .before .pre .1) (front-is s (c .before .before .before .before .before .before .before .before .before .before .before .before .before .before .before .before .before .before .before .before .before .before .before .before .before .before .before .before .first-column .ensures) (c .before .before .before .before .before .before .before .before .before .before .before .before .before .before .before .before .before .before .before .before .before .before .before .before .before .before .before .first-history .ensures) (c .before .before .before .before .before .before .before .before .before .before .before .before .before .before .before .before .before .before .before .before .before .before .before .before .before .before .next-place .ensures) (c .before .before .before .before .before .before .before .before .before .before .before .before .before .before .before .before .before .before .before .before .before .before .before .before .before .comment-of .ensures)) (c .before .before .before .before .before .before .before .before .before .before .before .before .before .before .before .before .before .before .before .before .before .before .before .write-front .ensures .1) in
-    let b2 = history-done s _ b1 (c .before .before .before .before .before .before .before .before .before .before .before .before .before .before .before .before .before .before .before .write-copies .ensures) in
-    let b3 = new-done s _ b2 (c .before .before .before .before .before .before .before .before .before .before .before .before .before .before .before .write-history .ensures) in
-    let b4 = columns-done s _ b3 (c .before .before .before .before .before .before .before .before .before .before .before .write-copies2 .ensures) in
+    let s = c .before .before .before .before .before .before .before .before .before .before .before .before .before .before .before .before .before .before .before .before .before .before .before .before .before .before .before .before .before .before .before .before .before .before .before .before .before .pre .0
+        in
+    let b1 = front-done s
+        (c .before .before .before .before .before .before .before .before .before .before .before .before .before .before .before .before .before .before .before .before .before .before .before .before .before .before .before .before .before .before .before .before .before .before .before .before .before .pre .1)
+        (front-is s
+        (c .before .before .before .before .before .before .before .before .before .before .before .before .before .before .before .before .before .before .before .before .before .before .before .before .before .before .before .before .first-column .ensures)
+        (c .before .before .before .before .before .before .before .before .before .before .before .before .before .before .before .before .before .before .before .before .before .before .before .before .before .before .before .first-history .ensures)
+        (c .before .before .before .before .before .before .before .before .before .before .before .before .before .before .before .before .before .before .before .before .before .before .before .before .before .before .next-place .ensures)
+        (c .before .before .before .before .before .before .before .before .before .before .before .before .before .before .before .before .before .before .before .before .before .before .before .before .before .comment-of .ensures))
+        (c .before .before .before .before .before .before .before .before .before .before .before .before .before .before .before .before .before .before .before .before .before .before .before .write-front .ensures .1)
+        in
+    let b2 = history-done s _ b1
+        (c .before .before .before .before .before .before .before .before .before .before .before .before .before .before .before .before .before .before .before .write-copies .ensures)
+        in
+    let b3 = new-done s _ b2
+        (c .before .before .before .before .before .before .before .before .before .before .before .before .before .before .before .write-history .ensures)
+        in
+    let b4 = columns-done s _ b3
+        (c .before .before .before .before .before .before .before .before .before .before .before .write-copies2 .ensures) in
     let b5 = structure-done s _ b4 (c .before .before .before .before .before .before .before .write-structure .ensures) in
     let b6 = data-done s _ b5 (c .before .before .before .write-data .ensures) in
     attached-asks s b6
@@ -99,12 +161,28 @@ write-attachments-requires c κs =
 -- src/file.rt:77:5
 gap-requires : tie.Need-gap-requires
 gap-requires c κs =
-    let s = c .before .before .before .before .before .before .before .before .before .before .before .before .before .before .before .before .before .before .before .before .before .before .before .before .before .before .before .before .before .before .before .before .before .before .before .before .before .before .before .before .before .pre .0 in
-    let b1 = front-done s (c .before .before .before .before .before .before .before .before .before .before .before .before .before .before .before .before .before .before .before .before .before .before .before .before .before .before .before .before .before .before .before .before .before .before .before .before .before .before .before .before .before .pre .1) (front-is s (c .before .before .before .before .before .before .before .before .before .before .before .before .before .before .before .before .before .before .before .before .before .before .before .before .before .before .before .before .before .before .before .before .first-column .ensures) (c .before .before .before .before .before .before .before .before .before .before .before .before .before .before .before .before .before .before .before .before .before .before .before .before .before .before .before .before .before .before .before .first-history .ensures) (c .before .before .before .before .before .before .before .before .before .before .before .before .before .before .before .before .before .before .before .before .before .before .before .before .before .before .before .before .before .before .next-place .ensures) (c .before .before .before .before .before .before .before .before .before .before .before .before .before .before .before .before .before .before .before .before .before .before .before .before .before .before .before .before .before .comment-of .ensures)) (c .before .before .before .before .before .before .before .before .before .before .before .before .before .before .before .before .before .before .before .before .before .before .before .before .before .before .before .write-front .ensures .1) in
-    let b2 = history-done s _ b1 (c .before .before .before .before .before .before .before .before .before .before .before .before .before .before .before .before .before .before .before .before .before .before .before .write-copies .ensures) in
-    let b3 = new-done s _ b2 (c .before .before .before .before .before .before .before .before .before .before .before .before .before .before .before .before .before .before .before .write-history .ensures) in
-    let b4 = columns-done s _ b3 (c .before .before .before .before .before .before .before .before .before .before .before .before .before .before .before .write-copies2 .ensures) in
-    let b5 = structure-done s _ b4 (c .before .before .before .before .before .before .before .before .before .before .before .write-structure .ensures) in
+    let s = c .before .before .before .before .before .before .before .before .before .before .before .before .before .before .before .before .before .before .before .before .before .before .before .before .before .before .before .before .before .before .before .before .before .before .before .before .before .before .before .before .before .pre .0
+        in
+    let b1 = front-done s
+        (c .before .before .before .before .before .before .before .before .before .before .before .before .before .before .before .before .before .before .before .before .before .before .before .before .before .before .before .before .before .before .before .before .before .before .before .before .before .before .before .before .before .pre .1)
+        (front-is s
+        (c .before .before .before .before .before .before .before .before .before .before .before .before .before .before .before .before .before .before .before .before .before .before .before .before .before .before .before .before .before .before .before .before .first-column .ensures)
+        (c .before .before .before .before .before .before .before .before .before .before .before .before .before .before .before .before .before .before .before .before .before .before .before .before .before .before .before .before .before .before .before .first-history .ensures)
+        (c .before .before .before .before .before .before .before .before .before .before .before .before .before .before .before .before .before .before .before .before .before .before .before .before .before .before .before .before .before .before .next-place .ensures)
+        (c .before .before .before .before .before .before .before .before .before .before .before .before .before .before .before .before .before .before .before .before .before .before .before .before .before .before .before .before .before .comment-of .ensures))
+        (c .before .before .before .before .before .before .before .before .before .before .before .before .before .before .before .before .before .before .before .before .before .before .before .before .before .before .before .write-front .ensures .1)
+        in
+    let b2 = history-done s _ b1
+        (c .before .before .before .before .before .before .before .before .before .before .before .before .before .before .before .before .before .before .before .before .before .before .before .write-copies .ensures)
+        in
+    let b3 = new-done s _ b2
+        (c .before .before .before .before .before .before .before .before .before .before .before .before .before .before .before .before .before .before .before .write-history .ensures)
+        in
+    let b4 = columns-done s _ b3
+        (c .before .before .before .before .before .before .before .before .before .before .before .before .before .before .before .write-copies2 .ensures)
+        in
+    let b5 = structure-done s _ b4
+        (c .before .before .before .before .before .before .before .before .before .before .before .write-structure .ensures) in
     let b6 = data-done s _ b5 (c .before .before .before .before .before .before .before .write-data .ensures) in
     let b7 = attached-done s b6 (c .before .before .before .write-attachments .ensures) in
     end-room s b7
@@ -112,26 +190,62 @@ gap-requires c κs =
 -- src/file.rt:54:1
 same-length : tie.Need-same-length
 same-length c =
-    let s = c .before .before .before .before .before .before .before .before .before .before .before .before .before .before .before .before .before .before .before .before .before .before .before .before .before .before .before .before .before .before .before .before .before .before .before .before .before .before .before .before .before .before .before .before .pre .0 in
-    let b1 = front-done s (c .before .before .before .before .before .before .before .before .before .before .before .before .before .before .before .before .before .before .before .before .before .before .before .before .before .before .before .before .before .before .before .before .before .before .before .before .before .before .before .before .before .before .before .before .pre .1) (front-is s (c .before .before .before .before .before .before .before .before .before .before .before .before .before .before .before .before .before .before .before .before .before .before .before .before .before .before .before .before .before .before .before .before .before .before .before .first-column .ensures) (c .before .before .before .before .before .before .before .before .before .before .before .before .before .before .before .before .before .before .before .before .before .before .before .before .before .before .before .before .before .before .before .before .before .before .first-history .ensures) (c .before .before .before .before .before .before .before .before .before .before .before .before .before .before .before .before .before .before .before .before .before .before .before .before .before .before .before .before .before .before .before .before .before .next-place .ensures) (c .before .before .before .before .before .before .before .before .before .before .before .before .before .before .before .before .before .before .before .before .before .before .before .before .before .before .before .before .before .before .before .before .comment-of .ensures)) (c .before .before .before .before .before .before .before .before .before .before .before .before .before .before .before .before .before .before .before .before .before .before .before .before .before .before .before .before .before .before .write-front .ensures .1) in
-    let b2 = history-done s _ b1 (c .before .before .before .before .before .before .before .before .before .before .before .before .before .before .before .before .before .before .before .before .before .before .before .before .before .before .write-copies .ensures) in
-    let b3 = new-done s _ b2 (c .before .before .before .before .before .before .before .before .before .before .before .before .before .before .before .before .before .before .before .before .before .before .write-history .ensures) in
-    let b4 = columns-done s _ b3 (c .before .before .before .before .before .before .before .before .before .before .before .before .before .before .before .before .before .before .write-copies2 .ensures) in
-    let b5 = structure-done s _ b4 (c .before .before .before .before .before .before .before .before .before .before .before .before .before .before .write-structure .ensures) in
-    let b6 = data-done s _ b5 (c .before .before .before .before .before .before .before .before .before .before .write-data .ensures) in
+    let s = c .before .before .before .before .before .before .before .before .before .before .before .before .before .before .before .before .before .before .before .before .before .before .before .before .before .before .before .before .before .before .before .before .before .before .before .before .before .before .before .before .before .before .before .before .pre .0
+        in
+    let b1 = front-done s
+        (c .before .before .before .before .before .before .before .before .before .before .before .before .before .before .before .before .before .before .before .before .before .before .before .before .before .before .before .before .before .before .before .before .before .before .before .before .before .before .before .before .before .before .before .before .pre .1)
+        (front-is s
+        (c .before .before .before .before .before .before .before .before .before .before .before .before .before .before .before .before .before .before .before .before .before .before .before .before .before .before .before .before .before .before .before .before .before .before .before .first-column .ensures)
+        (c .before .before .before .before .before .before .before .before .before .before .before .before .before .before .before .before .before .before .before .before .before .before .before .before .before .before .before .before .before .before .before .before .before .before .first-history .ensures)
+        (c .before .before .before .before .before .before .before .before .before .before .before .before .before .before .before .before .before .before .before .before .before .before .before .before .before .before .before .before .before .before .before .before .before .next-place .ensures)
+        (c .before .before .before .before .before .before .before .before .before .before .before .before .before .before .before .before .before .before .before .before .before .before .before .before .before .before .before .before .before .before .before .before .comment-of .ensures))
+        (c .before .before .before .before .before .before .before .before .before .before .before .before .before .before .before .before .before .before .before .before .before .before .before .before .before .before .before .before .before .before .write-front .ensures .1)
+        in
+    let b2 = history-done s _ b1
+        (c .before .before .before .before .before .before .before .before .before .before .before .before .before .before .before .before .before .before .before .before .before .before .before .before .before .before .write-copies .ensures)
+        in
+    let b3 = new-done s _ b2
+        (c .before .before .before .before .before .before .before .before .before .before .before .before .before .before .before .before .before .before .before .before .before .before .write-history .ensures)
+        in
+    let b4 = columns-done s _ b3
+        (c .before .before .before .before .before .before .before .before .before .before .before .before .before .before .before .before .before .before .write-copies2 .ensures)
+        in
+    let b5 = structure-done s _ b4
+        (c .before .before .before .before .before .before .before .before .before .before .before .before .before .before .write-structure .ensures)
+        in
+    let b6 = data-done s _ b5
+        (c .before .before .before .before .before .before .before .before .before .before .write-data .ensures) in
     let b7 = attached-done s b6 (c .before .before .before .before .before .before .write-attachments .ensures) in
     file-same s _ b7 (c .before .before .gap .ensures)
 
 -- src/file.rt:54:1
 returns : tie.Need-returns
 returns c =
-    let s = c .before .before .before .before .before .before .before .before .before .before .before .before .before .before .before .before .before .before .before .before .before .before .before .before .before .before .before .before .before .before .before .before .before .before .before .before .before .before .before .before .before .before .before .before .pre .0 in
-    let b1 = front-done s (c .before .before .before .before .before .before .before .before .before .before .before .before .before .before .before .before .before .before .before .before .before .before .before .before .before .before .before .before .before .before .before .before .before .before .before .before .before .before .before .before .before .before .before .before .pre .1) (front-is s (c .before .before .before .before .before .before .before .before .before .before .before .before .before .before .before .before .before .before .before .before .before .before .before .before .before .before .before .before .before .before .before .before .before .before .before .first-column .ensures) (c .before .before .before .before .before .before .before .before .before .before .before .before .before .before .before .before .before .before .before .before .before .before .before .before .before .before .before .before .before .before .before .before .before .before .first-history .ensures) (c .before .before .before .before .before .before .before .before .before .before .before .before .before .before .before .before .before .before .before .before .before .before .before .before .before .before .before .before .before .before .before .before .before .next-place .ensures) (c .before .before .before .before .before .before .before .before .before .before .before .before .before .before .before .before .before .before .before .before .before .before .before .before .before .before .before .before .before .before .before .before .comment-of .ensures)) (c .before .before .before .before .before .before .before .before .before .before .before .before .before .before .before .before .before .before .before .before .before .before .before .before .before .before .before .before .before .before .write-front .ensures .1) in
-    let b2 = history-done s _ b1 (c .before .before .before .before .before .before .before .before .before .before .before .before .before .before .before .before .before .before .before .before .before .before .before .before .before .before .write-copies .ensures) in
-    let b3 = new-done s _ b2 (c .before .before .before .before .before .before .before .before .before .before .before .before .before .before .before .before .before .before .before .before .before .before .write-history .ensures) in
-    let b4 = columns-done s _ b3 (c .before .before .before .before .before .before .before .before .before .before .before .before .before .before .before .before .before .before .write-copies2 .ensures) in
-    let b5 = structure-done s _ b4 (c .before .before .before .before .before .before .before .before .before .before .before .before .before .before .write-structure .ensures) in
-    let b6 = data-done s _ b5 (c .before .before .before .before .before .before .before .before .before .before .write-data .ensures) in
+    let s = c .before .before .before .before .before .before .before .before .before .before .before .before .before .before .before .before .before .before .before .before .before .before .before .before .before .before .before .before .before .before .before .before .before .before .before .before .before .before .before .before .before .before .before .before .pre .0
+        in
+    let b1 = front-done s
+        (c .before .before .before .before .before .before .before .before .before .before .before .before .before .before .before .before .before .before .before .before .before .before .before .before .before .before .before .before .before .before .before .before .before .before .before .before .before .before .before .before .before .before .before .before .pre .1)
+        (front-is s
+        (c .before .before .before .before .before .before .before .before .before .before .before .before .before .before .before .before .before .before .before .before .before .before .before .before .before .before .before .before .before .before .before .before .before .before .before .first-column .ensures)
+        (c .before .before .before .before .before .before .before .before .before .before .before .before .before .before .before .before .before .before .before .before .before .before .before .before .before .before .before .before .before .before .before .before .before .before .first-history .ensures)
+        (c .before .before .before .before .before .before .before .before .before .before .before .before .before .before .before .before .before .before .before .before .before .before .before .before .before .before .before .before .before .before .before .before .before .next-place .ensures)
+        (c .before .before .before .before .before .before .before .before .before .before .before .before .before .before .before .before .before .before .before .before .before .before .before .before .before .before .before .before .before .before .before .before .comment-of .ensures))
+        (c .before .before .before .before .before .before .before .before .before .before .before .before .before .before .before .before .before .before .before .before .before .before .before .before .before .before .before .before .before .before .write-front .ensures .1)
+        in
+    let b2 = history-done s _ b1
+        (c .before .before .before .before .before .before .before .before .before .before .before .before .before .before .before .before .before .before .before .before .before .before .before .before .before .before .write-copies .ensures)
+        in
+    let b3 = new-done s _ b2
+        (c .before .before .before .before .before .before .before .before .before .before .before .before .before .before .before .before .before .before .before .before .before .before .write-history .ensures)
+        in
+    let b4 = columns-done s _ b3
+        (c .before .before .before .before .before .before .before .before .before .before .before .before .before .before .before .before .before .before .write-copies2 .ensures)
+        in
+    let b5 = structure-done s _ b4
+        (c .before .before .before .before .before .before .before .before .before .before .before .before .before .before .write-structure .ensures)
+        in
+    let b6 = data-done s _ b5
+        (c .before .before .before .before .before .before .before .before .before .before .write-data .ensures) in
     let b7 = attached-done s b6 (c .before .before .before .before .before .before .write-attachments .ensures) in
     file-done s b7 (c .before .before .gap .ensures)
 

@@ -16,13 +16,15 @@ loop-holds : tie.Need-loop-holds Inv-loop μ-loop
 loop-holds c = none-begin (c .before .before .before .pre .order)
 
 entry-at-requires : tie.Need-entry-at-requires Inv-loop μ-loop
-entry-at-requires c κs = let h = (c .loop-test .taken) in let l = (c .before .before .before .before .before .pre .columns) in let p = (c .before .before .before .before .before .pre .places) in (omega arith, omega arith)
+entry-at-requires c κs = let h = (c .loop-test .taken) in let l = (c .before .before .before .before .before .pre .columns) in
+    let p = (c .before .before .before .before .before .pre .places) in (omega arith, omega arith)
 
 entry-blocks-requires : tie.Need-entry-blocks-requires Inv-loop μ-loop
 entry-blocks-requires c κs = search needs
 
 returns : tie.Need-returns Inv-loop μ-loop
-returns c = one-has (c .before .before .before .before .loop .inv) (c .before .before .before .loop-test .taken) (c .before .before .entry-at .ensures) (c .before .entry-blocks .ensures) (c .if1 .taken)
+returns c = one-has (c .before .before .before .before .loop .inv) (c .before .before .before .loop-test .taken)
+    (c .before .before .entry-at .ensures) (c .before .entry-blocks .ensures) (c .if1 .taken)
 
 add-k : tie.Need-add-k Inv-loop μ-loop
 add-k c = search needs
@@ -31,7 +33,8 @@ loop-less : tie.Need-loop-less Inv-loop μ-loop
 loop-less c = search needs
 
 loop-again : tie.Need-loop-again Inv-loop μ-loop
-loop-again c = none-more (c .before .before .before .before .loop .inv) (c .before .before .before .loop-test .taken) (c .before .before .entry-at .ensures) (c .before .entry-blocks .ensures) (c .if1 .left)
+loop-again c = none-more (c .before .before .before .before .loop .inv) (c .before .before .before .loop-test .taken)
+    (c .before .before .entry-at .ensures) (c .before .entry-blocks .ensures) (c .if1 .left)
 
 returns-2 : tie.Need-returns-2 Inv-loop μ-loop
 returns-2 c = none-end (c .before .loop .inv) (omega arith)

@@ -13,7 +13,8 @@ block-count-requires : tie.Need-block-count-requires
 block-count-requires c κs = search needs
 
 returns : tie.Need-returns
-returns c = c .block-count .ensures ∙ ap (λ (w : ℕ). blockCount (c .before .before .before .args .size) w (c .before .before .before .args .e .records)) (c .before .width-of .ensures .is)
+returns c = c .block-count .ensures ∙ ap (λ (w : ℕ). blockCount (c .before .before .before .args .size) w
+    (c .before .before .before .args .e .records)) (c .before .width-of .ensures .is)
 
 pub entry-blocks-spec : {M : Type 1} → statement M
 entry-blocks-spec = tie.close (tie.spec width-of-requires block-count-requires returns)

@@ -21,13 +21,18 @@ abbrev μ-loop : tie.MeasureT-loop
 μ-loop out₀ image size groups fragments columns memo a b row done k₀ out k = b - k
 
 loop-holds : tie.Need-loop-holds Inv-loop μ-loop
-loop-holds c = record { from = omega arith; to = (c .before .before .before .before .before .before .before .pre .1 .order); same = refl; put = splits-none _ }
+loop-holds c = record { from = omega arith; to = (c .before .before .before .before .before .before .before .pre .1 .order); same
+    = refl; put = splits-none _ }
 
 entry-at-requires : tie.Need-entry-at-requires Inv-loop μ-loop
-entry-at-requires c κs = let h = (c .loop-test .taken) in let l = (c .before .before .before .before .before .before .before .before .before .pre .1 .columns) in let p = (c .before .before .before .before .before .before .before .before .before .pre .1 .places) in (omega arith, omega arith)
+entry-at-requires c κs = let h = (c .loop-test .taken) in let l =
+    (c .before .before .before .before .before .before .before .before .before .pre .1 .columns) in let p =
+    (c .before .before .before .before .before .before .before .before .before .pre .1 .places) in (omega arith, omega arith)
 
 split-column-requires : tie.Need-split-column-requires Inv-loop μ-loop
-split-column-requires c κs = split-one (c .before .before .before .loop .inv) (c .before .before .before .before .before .before .before .before .before .before .before .pre .0) (c .before .before .loop-test .taken) (c .before .entry-at .ensures)
+split-column-requires c κs = split-one (c .before .before .before .loop .inv)
+    (c .before .before .before .before .before .before .before .before .before .before .before .pre .0)
+    (c .before .before .loop-test .taken) (c .before .entry-at .ensures)
 
 add-k : tie.Need-add-k Inv-loop μ-loop
 add-k c = search needs
@@ -36,7 +41,9 @@ loop-less : tie.Need-loop-less Inv-loop μ-loop
 loop-less c = search needs
 
 loop-again : tie.Need-loop-again Inv-loop μ-loop
-loop-again c = splits-step (c .before .before .before .before .before .before .loop .inv) (c .before .before .before .before .before .loop-test .taken) (c .before .before .before .before .entry-at .ensures) (c .before .before .split-column .ensures) (c .before .before .split-column .kept .0)
+loop-again c = splits-step (c .before .before .before .before .before .before .loop .inv)
+    (c .before .before .before .before .before .loop-test .taken) (c .before .before .before .before .entry-at .ensures)
+    (c .before .before .split-column .ensures) (c .before .before .split-column .kept .0)
 
 same-length : tie.Need-same-length Inv-loop μ-loop
 same-length c = search needs

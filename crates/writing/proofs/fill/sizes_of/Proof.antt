@@ -21,7 +21,8 @@ add-length : tie.Need-add-length
 add-length c = search needs
 
 returns : tie.Need-returns
-returns c = (sizes-are _ _ _ (c .before .before .before .word .ensures) (c .before .before .id-size .ensures) (c .before .samples-of .ensures) (c .inval-bytes-of .ensures), refl)
+returns c = (sizes-are _ _ _ (c .before .before .before .word .ensures) (c .before .before .id-size .ensures)
+    (c .before .samples-of .ensures) (c .inval-bytes-of .ensures), refl)
 
 pub sizes-of-spec : {M : Type 1} → statement M
 sizes-of-spec =

@@ -29,13 +29,21 @@ word-requires : tie.Need-word-requires
 word-requires c κs = search needs
 
 put-joined-requires : tie.Need-put-joined-requires
-put-joined-requires c κs = split-asked (c .before .before .before .before .before .before .before .before .before .before .before .before .pre) (λ z. (c .before .before .if2 .left) ((c .before .before .before .entry-blocks .ensures) ∙ z)) (c .before .before .before .before .before .before .number-in .ensures) (c .before .before .before .before .if1 .left) (c .before .word .ensures)
+put-joined-requires c κs = split-asked
+    (c .before .before .before .before .before .before .before .before .before .before .before .before .pre) (λ z.
+    (c .before .before .if2 .left) ((c .before .before .before .entry-blocks .ensures) ∙ z))
+    (c .before .before .before .before .before .before .number-in .ensures) (c .before .before .before .before .if1 .left)
+    (c .before .word .ensures)
 
 same-length : tie.Need-same-length
 same-length c = search needs
 
 returns-3 : tie.Need-returns-3
-returns-3 c = split-put (λ z. (c .before .before .before .before .before .if2 .left) ((c .before .before .before .before .before .before .entry-blocks .ensures) ∙ z)) (c .before .before .before .before .before .before .before .before .before .number-in .ensures) (c .before .before .before .before .before .before .before .if1 .left) (c .before .before .before .before .word .ensures) (c .before .before .put-joined .ensures)
+returns-3 c = split-put (λ z. (c .before .before .before .before .before .if2 .left)
+    ((c .before .before .before .before .before .before .entry-blocks .ensures) ∙ z))
+    (c .before .before .before .before .before .before .before .before .before .number-in .ensures)
+    (c .before .before .before .before .before .before .before .if1 .left) (c .before .before .before .before .word .ensures)
+    (c .before .before .put-joined .ensures)
 
 pub split-column-spec : {M : Type 1} → statement M
 split-column-spec =

@@ -22,13 +22,18 @@ word-requires : tie.Need-word-requires
 word-requires c κs = search needs
 
 put-column-requires : tie.Need-put-column-requires
-put-column-requires c κs = tile-due (c .before .before .before .before .before .before .before .before .before .pre .0) (λ z. (c .before .before .if1 .left) ((c .before .before .before .entry-blocks .ensures) ∙ z)) (c .before .before .before .before .before .before .before .before .before .pre .1) (c .before .word .ensures)
+put-column-requires c κs = tile-due (c .before .before .before .before .before .before .before .before .before .pre .0) (λ z.
+    (c .before .before .if1 .left) ((c .before .before .before .entry-blocks .ensures) ∙ z))
+    (c .before .before .before .before .before .before .before .before .before .pre .1) (c .before .word .ensures)
 
 same-length : tie.Need-same-length
 same-length c = search needs
 
 returns-2 : tie.Need-returns-2
-returns-2 c = tile-put (λ z. (c .before .before .before .before .before .if1 .left) ((c .before .before .before .before .before .before .entry-blocks .ensures) ∙ z)) (c .before .before .before .before .before .before .before .before .before .before .before .before .pre .1) (c .before .before .before .before .word .ensures) (c .before .before .put-column .ensures)
+returns-2 c = tile-put (λ z. (c .before .before .before .before .before .if1 .left)
+    ((c .before .before .before .before .before .before .entry-blocks .ensures) ∙ z))
+    (c .before .before .before .before .before .before .before .before .before .before .before .before .pre .1)
+    (c .before .before .before .before .word .ensures) (c .before .before .put-column .ensures)
 
 pub tile-column-spec : {M : Type 1} → statement M
 tile-column-spec =

@@ -22,7 +22,10 @@ slice-aggregate-tile-column : tie.Need-slice-aggregate-tile-column
 slice-aggregate-tile-column c = sym (length-take-le _ _ (c .before .before .before .before .hold .ensures .0 .within))
 
 tile-column-requires : tie.Need-tile-column-requires
-tile-column-requires c κs = (held-due (c .before .before .before .before .before .before .before .before .before .before .before .before .before .pre .0) (c .before .before .before .before .hold .ensures .0) (c .before .before .before .before .hold .ensures .1), (c .before .before .before .before .hold .ensures .1))
+tile-column-requires c κs = (held-due
+    (c .before .before .before .before .before .before .before .before .before .before .before .before .before .pre .0)
+    (c .before .before .before .before .hold .ensures .0) (c .before .before .before .before .hold .ensures .1),
+    (c .before .before .before .before .hold .ensures .1))
 
 same-length : tie.Need-same-length
 same-length c = search needs
@@ -31,7 +34,9 @@ same-length-2 : tie.Need-same-length-2
 same-length-2 c = search needs
 
 returns : tie.Need-returns
-returns c = (held-put (c .before .before .before .before .before .before .before .hold .ensures .0) (c .before .before .before .before .before .before .before .hold .ensures .1) (c .before .before .tile-column .ensures), (c .before .before .before .before .before .before .before .hold .ensures .0))
+returns c = (held-put (c .before .before .before .before .before .before .before .hold .ensures .0)
+    (c .before .before .before .before .before .before .before .hold .ensures .1) (c .before .before .tile-column .ensures),
+    (c .before .before .before .before .before .before .before .hold .ensures .0))
 
 pub tile-step-spec : {M : Type 1} → statement M
 tile-step-spec =

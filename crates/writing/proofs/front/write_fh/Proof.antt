@@ -29,7 +29,7 @@ same-length c = search needs
 returns : tie.Need-returns
 returns c =
     wrote-fh _ _ _ _ _ _ _ (c .before .before .before .before .before .before .gap .ensures) (c .before .before .put-fh .ensures)
-        (omega arith)
+    (omega arith)
 
 pub write-fh-spec : {M : Type 1} → statement M
 write-fh-spec =

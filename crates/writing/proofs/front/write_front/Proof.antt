@@ -24,9 +24,12 @@ same-length : tie.Need-same-length
 same-length c = search needs
 
 returns : tie.Need-returns
-returns c =
-    (refl, wrote-front _ _ _ _ _ _ (c .before .before .before .before .before .before .before .before .before .before .before .pre .0) _ _ _
-        (c .before .before .before .before .before .before .copy .ensures) (c .before .before .put-hd .ensures))
+returns c = (
+  refl,
+  wrote-front _ _ _ _ _ _ (c .before .before .before .before .before .before .before .before .before .before .before .pre .0) _ _
+      _
+      (c .before .before .before .before .before .before .copy .ensures) (c .before .before .put-hd .ensures),
+)
 
 pub write-front-spec : {M : Type 1} → statement M
 write-front-spec =

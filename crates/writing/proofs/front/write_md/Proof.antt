@@ -29,8 +29,12 @@ add-result c = search needs
 
 add-result-2 : tie.Need-add-result-2
 add-result-2 c =
-    omega (arith, c .before .before .before .before .before .before .before .before .before .before .pre .1, md-size (length
-        (c .before .before .before .before .before .before .before .before .before .before .args .text .now)))
+    omega (
+      arith,
+      c .before .before .before .before .before .before .before .before .before .before .pre .1,
+      md-size (length
+          (c .before .before .before .before .before .before .before .before .before .before .args .text .now)),
+    )
 
 same-length : tie.Need-same-length
 same-length c = search needs
@@ -38,7 +42,7 @@ same-length c = search needs
 returns : tie.Need-returns
 returns c =
     wrote-md _ _ _ _ _ _ (c .before .before .before .before .before .before .gap .ensures) (c .before .before .put-md .ensures)
-        (omega arith)
+    (omega arith)
 
 pub write-md-spec : {M : Type 1} → statement M
 write-md-spec =

@@ -24,15 +24,21 @@ add-put-words c = search needs
 
 -- src/omissions.rt:27:5
 put-words-requires-2 : tie.Need-put-words-requires-2
-put-words-requires-2 c κs = let a = c .before .before .before .before .before .before .before .args in (list-room (a .n) _ (a .n) _ (a .list .now) _ (c .before .before .before .put-words .ensures) (c .before .before .before .before .before .before .before .pre .0), omega (arith, c .before .before .before .before .before .before .before .pre .1))
+put-words-requires-2 c κs = let a = c .before .before .before .before .before .before .before .args in (list-room (a .n) _ (a .n)
+    _ (a .list .now) _ (c .before .before .before .put-words .ensures)
+    (c .before .before .before .before .before .before .before .pre .0), omega (arith,
+    c .before .before .before .before .before .before .before .pre .1))
 
 -- src/omissions.rt:21:1
 same-length : tie.Need-same-length
-same-length c = let a = c .before .before .before .before .before .before .before .before .before .before .args in list-same _ 0 _ (a .n) _ _ (a .list .now) _ _ (c .before .before .before .before .before .before .put-words .ensures) (c .before .before .put-words2 .ensures)
+same-length c = let a = c .before .before .before .before .before .before .before .before .before .before .args in list-same _ 0
+    _ (a .n) _ _ (a .list .now) _ _ (c .before .before .before .before .before .before .put-words .ensures)
+    (c .before .before .put-words2 .ensures)
 
 -- src/omissions.rt:21:1
 returns : tie.Need-returns
-returns c = list-put _ _ _ _ _ _ refl (c .before .before .before .before .before .before .put-words .ensures) (c .before .before .put-words2 .ensures)
+returns c = list-put _ _ _ _ _ _ refl (c .before .before .before .before .before .before .put-words .ensures)
+    (c .before .before .put-words2 .ensures)
 
 pub write-list-spec : {M : Type 1} → statement M
 write-list-spec =

@@ -34,8 +34,11 @@ own-groups-requires c κs = search needs
 
 returns : tie.Need-returns
 returns c =
-    own-is _ _ _ _ (c .before .before .before .before .before .before .before .dg-past .ensures) (c .before .before .before .before .before .before .end-of .ensures) (c .before .before .before .before .before .least .ensures) (c .before .before .before .before .word .ensures) (c .before .before .before .less-two .ensures) (c .before .before .least2 .ensures)
-      (c .before .groups-before .ensures) (c .own-groups .ensures)
+    own-is _ _ _ _ (c .before .before .before .before .before .before .before .dg-past .ensures)
+        (c .before .before .before .before .before .before .end-of .ensures)
+        (c .before .before .before .before .before .least .ensures) (c .before .before .before .before .word .ensures)
+        (c .before .before .before .less-two .ensures) (c .before .before .least2 .ensures)
+    (c .before .groups-before .ensures) (c .own-groups .ensures)
 
 pub own-of-spec : {M : Type 1} → statement M
 own-of-spec =

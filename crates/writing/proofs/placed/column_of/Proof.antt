@@ -64,20 +64,29 @@ shared-slice-read-dg c = search needs
 
 add-cn : tie.Need-add-cn
 add-cn c =
-    omega (arith, c .before .before .before .before .before .before .before .before .before .before .pre .0 .below
-        (c .before .before .before .before .before .before .before .before .before .before .args .k)
-        (c .before .before .before .before .before .before .before .before .before .before .pre .1))
+    omega (
+      arith,
+      c .before .before .before .before .before .before .before .before .before .before .pre .0 .below
+          (c .before .before .before .before .before .before .before .before .before .before .args .k)
+          (c .before .before .before .before .before .before .before .before .before .before .pre .1),
+    )
 
 cg-size-requires : tie.Need-cg-size-requires
 cg-size-requires c κs = search needs
 
 add-cn-2 : tie.Need-add-cn-2
 add-cn-2 c =
-    omega (arith, c .before .before .before .before .before .before .before .before .before .before .before .pre .0 .below
-        (c .before .before .before .before .before .before .before .before .before .before .before .args .k)
-        (c .before .before .before .before .before .before .before .before .before .before .before .pre .1), c .cg-size .ensures, size-near
-        (masterIn (getD (c .before .before .before .before .before .before .before .before .before .before .before .args .columns .now)
-        (8 * c .before .before .before .before .before .before .before .before .before .before .before .args .k + 5) 0)))
+    omega (
+      arith,
+      c .before .before .before .before .before .before .before .before .before .before .before .pre .0 .below
+          (c .before .before .before .before .before .before .before .before .before .before .before .args .k)
+          (c .before .before .before .before .before .before .before .before .before .before .before .pre .1),
+      c .cg-size .ensures,
+      size-near
+          (masterIn (getD
+              (c .before .before .before .before .before .before .before .before .before .before .before .args .columns .now)
+          (8 * c .before .before .before .before .before .before .before .before .before .before .before .args .k + 5) 0)),
+    )
 
 add-sd-link : tie.Need-add-sd-link
 add-sd-link c = search needs
@@ -126,10 +135,12 @@ shared-slice-read-t20 c = search needs
 
 returns : tie.Need-returns
 returns c =
-    column-made _ _ _ _ _ _ (c .before .before .before .before .before .before .before .before .before .before .has-master .ensures)
-        (c .before .before .before .before .before .before .before .before .before .master-place .ensures)
-        (c .before .before .before .before .before .before .before .cg-size .ensures) (c .before .before .before .before .sd-link .ensures)
-        (c .before .before .before .blocks-of .ensures) (c .before .before .payload-of .ensures)
+    column-made _ _ _ _ _ _
+        (c .before .before .before .before .before .before .before .before .before .before .has-master .ensures)
+    (c .before .before .before .before .before .before .before .before .before .master-place .ensures)
+    (c .before .before .before .before .before .before .before .cg-size .ensures)
+        (c .before .before .before .before .sd-link .ensures)
+    (c .before .before .before .blocks-of .ensures) (c .before .before .payload-of .ensures)
 
 pub column-of-spec : {M : Type 1} → statement M
 column-of-spec =

@@ -12,7 +12,8 @@ per-full-requires : tie.Need-per-full-requires
 per-full-requires c κs = search needs
 
 mul-result : tie.Need-mul-result
-mul-result c = let h = payload-near _ _ _ (c .per-full .ensures) (omega arith) (c .before .width-of .ensures .small) in omega (arith, h)
+mul-result c = let h = payload-near _ _ _ (c .per-full .ensures) (omega arith) (c .before .width-of .ensures .small) in omega
+    (arith, h)
 
 returns : tie.Need-returns
 returns c = payload-is _ _ _ _ (c .per-full .ensures) (c .before .width-of .ensures .is)

@@ -12,7 +12,8 @@ use Rattle.writing.proofs.rows.gather.Tie as tie
 
 abbrev Inv-loop : tie.InvT-loop
 Inv-loop numbers₀ places₀ image groups fragments z room c₀ n₀ numbers places c n =
-    Gathered image (z .parent) groups fragments c₀ c n numbers places × (length numbers ≡ length numbers₀) × (length places ≡ length places₀)
+    Gathered image (z .parent) groups fragments c₀ c n numbers places × (length numbers ≡ length numbers₀) × (length places ≡
+        length places₀)
 
 abbrev μ-loop : tie.MeasureT-loop
 μ-loop numbers₀ places₀ image groups fragments z room c₀ n₀ numbers places c n = room - n
@@ -62,16 +63,21 @@ mul-places c = search needs
 
 slice-write-places : tie.Need-slice-write-places Inv-loop μ-loop
 slice-write-places c =
-    let p = c .before .before .before .before .before .before .before .before .before .before .before .before .before .before .before .pre in
+    let p = c .before .before .before .before .before .before .before .before .before .before .before .before .before .before .before .pre
+        in
     let i = c .before .before .before .before .before .before .before .before .before .loop .inv in
     omega (arith, i .2, c .before .before .before .before .before .before .before .before .loop-test .taken, p .2)
 
 onward-requires : tie.Need-onward-requires Inv-loop μ-loop
 onward-requires c κs =
-    let a = c .before .before .before .before .before .before .before .before .before .before .before .before .before .before .before .args in
-    let good = c .before .before .before .before .before .before .before .before .before .before .before .before .before .before .before .good in
+    let a = c .before .before .before .before .before .before .before .before .before .before .before .before .before .before .before .args
+        in
+    let good =
+        c .before .before .before .before .before .before .before .before .before .before .before .before .before .before .before .good
+        in
     let r = c .before .before .before .before .row-at .ensures in
-    let z = ranges-here (a .image .now) (a .fragments .now) (c .before .before .before .before .row-at .result .start) (r .ranges) in
+    let z = ranges-here (a .image .now) (a .fragments .now) (c .before .before .before .before .row-at .result .start)
+        (r .ranges) in
     (omega (arith, c .if2 .left), omega (arith, z, good .1 .1 .0))
 
 add-n : tie.Need-add-n Inv-loop μ-loop
@@ -84,14 +90,16 @@ loop-less c = search needs
 
 loop-again : tie.Need-loop-again Inv-loop μ-loop
 loop-again c =
-    let p = c .before .before .before .before .before .before .before .before .before .before .before .before .before .before .before .before .pre in
+    let p = c .before .before .before .before .before .before .before .before .before .before .before .before .before .before .before .before .pre
+        in
     let i = c .before .before .before .before .before .before .before .before .before .before .loop .inv in
     let w = c .before .before .before .before .before .before .before .before .before .loop-test .taken in
     let e = c .before .before .before .before .before .before .before .before .settle-on .ensures in
     let o = c .before .before .before .before .before .before .if1 .left in
     let l : 0 < c .before .before .before .before .before .before .before .before .settle-on .result .left = omega (arith, o) in
     let r = c .before .before .before .before .before .row-at .ensures in
-    let m = gathered-more (i .0) (e .settled l) r (omega (arith, c .before .if2 .left)) (omega (arith, i .1, w)) (omega (arith, i .2, w, p .2)) in
+    let m = gathered-more (i .0) (e .settled l) r (omega (arith, c .before .if2 .left)) (omega (arith, i .1, w)) (omega (arith,
+        i .2, w, p .2)) in
     (rw (c .onward .ensures) m, simp length-set (i .1), simp length-set (i .2))
 
 same-length-5 : tie.Need-same-length-5 Inv-loop μ-loop

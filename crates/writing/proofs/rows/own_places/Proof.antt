@@ -49,7 +49,7 @@ loop-again c =
     let t = c .before .before .before .loop .inv in
     let h = c .before .before .loop-test .taken in
     ⊎-elim (λ w. picking-own t h (omega arith) (w .0 .taken) (w .2) (w .3))
-      (λ w. picking-other t h (omega arith) (w .0 .left) (w .1) (w .2)) (c .if1 .came)
+    (λ w. picking-other t h (omega arith) (w .0 .left) (w .1) (w .2)) (c .if1 .came)
 
 same-length : tie.Need-same-length Inv-loop μ-loop
 same-length c = search needs

@@ -32,7 +32,8 @@ next-requires c κs = search needs
 loop-less : tie.Need-loop-less Inv-loop μ-loop
 loop-less c =
     let k = c .before .before .before .before .before .before .before .loop .k in
-    let e = next-at (c .before .before .before .before .before .before .before .before .before .args .fragments .now) k (c .next .ensures) in
+    let e = next-at (c .before .before .before .before .before .before .before .before .before .args .fragments .now) k
+        (c .next .ensures) in
     omega arith
 
 loop-again : tie.Need-loop-again Inv-loop μ-loop

@@ -49,7 +49,7 @@ loop-again c =
     let t = c .before .before .before .loop .inv in
     let h = c .before .before .loop-test .taken in
     ⊎-elim (λ w. tallying-on t h (w .0 .taken) (w .3))
-      (λ v. ⊎-elim (λ w. tallying-full t h (w .2 .left) (w .3)) (λ w. tallying-past t h (w .0 .left) (w .1)) v) (c .if1 .came)
+    (λ v. ⊎-elim (λ w. tallying-full t h (w .2 .left) (w .3)) (λ w. tallying-past t h (w .0 .left) (w .1)) v) (c .if1 .came)
 
 same-length : tie.Need-same-length Inv-loop μ-loop
 same-length c = search needs

@@ -60,8 +60,10 @@ same-length-2 : tie.Need-same-length-2 Inv-loop μ-loop
 same-length-2 c = search needs
 
 returns-2 : tie.Need-returns-2 Inv-loop μ-loop
-returns-2 c = copy-full _ _ _ _ _ _ (c .before .before .before .before .before .before .before .before .before .before .loop .inv .0)
-    (omega arith) (c .before .before .before .before .before .inside .ensures) (c .before .before .before .copy .ensures) (omega arith)
+returns-2 c = copy-full _ _ _ _ _ _
+    (c .before .before .before .before .before .before .before .before .before .before .loop .inv .0)
+    (omega arith) (c .before .before .before .before .before .inside .ensures) (c .before .before .before .copy .ensures) (omega
+        arith)
 
 add-to : tie.Need-add-to Inv-loop μ-loop
 add-to c = search needs
@@ -73,11 +75,15 @@ loop-less : tie.Need-loop-less Inv-loop μ-loop
 loop-less c = search needs
 
 loop-again : tie.Need-loop-again Inv-loop μ-loop
-loop-again c =
-    (copy-turn _ _ _ _ _ _ (c .before .before .before .before .before .before .before .before .before .before .loop .inv .0) (omega arith)
-        (c .before .before .before .before .before .inside .ensures) (c .before .before .before .copy .ensures), omega arith,
-        c .before .before .before .before .before .before .before .before .before .before .loop .inv .2, omega arith,
-        c .before .before .before .before .before .before .before .before .before .before .loop .inv .4)
+loop-again c = (
+  copy-turn _ _ _ _ _ _ (c .before .before .before .before .before .before .before .before .before .before .loop .inv .0) (omega
+      arith)
+      (c .before .before .before .before .before .inside .ensures) (c .before .before .before .copy .ensures),
+  omega arith,
+  c .before .before .before .before .before .before .before .before .before .before .loop .inv .2,
+  omega arith,
+  c .before .before .before .before .before .before .before .before .before .before .loop .inv .4,
+)
 
 same-length-3 : tie.Need-same-length-3 Inv-loop μ-loop
 same-length-3 c = search needs

@@ -14,14 +14,16 @@ use Rattle.writing.proofs.signal.joined_size.Tie as tie
 
 abbrev Inv-loop : tie.InvT-loop
 Inv-loop image fragments n i₀ sum₀ i sum =
-    ((sum + length (joined image (later fragments i))) % 2 ^ 64 ≡ length (joined image (fragmentsOf fragments)) % 2 ^ 64) × (i ≤ n) ×
-        (n ≡ length fragments)
+    ((sum + length (joined image (later fragments i))) % 2 ^ 64 ≡ length (joined image (fragmentsOf fragments)) % 2 ^ 64) × (i ≤
+        n) ×
+    (n ≡ length fragments)
 
 abbrev μ-loop : tie.MeasureT-loop
 μ-loop image fragments n i₀ sum₀ i sum = n - i
 
 loop-holds : tie.Need-loop-holds Inv-loop μ-loop
-loop-holds c = (rw (later-all (c .before .before .args .fragments .now)) (ap (λ (x : ℕ). x % 2 ^ 64) (zero-add _)), search needs, refl)
+loop-holds c = (rw (later-all (c .before .before .args .fragments .now)) (ap (λ (x : ℕ). x % 2 ^ 64) (zero-add _)), search needs,
+    refl)
 
 sub-loop : tie.Need-sub-loop Inv-loop μ-loop
 sub-loop c = search needs
@@ -54,8 +56,12 @@ loop-less : tie.Need-loop-less Inv-loop μ-loop
 loop-less c = search needs
 
 loop-again : tie.Need-loop-again Inv-loop μ-loop
-loop-again c = (sum-turn _ _ _ _ _ (c .before .before .before .before .before .loop .inv .0) (omega arith) (c .before .inside .ensures)
-    (c .wrapping-add-u64 .ensures), omega arith, c .before .before .before .before .before .loop .inv .2)
+loop-again c = (
+  sum-turn _ _ _ _ _ (c .before .before .before .before .before .loop .inv .0) (omega arith) (c .before .inside .ensures)
+      (c .wrapping-add-u64 .ensures),
+  omega arith,
+  c .before .before .before .before .before .loop .inv .2,
+)
 
 returns : tie.Need-returns Inv-loop μ-loop
 returns c = sum-end _ _ _ _ _ (c .before .loop .inv .0) (omega arith)

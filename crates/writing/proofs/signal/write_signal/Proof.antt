@@ -20,7 +20,8 @@ same-length : tie.Need-same-length
 same-length c = search needs
 
 returns : tie.Need-returns
-returns c = signal-is _ _ _ _ _ _ _ (c .before .before .before .before .before .before .before .before .before .joined-size .ensures)
+returns c = signal-is _ _ _ _ _ _ _
+    (c .before .before .before .before .before .before .before .before .before .joined-size .ensures)
     (c .before .before .before .before .before .before .before .before .wrapping-add-u64 .ensures)
     (c .before .before .before .before .before .before .header .ensures) (c .before .before .copy-all .ensures)
 

@@ -28,10 +28,11 @@ same-length c = search needs
 returns : tie.Need-returns
 returns c =
     filled-cg _ _ _ _ _ (c .before .before .put-cg .ensures)
-        (c .before .before .before .before .before .before .before .before .link .ensures)
-        (c .before .before .before .before .before .before .before .link2 .ensures)
-        (c .before .before .before .before .before .before .link3 .ensures)
-        (c .before .before .before .before .before .channel-bytes .ensures .is) (c .before .before .before .before .keeps-inval .ensures)
+    (c .before .before .before .before .before .before .before .before .link .ensures)
+    (c .before .before .before .before .before .before .before .link2 .ensures)
+    (c .before .before .before .before .before .before .link3 .ensures)
+    (c .before .before .before .before .before .channel-bytes .ensures .is)
+        (c .before .before .before .before .keeps-inval .ensures)
 
 pub fill-cg-spec : {M : Type 1} → statement M
 fill-cg-spec =

@@ -31,11 +31,12 @@ same-length c = search needs
 returns : tie.Need-returns
 returns c =
     filled-cn _ _ _ _ _ (c .before .before .put-cn .ensures)
-        (c .before .before .before .before .before .before .before .before .before .link .ensures)
-        (c .before .before .before .before .before .before .before .before .link2 .ensures)
-        (c .before .before .before .before .before .before .before .link3 .ensures)
-        (c .before .before .before .before .before .before .link4 .ensures) (c .before .before .before .before .before .link5 .ensures)
-        (c .before .before .before .before .keeps-inval .ensures)
+    (c .before .before .before .before .before .before .before .before .before .link .ensures)
+    (c .before .before .before .before .before .before .before .before .link2 .ensures)
+    (c .before .before .before .before .before .before .before .link3 .ensures)
+    (c .before .before .before .before .before .before .link4 .ensures)
+        (c .before .before .before .before .before .link5 .ensures)
+    (c .before .before .before .before .keeps-inval .ensures)
 
 pub fill-cn-spec : {M : Type 1} → statement M
 fill-cn-spec =

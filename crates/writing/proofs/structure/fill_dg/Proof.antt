@@ -21,8 +21,9 @@ same-length c = search needs
 
 returns : tie.Need-returns
 returns c =
-    filled-dg _ _ _ _ _ _ (c .before .before .put-dg .ensures) (c .before .before .before .before .before .before .dl-place .ensures)
-        (c .before .before .before .before .before .link .ensures)
+    filled-dg _ _ _ _ _ _ (c .before .before .put-dg .ensures)
+        (c .before .before .before .before .before .before .dl-place .ensures)
+    (c .before .before .before .before .before .link .ensures)
 
 pub fill-dg-spec : {M : Type 1} → statement M
 fill-dg-spec =

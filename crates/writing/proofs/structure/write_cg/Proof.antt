@@ -29,8 +29,8 @@ same-length c = search needs
 returns : tie.Need-returns
 returns c =
     wrote-cg _ _ _ _ _ _ _ (c .before .before .before .before .before .before .gap .ensures) (c .before .before .fill-cg .ensures)
-        (omega arith) (c .before .before .before .before .before .before .before .before .before .before .before .before .pre .1)
-        (c .before .before .before .before .before .before .before .before .before .before .before .before .pre .3)
+    (omega arith) (c .before .before .before .before .before .before .before .before .before .before .before .before .pre .1)
+    (c .before .before .before .before .before .before .before .before .before .before .before .before .pre .3)
 
 pub write-cg-spec : {M : Type 1} → statement M
 write-cg-spec =

@@ -29,7 +29,7 @@ same-length c = search needs
 returns : tie.Need-returns
 returns c =
     wrote-cn _ _ _ _ _ _ _ (c .before .before .before .before .before .before .gap .ensures) (c .before .before .fill-cn .ensures)
-        (omega arith) (c .before .before .before .before .before .before .before .before .before .before .before .pre .2)
+    (omega arith) (c .before .before .before .before .before .before .before .before .before .before .before .pre .2)
 
 pub write-cn-spec : {M : Type 1} → statement M
 write-cn-spec =

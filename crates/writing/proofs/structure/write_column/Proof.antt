@@ -9,29 +9,50 @@ write-dg-requires : tie.Need-write-dg-requires
 write-dg-requires c κs = search needs
 
 write-cg-requires : tie.Need-write-cg-requires
-write-cg-requires c κs =
-    (omega (arith, past-one _ 64 (c .before .before .before .write-dg .ensures) (length-columnDG _ _ _ _)),
-        c .before .before .before .before .before .before .before .before .pre .cn, omega (arith,
-        c .before .before .before .before .before .before .before .before .pre .ends, c .before .before .before .write-dg .kept),
-        c .before .before .before .before .before .before .before .before .pre .group)
+write-cg-requires c κs = (
+  omega (arith, past-one _ 64 (c .before .before .before .write-dg .ensures) (length-columnDG _ _ _ _)),
+  c .before .before .before .before .before .before .before .before .pre .cn,
+  omega (
+    arith,
+    c .before .before .before .before .before .before .before .before .pre .ends,
+    c .before .before .before .write-dg .kept,
+  ),
+  c .before .before .before .before .before .before .before .before .pre .group,
+)
 
 write-cn-requires : tie.Need-write-cn-requires
-write-cn-requires c κs =
-    (omega (arith, c .before .before .before .before .before .before .before .before .before .before .before .before .pre .cn, past-one _ _
+write-cn-requires c κs = (
+  omega (
+    arith,
+    c .before .before .before .before .before .before .before .before .before .before .before .before .pre .cn,
+    past-one _ _
         (c .before .before .before .write-cg .ensures) (length-columnCG _ _ _
-        (c .before .before .before .before .before .before .before .before .before .before .before .before .pre .group))), omega (arith,
-        c .before .before .before .before .before .before .before .before .before .before .before .before .pre .ends,
-        c .before .before .before .before .before .before .before .write-dg .kept, c .before .before .before .write-cg .kept),
-        c .before .before .before .before .before .before .before .before .before .before .before .before .pre .channel)
+        (c .before .before .before .before .before .before .before .before .before .before .before .before .pre .group)),
+  ),
+  omega (
+    arith,
+    c .before .before .before .before .before .before .before .before .before .before .before .before .pre .ends,
+    c .before .before .before .before .before .before .before .write-dg .kept,
+    c .before .before .before .write-cg .kept,
+  ),
+  c .before .before .before .before .before .before .before .before .before .before .before .before .pre .channel,
+)
 
 write-dl-requires : tie.Need-write-dl-requires
-write-dl-requires c κs =
-    (omega (arith, past-one _ 160 (c .before .before .before .write-cn .ensures) (length-columnCN _ _ _
-        (c .before .before .before .before .before .before .before .before .before .before .before .before .before .before .before .before .pre .channel))),
-        omega (arith,
-        c .before .before .before .before .before .before .before .before .before .before .before .before .before .before .before .before .pre .ends,
-        c .before .before .before .before .before .before .before .before .before .before .before .write-dg .kept,
-        c .before .before .before .before .before .before .before .write-cg .kept, c .before .before .before .write-cn .kept))
+write-dl-requires c κs = (
+  omega (
+    arith,
+    past-one _ 160 (c .before .before .before .write-cn .ensures) (length-columnCN _ _ _
+        (c .before .before .before .before .before .before .before .before .before .before .before .before .before .before .before .before .pre .channel)),
+  ),
+  omega (
+    arith,
+    c .before .before .before .before .before .before .before .before .before .before .before .before .before .before .before .before .pre .ends,
+    c .before .before .before .before .before .before .before .before .before .before .before .write-dg .kept,
+    c .before .before .before .before .before .before .before .write-cg .kept,
+    c .before .before .before .write-cn .kept,
+  ),
+)
 
 same-length : tie.Need-same-length
 same-length c = search needs
@@ -39,10 +60,10 @@ same-length c = search needs
 returns : tie.Need-returns
 returns c =
     wrote-column _ _
-        (c .before .before .before .before .before .before .before .before .before .before .before .before .before .before .before .before .before .before .before .pre)
-        (c .before .before .before .before .before .before .before .before .before .before .before .before .before .before .write-dg .ensures)
-        (c .before .before .before .before .before .before .before .before .before .before .write-cg .ensures)
-        (c .before .before .before .before .before .before .write-cn .ensures) (c .before .before .write-dl .ensures)
+    (c .before .before .before .before .before .before .before .before .before .before .before .before .before .before .before .before .before .before .before .pre)
+    (c .before .before .before .before .before .before .before .before .before .before .before .before .before .before .write-dg .ensures)
+    (c .before .before .before .before .before .before .before .before .before .before .write-cg .ensures)
+    (c .before .before .before .before .before .before .write-cn .ensures) (c .before .before .write-dl .ensures)
 
 pub write-column-spec : {M : Type 1} → statement M
 write-column-spec =

@@ -28,8 +28,9 @@ same-length c = search needs
 
 returns : tie.Need-returns
 returns c =
-    wrote-dg _ _ _ _ _ _ _ _ (c .before .before .before .before .before .before .gap .ensures) (c .before .before .fill-dg .ensures)
-        (omega arith)
+    wrote-dg _ _ _ _ _ _ _ _ (c .before .before .before .before .before .before .gap .ensures)
+        (c .before .before .fill-dg .ensures)
+    (omega arith)
 
 pub write-dg-spec : {M : Type 1} → statement M
 write-dg-spec =

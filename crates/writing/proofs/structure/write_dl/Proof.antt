@@ -28,26 +28,42 @@ put-dl-requires c κs = search needs
 
 mul-result : tie.Need-mul-result
 mul-result c =
-    omega (arith, c .before .before .before .before .before .before .before .before .before .before .before .pre .1, dl-some
-        (c .before .before .before .before .before .before .before .before .before .before .before .args .h .blocks) (omega arith))
+    omega (
+      arith,
+      c .before .before .before .before .before .before .before .before .before .before .before .pre .1,
+      dl-some
+          (c .before .before .before .before .before .before .before .before .before .before .before .args .h .blocks) (omega
+              arith),
+    )
 
 add-result : tie.Need-add-result
 add-result c =
-    omega (arith, c .before .before .before .before .before .before .before .before .before .before .before .pre .1, dl-some
-        (c .before .before .before .before .before .before .before .before .before .before .before .args .h .blocks) (omega arith))
+    omega (
+      arith,
+      c .before .before .before .before .before .before .before .before .before .before .before .pre .1,
+      dl-some
+          (c .before .before .before .before .before .before .before .before .before .before .before .args .h .blocks) (omega
+              arith),
+    )
 
 add-result-2 : tie.Need-add-result-2
 add-result-2 c =
-    omega (arith, c .before .before .before .before .before .before .before .before .before .before .before .pre .1, dl-some
-        (c .before .before .before .before .before .before .before .before .before .before .before .args .h .blocks) (omega arith))
+    omega (
+      arith,
+      c .before .before .before .before .before .before .before .before .before .before .before .pre .1,
+      dl-some
+          (c .before .before .before .before .before .before .before .before .before .before .before .args .h .blocks) (omega
+              arith),
+    )
 
 same-length : tie.Need-same-length
 same-length c = search needs
 
 returns-2 : tie.Need-returns-2
 returns-2 c =
-    wrote-dl _ _ _ _ _ (c .before .before .before .before .before .before .gap .ensures) (c .before .before .put-dl .ensures) (omega arith)
+    wrote-dl _ _ _ _ _ (c .before .before .before .before .before .before .gap .ensures) (c .before .before .put-dl .ensures)
         (omega arith)
+    (omega arith)
 
 pub write-dl-spec : {M : Type 1} → statement M
 write-dl-spec =

@@ -16,9 +16,11 @@ loop-holds : tie.Need-loop-holds Inv-loop μ-loop
 loop-holds c = structures-begin (c .before .before .before .before .pre)
 
 column-of-requires : tie.Need-column-of-requires Inv-loop μ-loop
-column-of-requires c κs =
-    (near-ready (c .before .before .before .before .before .before .pre) (omega arith), c .loop-test .taken,
-        c .before .before .before .before .before .before .pre .long)
+column-of-requires c κs = (
+  near-ready (c .before .before .before .before .before .before .pre) (omega arith),
+  c .loop-test .taken,
+  c .before .before .before .before .before .before .pre .long,
+)
 
 next-place-requires : tie.Need-next-place-requires Inv-loop μ-loop
 next-place-requires c κs =
@@ -27,8 +29,9 @@ next-place-requires c κs =
 write-column-requires : tie.Need-write-column-requires Inv-loop μ-loop
 write-column-requires c κs =
     rw (c .before .before .column-of .ensures) (structures-room
-        (c .before .before .before .before .before .before .before .before .before .pre) (c .before .before .before .before .loop .inv)
-        (c .before .before .before .loop-test .taken))
+    (c .before .before .before .before .before .before .before .before .before .pre)
+        (c .before .before .before .before .loop .inv)
+    (c .before .before .before .loop-test .taken))
 
 add-k : tie.Need-add-k Inv-loop μ-loop
 add-k c = search needs
@@ -39,9 +42,9 @@ loop-less c = search needs
 loop-again : tie.Need-loop-again Inv-loop μ-loop
 loop-again c =
     structures-turn (c .before .before .before .before .before .before .before .loop .inv)
-        (c .before .before .before .before .before .before .loop-test .taken)
-        (c .before .before .before .before .before .column-of .ensures) (c .before .before .before .before .next-place .ensures)
-        (c .before .before .write-column .ensures) (omega (arith, c .before .before .write-column .kept))
+    (c .before .before .before .before .before .before .loop-test .taken)
+    (c .before .before .before .before .before .column-of .ensures) (c .before .before .before .before .next-place .ensures)
+    (c .before .before .write-column .ensures) (omega (arith, c .before .before .write-column .kept))
 
 same-length : tie.Need-same-length Inv-loop μ-loop
 same-length c = search needs

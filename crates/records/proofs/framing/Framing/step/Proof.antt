@@ -38,13 +38,15 @@ body-step-requires : tie.Need-body-step-requires
 body-step-requires c κs = search needs
 
 returns : tie.Need-returns
-returns c = step-short _ _ _ _ (ahead-counts _ _ _ _ _) (so-past _ _ (c .before .before .skip-on .ensures) (c .enum-told .given .1))
+returns c = step-short _ _ _ _ (ahead-counts _ _ _ _ _) (so-past _ _ (c .before .before .skip-on .ensures)
+    (c .enum-told .given .1))
 
 returns-2 : tie.Need-returns-2
 returns-2 c =
     step-big _ _ _ _ (ahead-counts _ _ _ _ _) (so-to _ _ (c .before .before .before .before .before .before .skip-on .ensures)
     (c .before .before .before .before .to .given .1))
-    (λ i. let h = c .before .before .before .before .before .before .before .before .before .shared-slice-known .given i in omega arith)
+    (λ i. let h = c .before .before .before .before .before .before .before .before .before .shared-slice-known .given i in omega
+        arith)
     (so-missing (c .before .before .number-at .ensures) (c .enum-told2 .given .1))
 
 returns-3 : tie.Need-returns-3
@@ -52,7 +54,8 @@ returns-3 c =
     step-unknown _ _ _ _ (ahead-counts _ _ _ _ _) (so-to _ _
     (c .before .before .before .before .before .before .before .before .before .before .skip-on .ensures)
     (c .before .before .before .before .before .before .before .before .to .given .1))
-    (so-value (c .before .before .before .before .before .before .number-at .ensures) (c .before .before .before .before .id .given .1))
+    (so-value (c .before .before .before .before .before .before .number-at .ensures)
+        (c .before .before .before .before .id .given .1))
     (so-unknown (c .before .before .with-id .ensures) (c .enum-told3 .given .1))
 
 returns-4 : tie.Need-returns-4
