@@ -10,6 +10,7 @@ use Rattle.base.specs.Blit.{blit}
 use Rattle.base.specs.Checked.{Checked, ok, fine}
 use Rattle.mdf.specs.Block.{CG, CN}
 use Rattle.mdf.specs.Group.{DataGroup, dataGroups}
+use Rattle.mdf.specs.Walk.{cn, Source, walk}
 use Rattle.plan.specs.Columns.{SrcGroup, srcGroups, Column, sizeOfSignal}
 use Rattle.plan.specs.Layout.{Layout, Placed, placedFrom, structurePlace, structureEnd, structureSize, dataEnd, columnBlocks, payloadSize, cgSize, dlOf}
 use Rattle.result.specs.Ordered.{Ordered}
@@ -26,6 +27,7 @@ use Rattle.payload_laws.specs.BoundLaws.{data-small, records-small}
 use Rattle.payload_laws.specs.SignalLaws.{column-signal, data-ordered}
 use Rattle.plan_laws.specs.Decision.{Steps, Accepted, answer-accepted}
 use Rattle.plan_laws.specs.Known.{Known, answer-known}
+use Rattle.plan_laws.specs.PlanLaws.{signal-due}
 use Rattle.shown_laws.specs.ColumnShown.{ColumnSound}
 use Rattle.shown_laws.specs.ImageBytes.{column-sound}
 use Rattle.shown_laws.specs.Final.{file-apart, file-filled, file-shows}
@@ -122,6 +124,15 @@ module _ (x : Args) (d : Decided) (k : Known x d) where
         (omega (arith, t .sdAbove, w .begins, w .ends, metadata-above))
         (omega (arith, t .sdBelow, metadata-small, k .fewColumns, signal-small (x .image) (c .signalOf) (z .signals) (k .steps .imageLength) (z .fewSignals)))
 
+every : (x : Args) (d : Decided) (k : Known x d) (st : Source) → walk (x .image) ≡ ok st → (a : ℕ) → In (cn a) (st .items) → (g : SrcGroup) × In g (d .groups) × In a (g .channels)
+every x d k st w a i =
+    let e : st ≡ k .steps .source = ok-same (sym w ∙ k .steps .walked) in
+    let r = k .groups .completeCN a (subst (λ (t : Source). In (cn a) (t .items)) e i) in
+    (r .group, r .isIn, r .channelIn)
+  where
+    ok-same : {u v : Source} → _≡_ {A = Checked Source} (ok u) (ok v) → u ≡ v
+    ok-same q = cc
+
 -- every accepted call's final bytes have the guarantee
 pub guaranteed : (x : Args) (out list : List ℕ) (d : Decided) → AllBytes (x .image) → answer x (length out) (length list) ≡ ok d
     → Guaranteed x d (blit 0 (fileOf x (d .laidOut)) out)
@@ -136,5 +147,8 @@ guaranteed x out list d bytes e =
       once = k .once;
       source = k .source;
       counted = λ c i q. counted (x .image) (dataGroups (k .steps .source)) (d .planned .columns) (k .steps .counted) (k .steps .dataFine) c i (in-source x d k c i) q;
+      signals = λ c i. signal-due (x .image) c (c .isTime) (k .planned .sourced c i .kinded);
+      kinded = λ c i. k .planned .sourced c i .kinded;
+      every = λ st w a i. every x d k st w a i;
       masters = k .masters;
     }

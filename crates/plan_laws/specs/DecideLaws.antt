@@ -126,7 +126,7 @@ treated Treatment.asFixed a e = e
 
 -- signal data is what the chain at CN link 6 lists; n fragments were found before
 abbrev pub SignalKnown : List ℕ → ℕ → ℕ → Signal → Type 0
-SignalKnown s n c unsigned = Unit {0}
+SignalKnown s n c unsigned = channelType s c ≡ 1 → linkAt s c 5 ≡ 0
 SignalKnown s n c (signalData fs) = (channelType s c ≡ 1) × (chain signal limits s n (linkAt s c 5) ≡ found fs)
 
 signal-kept : (s : List ℕ) (n c : ℕ) (d : Signal) (v : Found) → channelType s c ≡ 1 → chain signal limits s n (linkAt s c 5) ≡ v → keptSignal v ≡ ok (kept d) → SignalKnown s n c d
@@ -138,10 +138,10 @@ unfolding decideSignal
 signal-decided s n c d e =
     eq-cases (channelType s c) 1 _ _ e
     (λ t q. eq-cases (linkAt s c 5) 0 _ _ q
-    (λ _ q. subst (SignalKnown s n c) (kept-same q) tt)
+    (λ z q. subst (SignalKnown s n c) (kept-same q) (λ _. z))
     (λ _ q. with-ok (headerIn s (linkAt s c 5)) _ q (λ _ _ q.
     eq-cases (kindAt s (linkAt s c 5)) kindCG _ _ q (λ _ q. absurd (omitted≢kept q)) (λ _ q. signal-kept s n c d _ t refl q))))
-    (λ _ q. subst (SignalKnown s n c) (kept-same q) tt)
+    (λ f q. subst (SignalKnown s n c) (kept-same q) (λ t. absurd (f t)))
 
 composition-decided : (s : List ℕ) (n c : ℕ) (d : Signal) → decideComposition s n c ≡ ok (kept d) → SignalKnown s n c d
 unfolding decideComposition

@@ -18,15 +18,16 @@ use Rattle.plan_laws.specs.Answers.{ok-same, true≢false, with-ok, eq-c
 use Rattle.plan_laws.specs.Lists.{in-none, in-cases, in-one, same, same-yes, same-no, occurs, occurs-append, occurs-in, in-occurs, no-longer}
 use Rattle.plan_laws.specs.GroupLaws.{allAddresses, allChannels}
 use Rattle.plan_laws.specs.SourceLaws.{ownAddresses, own-within, group-unique, channel-group, channel-once, channel-no-group}
-use Rattle.plan_laws.specs.DecideLaws.{none≢some, some-same, master-known, Timed, time-known, time-own, time-same, time≢untimed, time≢differs, decide-kept, signal-few}
+use Rattle.plan_laws.specs.DecideLaws.{none≢some, some-same, master-known, SignalKnown, Timed, time-known, time-own, time-same, time≢untimed, time≢differs, decide-kept, signal-few}
 use Rattle.plan_laws.specs.ColumnLaws.{timesAt, timesOf, signalsOf, column-more, omission-more, signals-more, times-at-signal, times-signal, times-at-here, times-at-other, times-timed, times-in, times-none, times-within, time-found, time-missing, named-later, GivenDue, given-due, given-later}
 
 -- ---- what is known of one column
 
 -- a time column is its group's master; a signal column was kept, and is not its group's master
-abbrev pub Kinded : List ℕ → Column → Bool → Type 0
-Kinded s c true = (masterOf s (c .group) ≡ some (c .channel)) × (c .signalOf ≡ unsigned)
-Kinded s c false = (n : ℕ) × (decide s n (c .group .at) (c .channel) ≡ ok (kept (c .signalOf))) × (c .channel ≡ ownMaster (masterOf s (c .group)) → ⊥)
+use Rattle.result.specs.Guarantee.{Kinded, SignalDue}
+use Rattle.plan.specs.Channel.{isMasterType, either, channelType}
+use Rattle.plan.specs.Columns.{Signal, signalData}
+use lib.Dec.{eqb}
 
 pub record Sourced (s : List ℕ) (all : List SrcGroup) (c : Column) : Type 0 where
   pub groupIn : In (c .group) all
@@ -37,6 +38,19 @@ pub record Sourced (s : List ℕ) (all : List SrcGroup) (c : Column) : Type 0 wh
 
 pub timed-master : (s : List ℕ) (all : List SrcGroup) (c : Column) → Sourced s all c → c .isTime ≡ true → masterOf s (c .group) ≡ some (c .channel)
 timed-master s all c h e = let k : Kinded s c true = rw e at (h .kinded) in k .0
+
+not-master : (s : List ℕ) (c : ℕ) → isMasterType s c ≡ true → channelType s c ≡ 1 → ⊥
+unfolding isMasterType
+not-master s c h t = let g : either (eqb 1 2) (eqb 1 3) ≡ true = rw t at h in let z : _≡_ {A = ℕ} 0 1 = cc in omega arith
+
+kept-due : (s : List ℕ) (n c : ℕ) (d : Signal) → SignalKnown s n c d → SignalDue s c d
+kept-due s n c unsigned k = k
+kept-due s n c (signalData fs) k = (k .0, n, k .1)
+
+pub signal-due : (s : List ℕ) (c : Column) (t : Bool) → Kinded s c t → SignalDue s (c .channel) (c .signalOf)
+signal-due s c true k =
+    subst (SignalDue s (c .channel)) (sym (k .1)) (λ t. absurd (not-master s (c .channel) (master-known s (c .group) (c .channel) (k .0) .master .typed) t))
+signal-due s c false k = kept-due s (k .0) (c .channel) (c .signalOf) (decide-kept s (k .0) (c .group .at) (c .channel) (c .signalOf) (k .1) .signal)
 
 -- ---- what is known of a plan; n fragments were found in the walk
 pub record Planned (s : List ℕ) (all : List SrcGroup) (n : ℕ) (p : Plan) : Type 0 where

@@ -12,7 +12,12 @@ use Rattle.base.specs.Blit.{part}
 use Rattle.mdf.specs.Block.{kindDG, kindCG, kindCN, kindDL, kindDT, kindDV, kindSD, kindAt, sizeAt, linksAt, linkAt, dataAt}
 use Rattle.mdf.specs.Group.{groupFlags, samples, invalBytes, isStorage}
 use Rattle.plan.specs.Channel.{bit, keepsInval, channelBytes}
-use Rattle.plan.specs.Columns.{SrcGroup, Column, Omission, TimeOf, time, untimed, differs, timeOf}
+use Rattle.mdf.specs.Walk.{Source, walk}
+use Rattle.mdf.specs.Walk as walking
+use Rattle.base.specs.Checked.{ok}
+use Rattle.plan.specs.Columns.{SrcGroup, Column, Omission, TimeOf, time, untimed, differs, timeOf, masterOf, Signal, unsigned, signalData, ownMaster, decide, kept}
+use Rattle.mdf.specs.Chain.{Chain.signal, found, limits, chain}
+use Rattle.plan.specs.Channel.{channelType}
 use Rattle.plan.specs.Data.{isNonempty}
 use Rattle.plan.specs.Layout.{Placed, cgOf, cnOf, columnBlocks}
 use Rattle.result.specs.Payload.{recordsOf, cells, signalBytes}
@@ -175,6 +180,16 @@ abbrev pub NamesMaster : List ℕ → List SrcGroup → List Column → Column �
 NamesMaster s all cs c true = c .master ≡ none
 NamesMaster s all cs c false = MasterDue cs c (timeOf s all (c .group))
 
+-- a time column is its group's master and has no signal data; any other is what planning decides of its channel
+abbrev pub Kinded : List ℕ → Column → Bool → Type 0
+Kinded s c true = (masterOf s (c .group) ≡ some (c .channel)) × (c .signalOf ≡ unsigned)
+Kinded s c false = (n : ℕ) × (decide s n (c .group .at) (c .channel) ≡ ok (kept (c .signalOf))) × (c .channel ≡ ownMaster (masterOf s (c .group)) → ⊥)
+
+-- "source is the joined data of a type 1 channel's SD chain, else nothing"
+abbrev pub SignalDue : List ℕ → ℕ → Signal → Type 0
+SignalDue s c unsigned = channelType s c ≡ 1 → linkAt s c 5 ≡ 0
+SignalDue s c (signalData fs) = (channelType s c ≡ 1) × (n : ℕ) × (chain signal limits s n (linkAt s c 5) ≡ found fs)
+
 -- ---- the guarantee, of the final bytes f of a call with arguments x, for which d was decided
 
 unfoldable pub columnsPlaced : List Placed → List Column
@@ -197,4 +212,7 @@ pub record Guaranteed (x : Args) (d : Decided) (f : List ℕ) : Type 0 where
   -- the records of a group with a nonempty column are as many as its count
   pub counted : (c : Column) → In c (d .planned .columns) → isNonempty (x .image) c ≡ true
       → length (recordsOf (x .image) (c .group)) ≡ c .group .records
+  pub signals : (c : Column) → In c (d .planned .columns) → SignalDue (x .image) (c .channel) (c .signalOf)
+  pub kinded : (c : Column) → In c (d .planned .columns) → Kinded (x .image) c (c .isTime)
+  pub every : (st : Source) → walk (x .image) ≡ ok st → (a : ℕ) → In (walking.cn a) (st .items) → (g : SrcGroup) × In g (d .groups) × In a (g .channels)
   pub masters : (c : Column) → In c (d .planned .columns) → NamesMaster (x .image) (d .groups) (d .planned .columns) c (c .isTime)
