@@ -4,6 +4,7 @@ pub mod Lists
 pub mod ChainLaws
 pub mod WalkLaws
 pub mod OrderLaws
+pub mod LinkLaws
 pub mod GroupLaws
 pub mod SourceLaws
 pub mod DecideLaws

@@ -1,6 +1,7 @@
 -- The groups with their counts, as planning takes them: where each comes from, and that addresses tell them apart.
 use Prim.Native.Nat.{ℕ, suc, _+_, _≤_, _<_}
 use mathlib.Core.List.{List, [], _∷_, _++_}
+use mathlib.Core.Option.{some}
 use mathlib.Core.Path.{_≡_, refl, sym, ap, _∙_}
 use mathlib.Core.Logic.{_⊎_, inl, inr}
 use native.Mathlib.Omega.{arith}
@@ -12,9 +13,11 @@ use Rattle.mdf.specs.Walk.{cg, cn, Source, walk}
 use Rattle.mdf.specs.Group.{Group, DataGroup, addresses, dataGroupsOf, dataGroups}
 use Rattle.mdf.specs.Count.{countGroups, counts}
 use Rattle.plan.specs.Columns.{SrcGroup, withCounts, srcGroups}
-use Rattle.result.specs.Guarantee.{In, here, there}
+use Rattle.result.specs.Member.{In, here, there}
+use Rattle.result.specs.Recording.{groupPlaces, countedPlaces, groupNumber, Recorded}
 use Rattle.plan_laws.specs.Lists.{in-left, in-right, in-cases, in-none, same-yes, occurs, occurs-append, occurs-in, Distinct, distinct-of}
 use Rattle.plan_laws.specs.WalkLaws.{Sound, walk-sound, walk-open}
+use Rattle.plan_laws.specs.LinkLaws.{Walked, walk-linked}
 use Rattle.plan_laws.specs.OrderLaws.{walk-follows, cn-is-in}
 use Rattle.plan_laws.specs.GroupLaws.{allAddresses, allChannels, dgAddresses, groupCount, DataGroupFine, Counted, no-more, and-more, counts-counted, counted-length, count-length, addresses-length, groups-occurs, data-groups-fine, cg-is-in, few-channels, few-groups, few-data-groups}
 
@@ -30,13 +33,14 @@ pub record Numbered (d : DataGroup) (k : ℕ) (gs : List Group) (ns : List ℕ) 
   pub groupIn : In group gs
   pub sameAt : group .at ≡ g .at
   pub sameChannels : group .channels ≡ g .channels
+  pub named : groupNumber index gs ≡ some (record { at = g .at; channels = g .channels })
 
 numbered : (d : DataGroup) (k : ℕ) (gs : List Group) (ns : List ℕ) (g : SrcGroup) → In g (withCounts d k gs ns) → Numbered d k gs ns g
-unfolding withCounts addresses
+unfolding withCounts addresses groupNumber
 numbered d k [] ns g i = absurd (in-none i)
 numbered d k (h ∷ gs) [] g i = absurd (in-none i)
 numbered d k (h ∷ gs) (n ∷ ns) g here =
-    record { index = 0; within = omega arith; ofDG = refl; number = omega arith; place = refl; records = refl; group = h; groupIn = here; sameAt = refl; sameChannels = refl }
+    record { index = 0; within = omega arith; ofDG = refl; number = omega arith; place = refl; records = refl; group = h; groupIn = here; sameAt = refl; sameChannels = refl; named = refl }
 numbered d k (h ∷ gs) (n ∷ ns) g (there i) =
     let r = numbered d (k + 1) gs ns g i in
     record {
@@ -50,6 +54,7 @@ numbered d k (h ∷ gs) (n ∷ ns) g (there i) =
       groupIn = there (r .groupIn);
       sameAt = r .sameAt;
       sameChannels = r .sameChannels;
+      named = r .named;
     }
 
 -- where a group with its count comes from
@@ -59,6 +64,7 @@ pub record Origin (s : List ℕ) (ds : List DataGroup) (g : SrcGroup) : Type 0 w
   pub groupIn : In group (g .dataGroup .groups)
   pub sameAt : group .at ≡ g .at
   pub sameChannels : group .channels ≡ g .channels
+  pub named : groupNumber (g .number) (g .dataGroup .groups) ≡ some (record { at = g .at; channels = g .channels })
   pub numbered : g .number < length (addresses (g .dataGroup .groups))
   pub place : getD (addresses (g .dataGroup .groups)) (g .number) 0 ≡ g .at
   pub numbers : List ℕ
@@ -77,6 +83,7 @@ origin-here s d ds ms rest g r c =
       groupIn = rw (r .ofDG) (r .groupIn);
       sameAt = r .sameAt;
       sameChannels = r .sameChannels;
+      named = rw (r .ofDG, n) (r .named);
       numbered = rw (r .ofDG) (omega (arith, r .within));
       place = rw (r .ofDG, n) (r .place);
       numbers = ms;
@@ -92,6 +99,7 @@ origin-later r =
       groupIn = r .groupIn;
       sameAt = r .sameAt;
       sameChannels = r .sameChannels;
+      named = r .named;
       numbered = r .numbered;
       place = r .place;
       numbers = r .numbers;
@@ -148,6 +156,29 @@ src-has s (d ∷ ds) ns (and-more ms rest e c r) d' (there i) h j =
     rw (e, src-cons s d ds ms rest c)
     (record { source = t .source; isIn = in-right (withCounts d 0 (d .groups) (ms ++ rest)) (t .isIn); ofDG = t .ofDG; at = t .at; channels = t .channels })
 
+-- ---- in file order
+counted-append : (gs hs : List SrcGroup) → countedPlaces (gs ++ hs) ≡ countedPlaces gs ++ countedPlaces hs
+unfolding countedPlaces
+counted-append [] hs = refl
+counted-append (g ∷ gs) hs = ap (λ (l : List ℕ). g .at ∷ l) (counted-append gs hs)
+
+with-counts-places : (d : DataGroup) (k : ℕ) (gs : List Group) (ns : List ℕ) → length gs ≤ length ns → countedPlaces (withCounts d k gs ns) ≡ addresses gs
+unfolding withCounts countedPlaces addresses
+with-counts-places d k [] ns l = refl
+with-counts-places d k (g ∷ gs) [] l = absurd (omega arith)
+with-counts-places d k (g ∷ gs) (n ∷ ns) l = ap (λ (m : List ℕ). g .at ∷ m) (with-counts-places d (k + 1) gs ns (omega arith))
+
+pub src-places : (s : List ℕ) (ds : List DataGroup) (ns : List ℕ) → Counted s ds ns → countedPlaces (srcGroups ds ns) ≡ groupPlaces ds
+unfolding groupPlaces srcGroups countedPlaces
+src-places s [] ns no-more = refl
+src-places s (d ∷ ds) ns (and-more ms rest e c r) =
+    let l : length (d .groups) ≤ length (ms ++ rest) =
+    rw length-append (omega (arith, count-length s (d .at) (addresses (d .groups)) (d .fragments) ms c, addresses-length (d .groups))) in
+    ap (λ (n : List ℕ). countedPlaces (srcGroups (d ∷ ds) n)) e ∙ ap countedPlaces (src-cons s d ds ms rest c)
+    ∙ counted-append (withCounts d 0 (d .groups) (ms ++ rest)) (srcGroups ds rest)
+    ∙ ap (λ (m : List ℕ). m ++ countedPlaces (srcGroups ds rest)) (with-counts-places d 0 (d .groups) (ms ++ rest) l)
+    ∙ ap (λ (m : List ℕ). addresses (d .groups) ++ m) (src-places s ds rest r)
+
 -- ---- all that is known of the groups of a walk
 pub record SourceFine (s : List ℕ) (g : SrcGroup) : Type 0 where
   pub dataGroup : DataGroupFine s (g .dataGroup)
@@ -174,6 +205,7 @@ pub record Groups (s : List ℕ) (st : Source) (ns : List ℕ) (gs : List SrcGro
   pub once : (x : ℕ) → occurs x (dgAddresses (dataGroups st)) + occurs x (allAddresses gs) ≤ 1
   pub nonzero : occurs 0 (allAddresses gs) ≡ 0
   -- every group comes from a DG of the walk, with its count; every CG of the walk is a group, every CN a channel; their blocks passed their checks
+  pub recorded : Recorded s (dataGroups st) gs
   pub origins : (g : SrcGroup) → In g gs → Origin s (dataGroups st) g
   pub complete : (a : ℕ) → In (cg a) (st .items) → SrcGroupAt a gs
   pub completeCN : (a : ℕ) → In (cn a) (st .items) → ChannelAt a gs
@@ -200,6 +232,12 @@ groups-known s st ns w k =
       asMany = counted-length s ds ns c;
       once = λ x. omega (arith, groups-occurs (st .fragments) (st .items) ns x, h .once x);
       nonzero = omega (arith, groups-occurs (st .fragments) (st .items) ns 0, h .nonzero);
+      recorded = record {
+        dataGroups = links .chained;
+        linked = links .linked;
+        groups = src-places s ds ns c;
+        each = λ g i. (from g i .dataGroupIn, from g i .named);
+      };
       origins = from;
       complete = all;
       completeCN = allCN;
@@ -216,6 +254,9 @@ groups-known s st ns w k =
 
     h : Sound s st
     h = walk-sound s st w
+
+    links : Walked s ds
+    links = walk-linked s st w
 
     c : Counted s ds ns
     c = counts-counted s ds ns k

@@ -20,6 +20,7 @@ use Rattle.mdf.specs.Chain.{Chain.signal, found, limits, chain}
 use Rattle.plan.specs.Channel.{channelType}
 use Rattle.plan.specs.Data.{isNonempty}
 use Rattle.plan.specs.Layout.{Placed, cgOf, cnOf, columnBlocks}
+pub use Rattle.result.specs.Member.{In, here, there}
 use Rattle.result.specs.Payload.{recordsOf, cells, signalBytes}
 use Rattle.result.specs.Fill.{Block, dgBytes, cgBytes, cnBytes, dlBytes, cgAt, nextDG}
 use Rattle.result.specs.Result.{Args, Decided, blocksOf, memoOf}
@@ -129,10 +130,6 @@ dueAll s all (p ∷ ps) = due s all p ∷ dueAll s all ps
 -- bs stands at a in f
 pub record Stands (f : List ℕ) (a : ℕ) (bs : List ℕ) : Type 0 where
   pub is : part a (length bs) f ≡ bs
-
-pub data In {A : Type 0} (b : A) : List A → Type 0 where
-  here : {bs : List A} → In b (b ∷ bs)
-  there : {c : A} {bs : List A} → In b bs → In b (c ∷ bs)
 
 -- no block of the list shares a byte with the block b
 unfoldable pub Apart : Block → List Block → Type 0

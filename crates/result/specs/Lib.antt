@@ -5,4 +5,6 @@ pub mod Result
 pub mod Ordered
 pub mod OrderedLaws
 pub mod Listing
+pub mod Member
+pub mod Recording
 pub mod Guarantee
