@@ -7,16 +7,18 @@ use native.Mathlib.Omega.{arith}
 use lib.ListN.{length, getD}
 use lib.Dec.{lit<}
 use Rattle.base.specs.Blit.{blit}
-use Rattle.base.specs.Checked.{Checked, ok, fine}
+use Rattle.base.specs.Checked.{ok, fine}
+use Rattle.base.specs.CheckedLaws.{ok-same}
 use Rattle.mdf.specs.Block.{CG, CN}
 use Rattle.mdf.specs.Group.{DataGroup, dataGroups}
-use Rattle.mdf.specs.Walk.{cn, Source, walk}
-use Rattle.plan.specs.Columns.{SrcGroup, srcGroups, Column, sizeOfSignal}
+use Rattle.mdf.specs.Walk.{Source, walk}
+use Rattle.plan.specs.Columns.{SrcGroup, srcGroups, Column, sizeOfSignal, omissionWords}
 use Rattle.plan.specs.Layout.{Layout, Placed, placedFrom, structurePlace, structureEnd, structureSize, dataEnd, columnBlocks, payloadSize, cgSize, dlOf}
 use Rattle.result.specs.Ordered.{Ordered}
 use Rattle.result.specs.Payload.{columnPayloads, signalBytes}
 use Rattle.result.specs.Fill.{dataBlocks, columnPayload}
 use Rattle.result.specs.Result.{Args, Decided, answer, fileOf, blocksOf}
+use Rattle.result.specs.Recording.{Met}
 use Rattle.result.specs.Guarantee.{In, Guaranteed, duePayload}
 use Rattle.copies_laws.specs.LengthLaws.{InImage}
 use Rattle.copies_laws.specs.LayoutLaws.{LaidOut, laid-out, columns-placed, columns-within, metadataEnd-near, columns-ordered, blocks-ordered}
@@ -27,10 +29,12 @@ use Rattle.payload_laws.specs.BoundLaws.{data-small, records-small}
 use Rattle.payload_laws.specs.SignalLaws.{column-signal, data-ordered}
 use Rattle.plan_laws.specs.Decision.{Steps, Accepted, answer-accepted}
 use Rattle.plan_laws.specs.Known.{Known, answer-known}
-use Rattle.plan_laws.specs.PlanLaws.{signal-due}
+use Rattle.plan_laws.specs.PlanLaws.{made-kinded}
+use Rattle.plan_laws.specs.OmissionLaws.{plan-omissions}
 use Rattle.shown_laws.specs.ColumnShown.{ColumnSound}
 use Rattle.shown_laws.specs.ImageBytes.{column-sound}
 use Rattle.shown_laws.specs.Final.{file-apart, file-filled, file-shows}
+use Rattle.guarantee.specs.List.{listed}
 use Rattle.guarantee.specs.Places.{equal-even, flatten-together, data-inside, fragments-few, signal-small, Sized, DataWithin, data-within, in-column}
 
 -- the elements of an image are bytes
@@ -124,31 +128,32 @@ module _ (x : Args) (d : Decided) (k : Known x d) where
         (omega (arith, t .sdAbove, w .begins, w .ends, metadata-above))
         (omega (arith, t .sdBelow, metadata-small, k .fewColumns, signal-small (x .image) (c .signalOf) (z .signals) (k .steps .imageLength) (z .fewSignals)))
 
-every : (x : Args) (d : Decided) (k : Known x d) (st : Source) → walk (x .image) ≡ ok st → (a : ℕ) → In (cn a) (st .items) → (g : SrcGroup) × In g (d .groups) × In a (g .channels)
-every x d k st w a i =
-    let e : st ≡ k .steps .source = ok-same (sym w ∙ k .steps .walked) in
-    let r = k .groups .completeCN a (subst (λ (t : Source). In (cn a) (t .items)) e i) in
-    (r .group, r .isIn, r .channelIn)
-  where
-    ok-same : {u v : Source} → _≡_ {A = Checked Source} (ok u) (ok v) → u ≡ v
-    ok-same q = cc
+-- what any walk met is what was decided from
+met : (x : Args) (d : Decided) → Known x d → (st : Source) → walk (x .image) ≡ ok st → Met st (d .groups)
+met x d k st w = subst (λ (t : Source). Met t (d .groups)) (ok-same (sym (k .steps .walked) ∙ w)) (k .groups .met)
 
--- every accepted call's final bytes have the guarantee
+-- every accepted call's final bytes and list have the guarantee
 pub guaranteed : (x : Args) (out list : List ℕ) (d : Decided) → AllBytes (x .image) → answer x (length out) (length list) ≡ ok d
-    → Guaranteed x d (blit 0 (fileOf x (d .laidOut)) out)
+    → Guaranteed x d (blit 0 (fileOf x (d .laidOut)) out) (blit 0 (omissionWords (d .planned .omissions)) list)
 guaranteed x out list d bytes e =
     let k = answer-known x (length out) (length list) d e in
-    let room = answer-accepted x (length out) (length list) d e .outputFits in
+    let a = answer-accepted x (length out) (length list) d e in
+    let q = plan-omissions (x .image) (length (k .steps .source .fragments)) (d .groups) (d .planned) (k .steps .planned) in
     record {
       planned = columns-placed (o x d k);
-      shows = file-shows x (d .laidOut) out (ordered x d k) room (sound x d k bytes);
-      filled = file-filled x (d .laidOut) out (ordered x d k) room;
+      shows = file-shows x (d .laidOut) out (ordered x d k) (a .outputFits) (sound x d k bytes);
+      filled = file-filled x (d .laidOut) out (ordered x d k) (a .outputFits);
       apart = file-apart x (d .laidOut) out (ordered x d k);
+      recording = (dataGroups (k .steps .source), k .groups .recorded);
+      met = met x d k;
       once = k .once;
       source = k .source;
-      counted = λ c i q. counted (x .image) (dataGroups (k .steps .source)) (d .planned .columns) (k .steps .counted) (k .steps .dataFine) c i (in-source x d k c i) q;
-      signals = λ c i. signal-due (x .image) c (c .isTime) (k .planned .sourced c i .kinded);
-      kinded = λ c i. k .planned .sourced c i .kinded;
-      every = λ st w a i. every x d k st w a i;
+      kinded = λ c i. made-kinded (x .image) c (c .isTime) (k .planned .sourced c i .made);
+      omitted = k .planned .omitted;
+      differing = q .1;
+      inOrder = q .0;
+      listed = listed (d .planned .omissions) list (a .listFits);
+      counted = λ c i. counted (x .image) (dataGroups (k .steps .source)) (d .planned .columns) (k .steps .counted) (k .steps .dataFine) c i (in-source x d k c i);
+      signals = λ c i. k .planned .sourced c i .signal;
       masters = k .masters;
     }

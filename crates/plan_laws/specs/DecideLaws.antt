@@ -6,17 +6,22 @@ use mathlib.Core.Path.{_≡_, refl, sym, ap, _∙_, subst}
 use mathlib.Core.Bool.{Bool, true, false}
 use mathlib.Core.Option.{Option, none, some}
 use native.Mathlib.Omega.{arith}
-use Rattle.base.specs.Choice.{ifEq}
-use Rattle.base.specs.ChoiceLaws.{eq-first}
+use lib.Dec.{eqb}
+use borrow.Author.Tests.{eq-eqb, ne-eqb}
+use Rattle.base.specs.Choice.{pick, ifEq}
+use Rattle.base.specs.ChoiceLaws.{eq-first, eq-yes, eq-no}
 use Rattle.base.specs.Checked.{Checked, ok}
 use Rattle.mdf.specs.Block.{kindCG, kindCN, kindAt, linkAt, headerIn}
 use Rattle.mdf.specs.Chain.{Chain.signal, Found, found, stopped, limits, chain}
 use Rattle.mdf.specs.Group.{isStorage}
-use Rattle.plan.specs.Channel.{channelType, fits, isMasterType, both, Treatment, treatment}
+use Rattle.plan.specs.Channel.{channelType, fits, isMasterType, both, either, Treatment, treatment}
 use Rattle.plan.specs.Columns.{kindCA, SrcGroup, firstMaster, masterOf, remoteLink, groupAt, TimeOf, time, untimed, differs, onMaster, onGroup, remoteTime, timeOf, Signal, unsigned, signalData, Decision, omitted, kept, keptSignal, decideSignal, decideComposition, onTreatment, decide, sizeOfSignal}
-use Rattle.result.specs.Guarantee.{In, here, there}
-use Rattle.plan_laws.specs.Answers.{refused≢ok, with-ok, eq-cases, pick-cases}
+use Rattle.result.specs.Member.{In, here, there}
+use Rattle.result.specs.Recording.{leadsTo, reasonFor, SignalDue}
+use Rattle.result.specs.Recording as recording
+use Rattle.plan_laws.specs.Answers.{refused≢ok, ok-same, with-ok, eq-cases, pick-cases, or-not}
 use Rattle.plan_laws.specs.ChainLaws.{chain-fits}
+use Rattle.plan_laws.specs.Lists.{in-none}
 
 pub none≢some : {A : Type 0} {x : A} → _≡_ {A = Option A} none (some x) → ⊥
 none≢some e = let z : _≡_ {A = ℕ} 0 1 = cc in omega arith
@@ -34,15 +39,47 @@ pub record IsMaster (s : List ℕ) (g : ℕ) (cs : List ℕ) (m : ℕ) : Type 0 
   pub isIn : In m cs
   pub typed : isMasterType s m ≡ true
   pub fitting : fits s g m ≡ true
+  pub first : recording.IsMaster s g cs m
+
+-- it stands first, or after a channel that is none
+master-here : (s : List ℕ) (g : ℕ) (cs : List ℕ) (c m : ℕ) → c ≡ m → both (isMasterType s c) (fits s g c) ≡ true → IsMaster s g (c ∷ cs) m
+master-here s g cs c m e t =
+    let b = both-true (isMasterType s c) (fits s g c) t in
+    subst (IsMaster s g (c ∷ cs)) e
+    (record {
+      isIn = here;
+      typed = b .0;
+      fitting = b .1;
+      first = record { before = []; after = cs; place = refl; typed = b .0; fitting = b .1; first = λ d i. absurd (in-none i) };
+    })
+
+master-later : (s : List ℕ) (g : ℕ) (cs : List ℕ) (c m : ℕ) → both (isMasterType s c) (fits s g c) ≡ false → IsMaster s g cs m → IsMaster s g (c ∷ cs) m
+master-later s g cs c m n r =
+    record {
+      isIn = there (r .isIn);
+      typed = r .typed;
+      fitting = r .fitting;
+      first = record {
+        before = c ∷ r .first .before;
+        after = r .first .after;
+        place = ap (λ (l : List ℕ). c ∷ l) (r .first .place);
+        typed = r .typed;
+        fitting = r .fitting;
+        first = before;
+      };
+    }
+  where
+    before : (d : ℕ) → In d (c ∷ r .first .before) → both (isMasterType s d) (fits s g d) ≡ false
+    before d here = n
+    before d (there i) = r .first .first d i
 
 pub first-master : (s : List ℕ) (g : ℕ) (cs : List ℕ) (m : ℕ) → firstMaster s g cs ≡ some m → IsMaster s g cs m
 unfolding firstMaster
 first-master s g [] m e = absurd (none≢some e)
 first-master s g (c ∷ cs) m e =
     pick-cases (both (isMasterType s c) (fits s g c)) (some c) (firstMaster s g cs) e
-    (λ t q. let b = both-true (isMasterType s c) (fits s g c) t in
-    subst (IsMaster s g (c ∷ cs)) (some-same q) (record { isIn = here; typed = b .0; fitting = b .1 }))
-    (λ _ q. let r = first-master s g cs m q in record { isIn = there (r .isIn); typed = r .typed; fitting = r .fitting })
+    (λ t q. master-here s g cs c m (some-same q) t)
+    (λ n q. master-later s g cs c m n (first-master s g cs m q))
 
 -- a group with a master is no VLSD storage group, and its master is one of its channels
 pub record HasMaster (s : List ℕ) (g : SrcGroup) (m : ℕ) : Type 0 where
@@ -164,6 +201,111 @@ decide-kept s n g c d e =
     (λ f q. pick-cases (isMasterType s c) _ _ q (λ _ q. absurd (omitted≢kept q)) (λ m q.
     record { fitting = f; notMaster = m; signal = composition-decided s n c d (treated (treatment (channelType s c)) _ q) }))
     (λ _ q. absurd (omitted≢kept q))
+
+pub kept-due : (s : List ℕ) (n c : ℕ) (d : Signal) → SignalKnown s n c d → SignalDue s c d
+kept-due s n c unsigned k = k
+kept-due s n c (signalData fs) k = (k .0, n, k .1)
+
+-- a master has none
+pub master-unsigned : (s : List ℕ) (m : ℕ) → isMasterType s m ≡ true → SignalDue s m unsigned
+unfolding isMasterType
+master-unsigned s m h t =
+    let g : either (eqb 1 2) (eqb 1 3) ≡ true = rw t at h in
+    let z : _≡_ {A = ℕ} 0 1 = cc in
+    absurd (omega arith)
+
+-- ---- reasons
+
+leads-none : (s : List ℕ) (a k : ℕ) → a ≡ 0 → leadsTo s a k ≡ false
+unfolding leadsTo
+leads-none s a k e = sym (eq-yes _ _ _ _ e refl)
+
+leads-yes : (s : List ℕ) (a k : ℕ) → (a ≡ 0 → ⊥) → kindAt s a ≡ k → leadsTo s a k ≡ true
+unfolding leadsTo
+leads-yes s a k n e = sym (eq-no _ _ _ _ n (sym (eq-eqb (kindAt s a) k e)))
+
+leads-no : (s : List ℕ) (a k : ℕ) → (a ≡ 0 → ⊥) → (kindAt s a ≡ k → ⊥) → leadsTo s a k ≡ false
+unfolding leadsTo
+leads-no s a k n e = sym (eq-no _ _ _ _ n (sym (ne-eqb (kindAt s a) k e)))
+
+-- the decision is the reason r, or no reason
+abbrev pub Reasoned : ℕ → Decision → Type 0
+Reasoned r (omitted k) = (k ≡ r) × (k ≡ 0 → ⊥)
+Reasoned r (kept d) = r ≡ 0
+
+-- the parts of `reasonFor`
+abbrev signalReason : List ℕ → ℕ → ℕ
+signalReason s c = pick (both (eqb (channelType s c) 1) (leadsTo s (linkAt s c 5) kindCG)) 7 0
+
+abbrev composedReason : List ℕ → ℕ → ℕ
+composedReason s c = pick (leadsTo s (linkAt s c 1) kindCA) 5 (pick (leadsTo s (linkAt s c 1) kindCN) 6 (signalReason s c))
+
+abbrev typedReason : List ℕ → ℕ → ℕ
+typedReason s c = ifEq (channelType s c) 4 4 (composedReason s c)
+
+omitted-reasoned : (r k : ℕ) {d : Decision} → _≡_ {A = Checked Decision} (ok (omitted k)) (ok d) → k ≡ r → (k ≡ 0 → ⊥) → Reasoned r d
+omitted-reasoned r k q e n = subst (Reasoned r) (ok-same q) (e, n)
+
+found-reasoned : (r : ℕ) (v : Found) (d : Decision) → keptSignal v ≡ ok d → r ≡ 0 → Reasoned r d
+found-reasoned r (found fs) d e z = subst (Reasoned r) (ok-same e) z
+found-reasoned r (stopped number place fs) d e z = absurd (refused≢ok e)
+
+signal-reason : (s : List ℕ) (n c : ℕ) (d : Decision) → decideSignal s n c ≡ ok d → Reasoned (signalReason s c) d
+unfolding decideSignal
+signal-reason s n c d e =
+    eq-cases (channelType s c) 1 _ _ e
+    (λ t q.
+    let one : eqb (channelType s c) 1 ≡ true = eq-eqb (channelType s c) 1 t in
+    eq-cases (linkAt s c 5) 0 _ _ q
+    (λ z q. let r : signalReason s c ≡ 0 = rw (one, leads-none s (linkAt s c 5) kindCG z) in subst (Reasoned (signalReason s c)) (ok-same q) r)
+    (λ z q. with-ok (headerIn s (linkAt s c 5)) _ q (λ _ _ q.
+    eq-cases (kindAt s (linkAt s c 5)) kindCG _ _ q
+    (λ k q. omitted-reasoned (signalReason s c) 7 q (rw (one, leads-yes s (linkAt s c 5) kindCG z k)) (λ o. omega arith))
+    (λ k q. found-reasoned (signalReason s c) (chain signal limits s n (linkAt s c 5)) d q (rw (one, leads-no s (linkAt s c 5) kindCG z k))))))
+    (λ t q. let r : signalReason s c ≡ 0 = rw (ne-eqb (channelType s c) 1 t) in subst (Reasoned (signalReason s c)) (ok-same q) r)
+
+composed-reason : (s : List ℕ) (n c : ℕ) (d : Decision) → decideComposition s n c ≡ ok d → Reasoned (composedReason s c) d
+unfolding decideComposition
+composed-reason s n c d e =
+    eq-cases (linkAt s c 1) 0 _ _ e
+    (λ z q. let r : composedReason s c ≡ signalReason s c = rw (leads-none s (linkAt s c 1) kindCA z, leads-none s (linkAt s c 1) kindCN z) in
+    subst (λ (x : ℕ). Reasoned x d) (sym r) (signal-reason s n c d q))
+    (λ z q. with-ok (headerIn s (linkAt s c 1)) _ q (λ _ _ q.
+    eq-cases (kindAt s (linkAt s c 1)) kindCA _ _ q
+    (λ k q. omitted-reasoned (composedReason s c) 5 q (rw (leads-yes s (linkAt s c 1) kindCA z k)) (λ o. omega arith))
+    (λ k q. eq-cases (kindAt s (linkAt s c 1)) kindCN _ _ q
+    (λ m q. omitted-reasoned (composedReason s c) 6 q (rw (leads-no s (linkAt s c 1) kindCA z k, leads-yes s (linkAt s c 1) kindCN z m)) (λ o. omega arith))
+    (λ m q. let r : composedReason s c ≡ signalReason s c = rw (leads-no s (linkAt s c 1) kindCA z k, leads-no s (linkAt s c 1) kindCN z m) in
+    subst (λ (x : ℕ). Reasoned x d) (sym r) (signal-reason s n c d q)))))
+
+treated-other : (t : ℕ) (a b : Checked Decision) → (t ≡ 4 → ⊥) → onTreatment (treatment t) a b ≡ a
+unfolding treatment
+treated-other t a b n = or-not t 5
+    (λ e. ap (λ (k : Treatment). onTreatment k a b) (sym (eq-no _ _ _ _ n (eq-yes _ _ _ _ e refl))))
+    (λ e. ap (λ (k : Treatment). onTreatment k a b) (sym (eq-no _ _ _ _ n (eq-no _ _ _ _ e refl))))
+
+treated-four : (t : ℕ) (a b : Checked Decision) → t ≡ 4 → onTreatment (treatment t) a b ≡ b
+unfolding treatment
+treated-four t a b e = ap (λ (k : Treatment). onTreatment k a b) (sym (eq-yes _ _ _ _ e refl))
+
+typed-reason : (s : List ℕ) (n c : ℕ) (d : Decision) → onTreatment (treatment (channelType s c)) (decideComposition s n c) (ok (omitted 4)) ≡ ok d
+    → Reasoned (typedReason s c) d
+typed-reason s n c d e =
+    or-not (channelType s c) 4
+    (λ t. omitted-reasoned (typedReason s c) 4 (sym (treated-four (channelType s c) (decideComposition s n c) (ok (omitted 4)) t) ∙ e)
+    (eq-yes _ _ _ _ t refl) (λ o. omega arith))
+    (λ t. subst (λ (x : ℕ). Reasoned x d) (eq-no _ _ _ _ t refl)
+    (composed-reason s n c d (sym (treated-other (channelType s c) (decideComposition s n c) (ok (omitted 4)) t) ∙ e)))
+
+-- what planning decides of a channel is document 01's reason
+pub decide-reason : (s : List ℕ) (n g c : ℕ) (d : Decision) → decide s n g c ≡ ok d → Reasoned (reasonFor s g c) d
+unfolding decide reasonFor
+decide-reason s n g c d e =
+    pick-cases (fits s g c) _ _ e
+    (λ f q. pick-cases (isMasterType s c) _ _ q
+    (λ m q. omitted-reasoned _ 3 q (rw (f, m)) (λ o. omega arith))
+    (λ m q. rw (f, m) (typed-reason s n c d q)))
+    (λ f q. omitted-reasoned _ 2 q (rw f) (λ o. omega arith))
 
 -- within the limit of fragments
 pub signal-few : (s : List ℕ) (n c : ℕ) (d : Signal) → n ≤ 1024 → SignalKnown s n c d → n + sizeOfSignal d ≤ 1024

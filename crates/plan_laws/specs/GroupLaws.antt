@@ -300,6 +300,38 @@ cg-is-in fs a (dg b n ∷ is) o (there i) = go (cg-found fs a is i)
 cg-is-in fs a (cg b ∷ is) o i = absurd o
 cg-is-in fs a (cn b ∷ is) o i = absurd o
 
+-- ---- and every group of a DG is a CG of the walk, its channels are CN
+pub record GroupMet (g : Group) (is : List Item) : Type 0 where
+  pub group : In (cg (g .at)) is
+  pub channels : (c : ℕ) → In c (g .channels) → In (cn c) is
+
+met-later : {g : Group} {is : List Item} (i : Item) → GroupMet g is → GroupMet g (i ∷ is)
+met-later i m = record { group = there (m .group); channels = λ c j. there (m .channels c j) }
+
+channels-met : (is : List Item) (c : ℕ) → In c (channelsOf is) → In (cn c) is
+unfolding channelsOf
+channels-met [] c i = absurd (in-none i)
+channels-met (dg a n ∷ is) c i = absurd (in-none i)
+channels-met (cg a ∷ is) c i = absurd (in-none i)
+channels-met (cn a ∷ is) c here = here
+channels-met (cn a ∷ is) c (there i) = there (channels-met is c i)
+
+groups-met : (is : List Item) (g : Group) → In g (groupsOf is) → GroupMet g is
+unfolding groupsOf
+groups-met [] g i = absurd (in-none i)
+groups-met (dg a n ∷ is) g i = absurd (in-none i)
+groups-met (cg a ∷ is) g here = record { group = here; channels = λ c j. there (channels-met is c j) }
+groups-met (cg a ∷ is) g (there i) = met-later (cg a) (groups-met is g i)
+groups-met (cn a ∷ is) g i = met-later (cn a) (groups-met is g i)
+
+pub data-groups-met : (fs : List Fragment) (is : List Item) (d : DataGroup) → In d (dataGroupsOf fs is) → (g : Group) → In g (d .groups) → GroupMet g is
+unfolding dataGroupsOf
+data-groups-met fs [] d i g j = absurd (in-none i)
+data-groups-met fs (dg a n ∷ is) d here g j = met-later (dg a n) (groups-met is g j)
+data-groups-met fs (dg a n ∷ is) d (there i) g j = met-later (dg a n) (data-groups-met fs is d i g j)
+data-groups-met fs (cg a ∷ is) d i g j = met-later (cg a) (data-groups-met fs is d i g j)
+data-groups-met fs (cn a ∷ is) d i g j = met-later (cn a) (data-groups-met fs is d i g j)
+
 -- ---- counts: as many as groups, those of each DG as it is counted
 
 tallies-length : (n k : ℕ) (rs : List Frame) → length (tallies n k rs) ≡ n

@@ -10,5 +10,6 @@ pub mod SourceLaws
 pub mod DecideLaws
 pub mod ColumnLaws
 pub mod PlanLaws
+pub mod OmissionLaws
 pub mod DataLaws
 pub mod Known

@@ -13,48 +13,41 @@ use Rattle.base.specs.Checked.{ok}
 use Rattle.mdf.specs.Group.{isStorage}
 use Rattle.plan.specs.Channel.{fits}
 use Rattle.plan.specs.Columns.{SrcGroup, masterOf, TimeOf, time, untimed, differs, timeOf, unsigned, Column, Omission, Plan, withColumn, withOmission, timeColumn, onPlanned, withTime, Decision, omitted, kept, decide, sizeOfSignal, decided, planChannels, ownMaster, planTimed, planGroup, planGroups, plan, omissionAddresses}
-use Rattle.result.specs.Guarantee.{In, here, there, columnsOf, omissionsOf, columnAt, IsTime, NamesMaster}
+use Rattle.result.specs.Recording.{reasonFor, OmissionDue, SignalDue}
+use Rattle.result.specs.Guarantee.{In, here, there, columnsOf, omissionsOf, columnAt, IsTime, NamesMaster, Kinded}
 use Rattle.plan_laws.specs.Answers.{ok-same, true≢false, with-ok, eq-cases, pick-cases, or-not}
 use Rattle.plan_laws.specs.Lists.{in-none, in-cases, in-one, same, same-yes, same-no, occurs, occurs-append, occurs-in, in-occurs, no-longer}
 use Rattle.plan_laws.specs.GroupLaws.{allAddresses, allChannels}
 use Rattle.plan_laws.specs.SourceLaws.{ownAddresses, own-within, group-unique, channel-group, channel-once, channel-no-group}
-use Rattle.plan_laws.specs.DecideLaws.{none≢some, some-same, master-known, SignalKnown, Timed, time-known, time-own, time-same, time≢untimed, time≢differs, decide-kept, signal-few}
+use Rattle.plan_laws.specs.DecideLaws.{none≢some, some-same, master-known, Timed, time-known, time-own, time-same, time≢untimed, time≢differs, decide-kept, decide-reason, kept-due, master-unsigned, signal-few}
 use Rattle.plan_laws.specs.ColumnLaws.{timesAt, timesOf, signalsOf, column-more, omission-more, signals-more, times-at-signal, times-signal, times-at-here, times-at-other, times-timed, times-in, times-none, times-within, time-found, time-missing, named-later, GivenDue, given-due, given-later}
 
 -- ---- what is known of one column
 
--- a time column is its group's master; a signal column was kept, and is not its group's master
-use Rattle.result.specs.Guarantee.{Kinded, SignalDue}
-use Rattle.plan.specs.Channel.{isMasterType, either, channelType}
-use Rattle.plan.specs.Columns.{Signal, signalData}
-use lib.Dec.{eqb}
+-- a time column is its group's master; the channel of a signal column has no reason
+abbrev Made : List ℕ → Column → Bool → Type 0
+Made s c true = masterOf s (c .group) ≡ some (c .channel)
+Made s c false = reasonFor s (c .group .at) (c .channel) ≡ 0
 
 pub record Sourced (s : List ℕ) (all : List SrcGroup) (c : Column) : Type 0 where
   pub groupIn : In (c .group) all
   pub stored : isStorage s (c .group .at) ≡ false
   pub channelIn : In (c .channel) (c .group .channels)
   pub fitting : fits s (c .group .at) (c .channel) ≡ true
-  pub kinded : Kinded s c (c .isTime)
+  pub made : Made s c (c .isTime)
+  pub signal : SignalDue s (c .channel) (c .signalOf)
 
 pub timed-master : (s : List ℕ) (all : List SrcGroup) (c : Column) → Sourced s all c → c .isTime ≡ true → masterOf s (c .group) ≡ some (c .channel)
-timed-master s all c h e = let k : Kinded s c true = rw e at (h .kinded) in k .0
+timed-master s all c h e = let k : Made s c true = rw e at (h .made) in k
 
-not-master : (s : List ℕ) (c : ℕ) → isMasterType s c ≡ true → channelType s c ≡ 1 → ⊥
-unfolding isMasterType
-not-master s c h t = let g : either (eqb 1 2) (eqb 1 3) ≡ true = rw t at h in let z : _≡_ {A = ℕ} 0 1 = cc in omega arith
-
-kept-due : (s : List ℕ) (n c : ℕ) (d : Signal) → SignalKnown s n c d → SignalDue s c d
-kept-due s n c unsigned k = k
-kept-due s n c (signalData fs) k = (k .0, n, k .1)
-
-pub signal-due : (s : List ℕ) (c : Column) (t : Bool) → Kinded s c t → SignalDue s (c .channel) (c .signalOf)
-signal-due s c true k =
-    subst (SignalDue s (c .channel)) (sym (k .1)) (λ t. absurd (not-master s (c .channel) (master-known s (c .group) (c .channel) (k .0) .master .typed) t))
-signal-due s c false k = kept-due s (k .0) (c .channel) (c .signalOf) (decide-kept s (k .0) (c .group .at) (c .channel) (c .signalOf) (k .1) .signal)
+pub made-kinded : (s : List ℕ) (c : Column) (t : Bool) → Made s c t → Kinded s c t
+made-kinded s c true h = master-known s (c .group) (c .channel) h .master .first
+made-kinded s c false h = h
 
 -- ---- what is known of a plan; n fragments were found in the walk
 pub record Planned (s : List ℕ) (all : List SrcGroup) (n : ℕ) (p : Plan) : Type 0 where
   pub sourced : (c : Column) → In c (p .columns) → Sourced s all c
+  pub omitted : (o : Omission) → In o (p .omissions) → OmissionDue s all o
   pub named : (c : Column) → In c (p .columns) → NamesMaster s all (p .columns) c (c .isTime)
   pub timesOnce : (a : ℕ) → timesAt a (p .columns) ≤ 1
   pub signals : n + signalsOf (p .columns) ≡ p .fragments
@@ -66,8 +59,13 @@ total x p = columnsOf x (p .columns) + omissionsOf x (p .omissions)
 
 module _ (s : List ℕ) (all : List SrcGroup) (n : ℕ) where
   -- an omission changes no column
-  omitted-planned : (p : Plan) (a r : ℕ) → Planned s all n p → Planned s all n (withOmission a r p)
-  omitted-planned p a r h = record { sourced = h .sourced; named = h .named; timesOnce = h .timesOnce; signals = h .signals; few = h .few }
+  omitted-planned : (p : Plan) (o : Omission) → Planned s all n p → OmissionDue s all o → Planned s all n (withOmission (o .at) (o .reason) p)
+  omitted-planned p o h k =
+      record { sourced = h .sourced; omitted = λ u i. each u (in-cases (p .omissions) i); named = h .named; timesOnce = h .timesOnce; signals = h .signals; few = h .few }
+    where
+      each : (u : Omission) → In u (p .omissions) ⊎ In u (o ∷ []) → OmissionDue s all u
+      each u (inl i) = h .omitted u i
+      each u (inr i) = subst (OmissionDue s all) (sym (in-one i)) k
 
   -- one column more
   column-planned : (p : Plan) (c : Column) → Planned s all n p → Sourced s all c → NamesMaster s all (p .columns ++ (c ∷ [])) c (c .isTime)
@@ -76,6 +74,7 @@ module _ (s : List ℕ) (all : List SrcGroup) (n : ℕ) where
   column-planned p c h k m t f =
       record {
         sourced = λ d i. source d (in-cases (p .columns) i);
+        omitted = h .omitted;
         named = λ d i. name d (in-cases (p .columns) i);
         timesOnce = t;
         signals = rw (signals-more (p .columns) c) (omega (arith, h .signals));
@@ -139,8 +138,9 @@ module _ (s : List ℕ) (all : List SrcGroup) (n : ℕ) (g : SrcGroup) (m : Opti
       → In c (g .channels) → (c ≡ ownMaster (masterOf s g) → ⊥) → decide s (p .fragments) (g .at) c ≡ ok d → ChannelDone c p (decided g m c p d)
   unfolding total
   channel-done c p (omitted r) h k i o e =
+      let w = decide-reason s (p .fragments) (g .at) c (omitted r) e in
       record {
-        planned = omitted-planned s all n p c r h;
+        planned = omitted-planned s all n p (record { at = c; reason = r }) h (OmissionDue.ofChannel g gin stored i (w .0) (w .1));
         due = k;
         totals = λ x. rw (omission-more x (p .omissions) (record { at = c; reason = r })) (omega arith);
         times = λ x. refl;
@@ -151,7 +151,7 @@ module _ (s : List ℕ) (all : List SrcGroup) (n : ℕ) (g : SrcGroup) (m : Opti
       let later = given-later (p .columns) (col ∷ []) m (g .records) (timeOf s all g) k in
       record {
         planned = column-planned s all n p col h
-            (record { groupIn = gin; stored = stored; channelIn = i; fitting = f .fitting; kinded = (p .fragments, e, o) })
+            (record { groupIn = gin; stored = stored; channelIn = i; fitting = f .fitting; made = decide-reason s (p .fragments) (g .at) c (kept d) e; signal = kept-due s (p .fragments) c d (f .signal) })
             (given-due (p .columns ++ (col ∷ [])) col (timeOf s all g) later)
             (λ a. rw (times-at-signal (p .columns) col refl a) (h .timesOnce a))
             (signal-few s (p .fragments) c d (h .few) (f .signal));
@@ -240,7 +240,7 @@ module _ (s : List ℕ) (all : List SrcGroup) (n : ℕ) (once : (x : ℕ) → oc
     new-planned p h e =
         let b = master-known s t m (timed .master) in
         column-planned s all n p (timeOfGroup t m) h
-        (record { groupIn = timed .isIn; stored = b .stored; channelIn = b .master .isIn; fitting = b .master .fitting; kinded = (timed .master, refl) })
+        (record { groupIn = timed .isIn; stored = b .stored; channelIn = b .master .isIn; fitting = b .master .fitting; made = timed .master; signal = master-unsigned s m (b .master .typed) })
         refl
         (λ a. or-not (t .at) a
         (λ q. omega (arith, times-at-here (p .columns) (timeOfGroup t m) refl a q, ap (λ (y : ℕ). timesAt y (p .columns)) q, time-missing (t .at) 0 (p .columns) e))
@@ -329,7 +329,7 @@ module _ (s : List ℕ) (all : List SrcGroup) (n : ℕ) (once : (x : ℕ) → oc
           own = λ k b. absurd (time≢untimed (sym o ∙ time-own s all g k b));
         }
     timed-done p q differs o h e =
-        let r = channels-done s all n g none gin stored (g .channels) (withOmission (g .at) 1 p) q (omitted-planned s all n p (g .at) 1 h) (rw o refl) (λ c i. i) e in
+        let r = channels-done s all n g none gin stored (g .channels) (withOmission (g .at) 1 p) q (omitted-planned s all n p (record { at = g .at; reason = 1 }) h (OmissionDue.ofGroup g gin stored refl refl o)) (rw o refl) (λ c i. i) e in
         record {
           planned = r .planned;
           totals = λ x y. omega (arith, r .totals x, r .times x, due-stored s g x stored, omitted-total x (g .at) 1 p y);
@@ -486,7 +486,7 @@ module _ (s : List ℕ) (all : List SrcGroup) (n : ℕ) (p : Plan) (once : (x : 
   unfolding plan timesAt signalsOf
   plan-done =
       groups-done s all n once all (λ g i. i) (emptyPlan n) p
-      (record { sourced = λ c i. absurd (in-none i); named = λ c i. absurd (in-none i); timesOnce = λ a. omega arith; signals = omega arith; few = few }) e
+      (record { sourced = λ c i. absurd (in-none i); omitted = λ o i. absurd (in-none i); named = λ c i. absurd (in-none i); timesOnce = λ a. omega arith; signals = omega arith; few = few }) e
 
   pub plan-known : Planned s all n p
   plan-known = plan-done .planned

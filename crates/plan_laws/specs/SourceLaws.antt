@@ -14,12 +14,12 @@ use Rattle.mdf.specs.Group.{Group, DataGroup, addresses, dataGroupsOf, dataGrou
 use Rattle.mdf.specs.Count.{countGroups, counts}
 use Rattle.plan.specs.Columns.{SrcGroup, withCounts, srcGroups}
 use Rattle.result.specs.Member.{In, here, there}
-use Rattle.result.specs.Recording.{groupPlaces, countedPlaces, groupNumber, Recorded}
+use Rattle.result.specs.Recording.{groupPlaces, countedPlaces, groupNumber, Recorded, Met}
 use Rattle.plan_laws.specs.Lists.{in-left, in-right, in-cases, in-none, same-yes, occurs, occurs-append, occurs-in, Distinct, distinct-of}
 use Rattle.plan_laws.specs.WalkLaws.{Sound, walk-sound, walk-open}
 use Rattle.plan_laws.specs.LinkLaws.{Walked, walk-linked}
 use Rattle.plan_laws.specs.OrderLaws.{walk-follows, cn-is-in}
-use Rattle.plan_laws.specs.GroupLaws.{allAddresses, allChannels, dgAddresses, groupCount, DataGroupFine, Counted, no-more, and-more, counts-counted, counted-length, count-length, addresses-length, groups-occurs, data-groups-fine, cg-is-in, few-channels, few-groups, few-data-groups}
+use Rattle.plan_laws.specs.GroupLaws.{allAddresses, allChannels, dgAddresses, groupCount, DataGroupFine, Counted, no-more, and-more, counts-counted, counted-length, count-length, addresses-length, groups-occurs, data-groups-fine, data-groups-met, cg-is-in, few-channels, few-groups, few-data-groups}
 
 -- ---- one group and its count
 pub record Numbered (d : DataGroup) (k : ℕ) (gs : List Group) (ns : List ℕ) (g : SrcGroup) : Type 0 where
@@ -191,12 +191,6 @@ pub record SrcGroupAt (a : ℕ) (gs : List SrcGroup) : Type 0 where
   pub isIn : In group gs
   pub at : group .at ≡ a
 
--- a CN of the walk, as a channel
-pub record ChannelAt (a : ℕ) (gs : List SrcGroup) : Type 0 where
-  pub group : SrcGroup
-  pub isIn : In group gs
-  pub channelIn : In a (group .channels)
-
 pub record Groups (s : List ℕ) (st : Source) (ns : List ℕ) (gs : List SrcGroup) : Type 0 where
   -- as many counts as groups
   pub counted : Counted s (dataGroups st) ns
@@ -204,11 +198,12 @@ pub record Groups (s : List ℕ) (st : Source) (ns : List ℕ) (gs : List SrcGro
   -- every address of a DG, a group or a channel stands in one place only, and none is 0
   pub once : (x : ℕ) → occurs x (dgAddresses (dataGroups st)) + occurs x (allAddresses gs) ≤ 1
   pub nonzero : occurs 0 (allAddresses gs) ≡ 0
-  -- every group comes from a DG of the walk, with its count; every CG of the walk is a group, every CN a channel; their blocks passed their checks
+  -- the groups are what links list; every CG of the walk is a group, every CN a channel, and there are no others
   pub recorded : Recorded s (dataGroups st) gs
+  pub met : Met st gs
+  -- every group comes from a DG of the walk, with its count; their blocks passed their checks
   pub origins : (g : SrcGroup) → In g gs → Origin s (dataGroups st) g
   pub complete : (a : ℕ) → In (cg a) (st .items) → SrcGroupAt a gs
-  pub completeCN : (a : ℕ) → In (cn a) (st .items) → ChannelAt a gs
   pub checkedDG : (d : DataGroup) → In d (dataGroups st) → DataGroupFine s d
   pub checked : (g : SrcGroup) → In g gs → SourceFine s g
   -- limits
@@ -238,9 +233,13 @@ groups-known s st ns w k =
         groups = src-places s ds ns c;
         each = λ g i. (from g i .dataGroupIn, from g i .named);
       };
+      met = record {
+        groups = λ a i. let r = all a i in (r .group, r .isIn, r .at);
+        channels = λ a i. allCN a i;
+        noOther = back;
+      };
       origins = from;
       complete = all;
-      completeCN = allCN;
       checkedDG = fineDG;
       checked = λ g i. source-fine s ds fineDG g (from g i);
       fewDG = omega (arith, few-data-groups (st .fragments) (st .items), h .fewDG);
@@ -273,11 +272,17 @@ groups-known s st ns w k =
         let t = src-has s ds ns c (r .dataGroup) (r .isIn) (r .group .group) (r .group .isIn) in
         record { group = t .source; isIn = t .isIn; at = t .at ∙ r .group .at }
 
-    allCN : (a : ℕ) → In (cn a) (st .items) → ChannelAt a (srcGroups ds ns)
+    allCN : (a : ℕ) → In (cn a) (st .items) → (g : SrcGroup) × In g (srcGroups ds ns) × In a (g .channels)
     allCN a i =
         let r = cn-is-in (st .fragments) a (st .items) (walk-open s st w) (walk-follows s st w) i in
         let t = src-has s ds ns c (r .dataGroup) (r .isIn) (r .group) (r .groupIn) in
-        record { group = t .source; isIn = t .isIn; channelIn = rw (t .channels) (r .channelIn) }
+        (t .source, t .isIn, rw (t .channels) (r .channelIn))
+
+    back : (g : SrcGroup) → In g (srcGroups ds ns) → In (cg (g .at)) (st .items) × ((x : ℕ) → In x (g .channels) → In (cn x) (st .items))
+    back g i =
+        let o = from g i in
+        let m = data-groups-met (st .fragments) (st .items) (g .dataGroup) (o .dataGroupIn) (o .group) (o .groupIn) in
+        (rw (o .sameAt) at (m .group), λ x j. m .channels x (rw (o .sameChannels) j))
 
 -- ---- addresses tell groups and channels apart
 

@@ -4,23 +4,21 @@ use mathlib.Core.List.{List, [], _∷_, _++_}
 use mathlib.Core.Bool.{Bool, true, false}
 use mathlib.Core.Option.{Option, none, some}
 use mathlib.Core.Path.{_≡_}
-use lib.ListN.{length}
+use lib.ListN.{length, getD}
 use lib.Dec.{eqb}
 use Rattle.base.specs.Choice.{pick, ifLt, ifEq}
 use Rattle.base.specs.Field.{leAt}
 use Rattle.base.specs.Blit.{part}
 use Rattle.mdf.specs.Block.{kindDG, kindCG, kindCN, kindDL, kindDT, kindDV, kindSD, kindAt, sizeAt, linksAt, linkAt, dataAt}
-use Rattle.mdf.specs.Group.{groupFlags, samples, invalBytes, isStorage}
+use Rattle.mdf.specs.Group.{DataGroup, groupFlags, samples, invalBytes, isStorage}
 use Rattle.plan.specs.Channel.{bit, keepsInval, channelBytes}
 use Rattle.mdf.specs.Walk.{Source, walk}
-use Rattle.mdf.specs.Walk as walking
 use Rattle.base.specs.Checked.{ok}
-use Rattle.plan.specs.Columns.{SrcGroup, Column, Omission, TimeOf, time, untimed, differs, timeOf, masterOf, Signal, unsigned, signalData, ownMaster, decide, kept}
-use Rattle.mdf.specs.Chain.{Chain.signal, found, limits, chain}
-use Rattle.plan.specs.Channel.{channelType}
+use Rattle.plan.specs.Columns.{SrcGroup, Column, Omission, TimeOf, time, untimed, differs, timeOf, omissionAddresses}
 use Rattle.plan.specs.Data.{isNonempty}
 use Rattle.plan.specs.Layout.{Placed, cgOf, cnOf, columnBlocks}
 pub use Rattle.result.specs.Member.{In, here, there}
+use Rattle.result.specs.Recording.{Recorded, Met, IsMaster, reasonFor, OmissionDue, Among, filePlaces, SignalDue}
 use Rattle.result.specs.Payload.{recordsOf, cells, signalBytes}
 use Rattle.result.specs.Fill.{Block, dgBytes, cgBytes, cnBytes, dlBytes, cgAt, nextDG}
 use Rattle.result.specs.Result.{Args, Decided, blocksOf, memoOf}
@@ -177,23 +175,33 @@ abbrev pub NamesMaster : List ℕ → List SrcGroup → List Column → Column �
 NamesMaster s all cs c true = c .master ≡ none
 NamesMaster s all cs c false = MasterDue cs c (timeOf s all (c .group))
 
--- a time column is its group's master and has no signal data; any other is what planning decides of its channel
+-- a time column is its group's master; any other column is of a channel that nothing omits
 abbrev pub Kinded : List ℕ → Column → Bool → Type 0
-Kinded s c true = (masterOf s (c .group) ≡ some (c .channel)) × (c .signalOf ≡ unsigned)
-Kinded s c false = (n : ℕ) × (decide s n (c .group .at) (c .channel) ≡ ok (kept (c .signalOf))) × (c .channel ≡ ownMaster (masterOf s (c .group)) → ⊥)
+Kinded s c true = IsMaster s (c .group .at) (c .group .channels) (c .channel)
+Kinded s c false = reasonFor s (c .group .at) (c .channel) ≡ 0
 
--- "source is the joined data of a type 1 channel's SD chain, else nothing"
-abbrev pub SignalDue : List ℕ → ℕ → Signal → Type 0
-SignalDue s c unsigned = channelType s c ≡ 1 → linkAt s c 5 ≡ 0
-SignalDue s c (signalData fs) = (channelType s c ≡ 1) × (n : ℕ) × (chain signal limits s n (linkAt s c 5) ≡ found fs)
+-- ---- the list
 
--- ---- the guarantee, of the final bytes f of a call with arguments x, for which d was decided
+-- omission number k
+unfoldable pub omissionAt : ℕ → List Omission → Option Omission
+omissionAt k [] = none
+omissionAt zero (o ∷ os) = some o
+omissionAt (suc k) (o ∷ os) = omissionAt k os
+
+-- "the number n, then n addresses, then n reasons, in file order" at the front of the list
+pub record Listed (l : List ℕ) (os : List Omission) : Type 0 where
+  pub room : 1 + 2 * length os ≤ length l
+  pub number : getD l 0 0 ≡ length os
+  pub each : (k : ℕ) (o : Omission) → omissionAt k os ≡ some o → (getD l (suc k) 0 ≡ o .at) × (getD l (suc (length os + k)) 0 ≡ o .reason)
+
+-- ---- the guarantee, of the final bytes f and the final list l of a call with arguments x, for which d was decided
 
 unfoldable pub columnsPlaced : List Placed → List Column
 columnsPlaced [] = []
 columnsPlaced (p ∷ ps) = p .column ∷ columnsPlaced ps
 
-pub record Guaranteed (x : Args) (d : Decided) (f : List ℕ) : Type 0 where
+pub record Guaranteed (x : Args) (d : Decided) (f l : List ℕ) : Type 0 where
+  -- ---- the result: "followed from the header by links alone, show exactly the planned columns in order, no two blocks share a byte"
   -- the planned columns are those placed, in order
   pub planned : columnsPlaced (d .laidOut .placed) ≡ d .planned .columns
   -- followed from the header by links alone, the file shows exactly these, however far one looks; with their payloads, signal data and masters
@@ -201,15 +209,34 @@ pub record Guaranteed (x : Args) (d : Decided) (f : List ℕ) : Type 0 where
   -- every block is written as planned, and no two share a byte
   pub filled : (b : Block) → In b (blocksOf x (d .laidOut)) → Stands f (b .at) (b .bytes)
   pub apart : AllApart (blocksOf x (d .laidOut))
+
+  -- ---- the recording: "groups in file order", "A group's channels are the CN of its own chain"
+  -- its groups, their channels and their fragments are what links list from its header on; they are what the walk met
+  pub recording : (ds : List DataGroup) × Recorded (x .image) ds (d .groups)
+  pub met : (st : Source) → walk (x .image) ≡ ok st → Met st (d .groups)
+
+  -- ---- "every channel became one column or one omission"
   -- every channel of every group that is not VLSD storage is one column or one omission, and nothing else is a column
   pub once : (g : SrcGroup) → In g (d .groups) → isStorage (x .image) (g .at) ≡ false → (c : ℕ) → In c (g .channels)
       → columnsOf c (d .planned .columns) + omissionsOf c (d .planned .omissions) ≡ 1
   pub source : (c : Column) → In c (d .planned .columns)
       → In (c .group) (d .groups) × (isStorage (x .image) (c .group .at) ≡ false) × In (c .channel) (c .group .channels)
+  -- a time column is its group's master, any other column has no reason to be omitted
+  pub kinded : (c : Column) → In c (d .planned .columns) → Kinded (x .image) c (c .isTime)
+  -- an omission is of a channel for its reason, or of a group's CG with reason 1, which each group has whose remote master has another count
+  pub omitted : (o : Omission) → In o (d .planned .omissions) → OmissionDue (x .image) (d .groups) o
+  pub differing : (g : SrcGroup) → In g (d .groups) → isStorage (x .image) (g .at) ≡ false → timeOf (x .image) (d .groups) g ≡ differs
+      → In (record { at = g .at; reason = 1 }) (d .planned .omissions)
+  -- the lent list has the omissions at its front, in file order
+  pub inOrder : Among (omissionAddresses (d .planned .omissions)) (filePlaces (d .groups))
+  pub listed : Listed l (d .planned .omissions)
+
+  -- ---- "payloads and signal data equal their source": `shows`, with
   -- the records of a group with a nonempty column are as many as its count
   pub counted : (c : Column) → In c (d .planned .columns) → isNonempty (x .image) c ≡ true
       → length (recordsOf (x .image) (c .group)) ≡ c .group .records
+  -- signal data is that of a type 1 channel's SD chain
   pub signals : (c : Column) → In c (d .planned .columns) → SignalDue (x .image) (c .channel) (c .signalOf)
-  pub kinded : (c : Column) → In c (d .planned .columns) → Kinded (x .image) c (c .isTime)
-  pub every : (st : Source) → walk (x .image) ≡ ok st → (a : ℕ) → In (walking.cn a) (st .items) → (g : SrcGroup) × In g (d .groups) × In a (g .channels)
+
+  -- ---- "masters are named as planned"
   pub masters : (c : Column) → In c (d .planned .columns) → NamesMaster (x .image) (d .groups) (d .planned .columns) c (c .isTime)

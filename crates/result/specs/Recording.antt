@@ -1,12 +1,17 @@
--- The recording's side of the guarantee: what its links list, where records, signal data and reasons come from. Nothing of the walk or of planning.
+-- The recording's side of the guarantee, in document 01's words: what its links list, and what is due of its channels.
 use Prim.Native.Nat.{ℕ, zero, suc, _+_}
+use mathlib.Core.Bool.{Bool, true, false}
 use mathlib.Core.List.{List, [], _∷_, _++_}
 use mathlib.Core.Option.{Option, none, some}
 use mathlib.Core.Path.{_≡_}
-use Rattle.mdf.specs.Block.{linkAt}
-use Rattle.mdf.specs.Chain.{Chain.records, found, limits, chain}
-use Rattle.mdf.specs.Group.{Group, DataGroup, addresses}
-use Rattle.plan.specs.Columns.{SrcGroup}
+use lib.Dec.{eqb}
+use Rattle.base.specs.Choice.{pick, ifEq}
+use Rattle.mdf.specs.Block.{kindCG, kindCN, kindAt, linkAt}
+use Rattle.mdf.specs.Chain.{Chain.records, Chain.signal, found, limits, chain}
+use Rattle.mdf.specs.Group.{Group, DataGroup, addresses, isStorage}
+use Rattle.mdf.specs.Walk.{cg, cn, Source}
+use Rattle.plan.specs.Channel.{channelType, fits, isMasterType, both}
+use Rattle.plan.specs.Columns.{kindCA, SrcGroup, differs, timeOf, Signal, unsigned, signalData, Omission}
 use Rattle.result.specs.Member.{In}
 
 -- ---- chains
@@ -51,3 +56,59 @@ pub record Recorded (s : List ℕ) (ds : List DataGroup) (gs : List SrcGroup) : 
   pub groups : countedPlaces gs ≡ groupPlaces ds
   pub each : (g : SrcGroup) → In g gs
       → In (g .dataGroup) ds × (groupNumber (g .number) (g .dataGroup .groups) ≡ some (record { at = g .at; channels = g .channels }))
+
+-- the same of the walk's own items: each CG is a group, each CN a channel of one, and there are no others
+pub record Met (st : Source) (gs : List SrcGroup) : Type 0 where
+  pub groups : (a : ℕ) → In (cg a) (st .items) → (g : SrcGroup) × In g gs × (g .at ≡ a)
+  pub channels : (a : ℕ) → In (cn a) (st .items) → (g : SrcGroup) × In g gs × In a (g .channels)
+  pub noOther : (g : SrcGroup) → In g gs → In (cg (g .at)) (st .items) × ((c : ℕ) → In c (g .channels) → In (cn c) (st .items))
+
+-- ---- channels
+
+-- "A group's master is its first fitting channel of type 2 or 3": m among the channels of the group with its CG at g
+pub record IsMaster (s : List ℕ) (g : ℕ) (channels : List ℕ) (m : ℕ) : Type 0 where
+  pub before : List ℕ
+  pub after : List ℕ
+  pub place : channels ≡ before ++ (m ∷ after)
+  pub typed : isMasterType s m ≡ true
+  pub fitting : fits s g m ≡ true
+  pub first : (c : ℕ) → In c before → both (isMasterType s c) (fits s g c) ≡ false
+
+-- a link leads to a block of that kind
+unfoldable pub leadsTo : List ℕ → ℕ → ℕ → Bool
+leadsTo s a k = ifEq a 0 false (eqb (kindAt s a) k)
+
+-- why a channel of the group with its CG at g is omitted, 0 where it isn't: "Reasons, tested in this order: .. 2 doesn't fit; 3 further master;
+-- 4 type 4; 5 array, CN link 2 leads to CA; 6 structure, it leads to CN; 7 type 1 whose CN link 6 leads to a CG"
+unfoldable pub reasonFor : List ℕ → ℕ → ℕ → ℕ
+reasonFor s g c =
+    pick (fits s g c)
+    (pick (isMasterType s c) 3
+    (ifEq (channelType s c) 4 4
+    (pick (leadsTo s (linkAt s c 1) kindCA) 5
+    (pick (leadsTo s (linkAt s c 1) kindCN) 6
+    (pick (both (eqb (channelType s c) 1) (leadsTo s (linkAt s c 5) kindCG)) 7 0)))))
+    2
+
+-- an omission is of a channel for its reason, or of a group: "1 remote master with another count (address of the group's own CG ..)"
+pub data OmissionDue (s : List ℕ) (gs : List SrcGroup) (o : Omission) : Type 0 where
+  ofChannel : (g : SrcGroup) → In g gs → isStorage s (g .at) ≡ false → In (o .at) (g .channels) → o .reason ≡ reasonFor s (g .at) (o .at)
+      → (o .reason ≡ 0 → ⊥) → OmissionDue s gs o
+  ofGroup : (g : SrcGroup) → In g gs → isStorage s (g .at) ≡ false → o .at ≡ g .at → o .reason ≡ 1 → timeOf s gs g ≡ differs → OmissionDue s gs o
+
+-- the list is the other with some left out
+pub data Among : List ℕ → List ℕ → Type 0 where
+  nothing : Among [] []
+  left : {a : ℕ} {l m : List ℕ} → Among l m → Among l (a ∷ m)
+  next : {a : ℕ} {l m : List ℕ} → Among l m → Among (a ∷ l) (a ∷ m)
+
+-- every group with its channels after it, in file order
+unfoldable pub filePlaces : List SrcGroup → List ℕ
+filePlaces [] = []
+filePlaces (g ∷ gs) = (g .at ∷ g .channels) ++ filePlaces gs
+
+-- the signal data of channel c: "source is the joined data of a type 1 channel's SD chain, else nothing", "Any other nonzero link 6 of type 1 is an
+-- SD chain"; n fragments were found before the chain
+abbrev pub SignalDue : List ℕ → ℕ → Signal → Type 0
+SignalDue s c unsigned = channelType s c ≡ 1 → linkAt s c 5 ≡ 0
+SignalDue s c (signalData fs) = (channelType s c ≡ 1) × (n : ℕ) × (chain signal limits s n (linkAt s c 5) ≡ found fs)

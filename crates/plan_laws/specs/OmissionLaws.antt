@@ -1,0 +1,137 @@
+-- Omissions stand in file order, and each group whose remote master has another count has one.
+use Prim.Native.Nat.{ℕ}
+use mathlib.Core.List.{List, [], _∷_, _++_, append-nil, append-assoc}
+use mathlib.Core.Bool.{false}
+use mathlib.Core.Option.{Option, none, some}
+use mathlib.Core.Path.{_≡_, refl, sym, ap, _∙_, subst}
+use native.Mathlib.Omega.{arith}
+use Rattle.base.specs.Checked.{ok}
+use Rattle.mdf.specs.Group.{isStorage}
+use Rattle.plan.specs.Columns.{SrcGroup, masterOf, TimeOf, time, untimed, differs, timeOf, Column, Omission, Plan, withOmission, timeColumn, onPlanned, withColumn, withTime, Decision, omitted, kept, decide, decided, planChannels, ownMaster, planTimed, planGroup, planGroups, plan, omissionAddresses}
+use Rattle.result.specs.Member.{In, here, there}
+use Rattle.result.specs.Recording.{Among, filePlaces}
+use Rattle.plan_laws.specs.Answers.{ok-same, true≢false, with-ok, eq-cases, pick-cases}
+use Rattle.plan_laws.specs.Lists.{in-left, in-right, in-none}
+use Rattle.plan_laws.specs.DecideLaws.{time≢differs}
+
+-- ---- lists with some left out
+nothing-among : (l : List ℕ) → Among [] l
+nothing-among [] = Among.nothing
+nothing-among (a ∷ l) = Among.left (nothing-among l)
+
+among-append : {l m k n : List ℕ} → Among l m → Among k n → Among (l ++ k) (m ++ n)
+among-append Among.nothing y = y
+among-append (Among.left x) y = Among.left (among-append x y)
+among-append (Among.next x) y = Among.next (among-append x y)
+
+addresses-append : (os us : List Omission) → omissionAddresses (os ++ us) ≡ omissionAddresses os ++ omissionAddresses us
+unfolding omissionAddresses
+addresses-append [] us = refl
+addresses-append (o ∷ os) us = ap (λ (l : List ℕ). o .at ∷ l) (addresses-append os us)
+
+-- ---- from plan p to plan q: omissions more, whose addresses are among l in order
+record More (p q : Plan) (l : List ℕ) : Type 0 where
+  more : List Omission
+  is : q .omissions ≡ p .omissions ++ more
+  among : Among (omissionAddresses more) l
+
+no-more : (p q : Plan) (l : List ℕ) → p ≡ q → More p q l
+unfolding omissionAddresses
+no-more p q l e =
+    record { more = []; is = ap (λ (r : Plan). r .omissions) (sym e) ∙ sym (append-nil (p .omissions)); among = nothing-among l }
+
+-- one omission, then those of the rest
+omitted-more : (p q : Plan) (a r : ℕ) (l : List ℕ) → More (withOmission a r p) q l → More p q (a ∷ l)
+unfolding omissionAddresses
+omitted-more p q a r l m =
+    record {
+      more = record { at = a; reason = r } ∷ m .more;
+      is = m .is ∙ append-assoc (p .omissions) (record { at = a; reason = r } ∷ []) (m .more);
+      among = Among.next (m .among);
+    }
+
+left-more : {p q : Plan} {l : List ℕ} (a : ℕ) → More p q l → More p q (a ∷ l)
+left-more a m = record { more = m .more; is = m .is; among = Among.left (m .among) }
+
+decided-more : (g : SrcGroup) (m : Option ℕ) (c : ℕ) (p q : Plan) (d : Decision) (l : List ℕ) → More (decided g m c p d) q l → More p q (c ∷ l)
+decided-more g m c p q (omitted r) l h = omitted-more p q c r l h
+decided-more g m c p q (kept d) l h = left-more c (record { more = h .more; is = h .is; among = h .among })
+
+channels-more : (s : List ℕ) (g : SrcGroup) (own : ℕ) (m : Option ℕ) (cs : List ℕ) (p q : Plan) → planChannels s g own m cs p ≡ ok q → More p q cs
+unfolding planChannels
+channels-more s g own m [] p q e = no-more p q [] (ok-same e)
+channels-more s g own m (c ∷ cs) p q e =
+    eq-cases c own _ _ e
+    (λ _ r. left-more c (channels-more s g own m cs p q r))
+    (λ _ r. with-ok (decide s (p .fragments) (g .at) c) _ r (λ d _ r. decided-more g m c p q d cs (channels-more s g own m cs (decided g m c p d) q r)))
+
+time-omissions : (o : Option ℕ) (c : Column) (p : Plan) → onPlanned o (withColumn c 0 p) p .omissions ≡ p .omissions
+time-omissions none c p = refl
+time-omissions (some k) c p = refl
+
+-- of a group; its own omission comes first
+record GroupMore (s : List ℕ) (all : List SrcGroup) (g : SrcGroup) (p q : Plan) : Type 0 where
+  given : More p q (g .at ∷ g .channels)
+  differing : isStorage s (g .at) ≡ false → timeOf s all g ≡ differs → In (record { at = g .at; reason = 1 }) (q .omissions)
+
+untimed≢differs : untimed ≡ differs → ⊥
+untimed≢differs e = let z : _≡_ {A = ℕ} 0 1 = cc in omega arith
+
+timed-more : (s : List ℕ) (all : List SrcGroup) (g : SrcGroup) (p q : Plan) (o : TimeOf) → timeOf s all g ≡ o → planTimed s g o p ≡ ok q → GroupMore s all g p q
+unfolding withTime omitted-more
+timed-more s all g p q (time t m) o e =
+    let r = channels-more s g _ _ (g .channels) (withTime t m p) q e in
+    record {
+      given = left-more (g .at) (record {
+        more = r .more;
+        is = r .is ∙ ap (λ (l : List Omission). l ++ r .more) (time-omissions (timeColumn (t .at) 0 (p .columns)) _ p);
+        among = r .among;
+      });
+      differing = λ _ d. absurd (time≢differs (sym d ∙ o));
+    }
+timed-more s all g p q untimed o e =
+    record { given = left-more (g .at) (channels-more s g _ none (g .channels) p q e); differing = λ _ d. absurd (untimed≢differs (sym o ∙ d)) }
+timed-more s all g p q differs o e =
+    let r = omitted-more p q (g .at) 1 (g .channels) (channels-more s g _ none (g .channels) (withOmission (g .at) 1 p) q e) in
+    record { given = r; differing = λ _ _. subst (In _) (sym (r .is)) (in-right (p .omissions) here) }
+
+group-more : (s : List ℕ) (all : List SrcGroup) (g : SrcGroup) (p q : Plan) → planGroup s all g p ≡ ok q → GroupMore s all g p q
+unfolding planGroup
+group-more s all g p q e =
+    pick-cases (isStorage s (g .at)) _ _ e
+    (λ b r. record { given = no-more p q (g .at ∷ g .channels) (ok-same r); differing = λ f _. absurd (true≢false (sym b ∙ f)) })
+    (λ _ r. timed-more s all g p q (timeOf s all g) refl r)
+
+record GroupsMore (s : List ℕ) (all gs : List SrcGroup) (p q : Plan) : Type 0 where
+  given : More p q (filePlaces gs)
+  differing : (g : SrcGroup) → In g gs → isStorage s (g .at) ≡ false → timeOf s all g ≡ differs → In (record { at = g .at; reason = 1 }) (q .omissions)
+
+groups-more : (s : List ℕ) (all gs : List SrcGroup) (p q : Plan) → planGroups s all gs p ≡ ok q → GroupsMore s all gs p q
+unfolding planGroups filePlaces
+groups-more s all [] p q e = record { given = no-more p q [] (ok-same e); differing = λ g i. absurd (in-none i) }
+groups-more s all (g ∷ gs) p q e =
+    with-ok (planGroup s all g p) _ e (λ u b r.
+    let h = group-more s all g p u b in
+    let k = groups-more s all gs u q r in
+    record {
+      given = record {
+        more = h .given .more ++ k .given .more;
+        is = k .given .is ∙ ap (λ (l : List Omission). l ++ k .given .more) (h .given .is) ∙ append-assoc (p .omissions) (h .given .more) (k .given .more);
+        among = subst (λ (l : List ℕ). Among l (filePlaces (g ∷ gs))) (sym (addresses-append (h .given .more) (k .given .more))) (among-append (h .given .among) (k .given .among));
+      };
+      differing = each h k;
+    })
+  where
+    each : {u : Plan} → GroupMore s all g p u → GroupsMore s all gs u q → (j : SrcGroup) → In j (g ∷ gs) → isStorage s (j .at) ≡ false → timeOf s all j ≡ differs
+        → In (record { at = j .at; reason = 1 }) (q .omissions)
+    each h k j here f d = subst (In _) (sym (k .given .is)) (in-left (k .given .more) (h .differing f d))
+    each h k j (there i) f d = k .differing j i f d
+
+-- the whole plan
+pub plan-omissions : (s : List ℕ) (n : ℕ) (all : List SrcGroup) (p : Plan) → plan s n all ≡ ok p
+    → Among (omissionAddresses (p .omissions)) (filePlaces all)
+    × ((g : SrcGroup) → In g all → isStorage s (g .at) ≡ false → timeOf s all g ≡ differs → In (record { at = g .at; reason = 1 }) (p .omissions))
+unfolding plan
+plan-omissions s n all p e =
+    let r = groups-more s all all _ p e in
+    (subst (λ (l : List Omission). Among (omissionAddresses l) (filePlaces all)) (sym (r .given .is)) (r .given .among), r .differing)
