@@ -14,16 +14,18 @@ use Rattle.base.specs.ChoiceLaws.{lt-back}
 use Rattle.base.specs.Checked.{ok, Verdict, fine}
 use Rattle.mdf.specs.Chain.{Fragment}
 use Rattle.mdf.specs.Group.{Group, DataGroup, addresses, samples, invalBytes, isStorage}
-use Rattle.mdf.specs.Records.{rangesIn, runs, sizeOf, sortedRecords, Frame, sortedIn, unsortedFrames, unsortedRecords}
+use Rattle.mdf.specs.Walk.{idSize}
+use Rattle.mdf.specs.Records.{rangesIn, joined, runs, sizeOf, sortedRecords, Frame, sortedIn, unsortedFrames, unsortedRecords}
 use Rattle.mdf.specs.Count.{sortedCount, countOne, ofGroup, tallies, countGroups, countsFrom, counts}
 use Rattle.plan.specs.Channel.{both}
 use Rattle.plan.specs.Columns.{SrcGroup, withCounts, srcGroups, Column}
 use Rattle.plan.specs.Data.{isNonempty, anyNonempty, recordsIn, signalsIn, dataIn, allDataIn}
 use Rattle.result.specs.Payload.{framedRecords, groupRecords, recordsOf}
-use Rattle.result.specs.Guarantee.{In, here, there}
+use Rattle.result.specs.Member.{In, here, there}
+use Rattle.result.specs.Recording.{Fill, Framed}
 use Rattle.payload_laws.specs.Answers.{refused≢ok, ok-same, then-fine, then-ok, under}
 use Rattle.payload_laws.specs.Lists.{Long, in-append}
-use Rattle.payload_laws.specs.SortedLaws.{sorted-count, sorted-long, sorted-bytes, sorted-ranges}
+use Rattle.payload_laws.specs.SortedLaws.{joined-length, sorted-count, sorted-long, sorted-bytes, sorted-ranges}
 use Rattle.payload_laws.specs.FramedLaws.{counted-group, length-tallies, tallies-at, unsorted-several, framed-long, framed-bytes}
 
 -- ---- the counts, DG by DG
@@ -188,6 +190,38 @@ unfolding recordsOf
 checked-group {s} g m w =
     rw (m .address) at (read-at s (g .dataGroup .at) (g .number) (g .records) (addresses (g .dataGroup .groups)) (g .dataGroup .fragments)
     (m .counted) (m .within) (m .records) w)
+
+-- ---- a group that shares its DG: its records are its own among those that fill the DG's data
+
+-- group k of the DG at d with the groups gs and the fragments fs, counted n
+record FramedAt (s : List ℕ) (d k n : ℕ) (gs : List ℕ) (fs : List Fragment) : Type 0 where
+  frames : List Frame
+  fill : Fill s (idSize s d) gs frames (joined s fs)
+  whole : length (joined s fs) ≡ sizeOf fs
+  own : groupRecords s d k gs fs ≡ unsortedRecords k frames
+  many : length (groupRecords s d k gs fs) ≡ n
+
+framed-at : (s : List ℕ) (d k n : ℕ) (gs : List ℕ) (fs : List Fragment) {ms : List ℕ} → countGroups s d gs fs ≡ ok ms
+    → k < length gs → getD ms k 0 ≡ n → 1 < length gs → FramedAt s d k n gs fs
+framed-at s d k n [] fs e l q h = absurd (omega arith)
+framed-at s d k n (g ∷ []) fs e l q h = absurd (omega arith)
+framed-at s d k n (g ∷ i ∷ gs) fs e l q h =
+    let c = several-counts s d g i gs fs e in
+    let w = unsorted-several s d (g ∷ i ∷ gs) fs (c .1) in
+    record {
+      frames = c .0;
+      fill = w .fill;
+      whole = joined-length s fs (w .ranges);
+      own = ap (framedRecords k) (c .1);
+      many = read-several s d k n g i gs fs e l q .many;
+    }
+
+pub group-framed : {s : List ℕ} {ds : List DataGroup} (g : SrcGroup) → Member s ds g → 1 < length (g .dataGroup .groups) → Framed s g
+unfolding recordsOf
+group-framed {s} g m h =
+    let r = framed-at s (g .dataGroup .at) (g .number) (g .records) (addresses (g .dataGroup .groups)) (g .dataGroup .fragments) (m .counted) (m .within) (m .records)
+    (omega (arith, h, length-addresses (g .dataGroup .groups))) in
+    record { frames = r .frames; fill = r .fill; whole = r .whole; own = r .own; many = r .many }
 
 -- ---- the DG of a nonempty column is checked
 

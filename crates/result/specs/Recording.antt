@@ -1,18 +1,22 @@
 -- The recording's side of the guarantee, in document 01's words: what its links list, and what is due of its channels.
-use Prim.Native.Nat.{ℕ, zero, suc, _+_}
+use Prim.Native.Nat.{ℕ, zero, suc, _+_, _<_}
 use mathlib.Core.Bool.{Bool, true, false}
 use mathlib.Core.List.{List, [], _∷_, _++_}
 use mathlib.Core.Option.{Option, none, some}
 use mathlib.Core.Path.{_≡_}
 use lib.Dec.{eqb}
+use lib.ListN.{length, getD}
 use Rattle.base.specs.Choice.{pick, ifEq}
+use Rattle.base.specs.Field.{leAt}
 use Rattle.mdf.specs.Block.{kindCG, kindCN, kindAt, linkAt}
 use Rattle.mdf.specs.Chain.{Chain.records, Chain.signal, found, limits, chain}
-use Rattle.mdf.specs.Group.{Group, DataGroup, addresses, isStorage}
-use Rattle.mdf.specs.Walk.{cg, cn, Source}
+use Rattle.mdf.specs.Group.{Group, DataGroup, addresses, recordId, samples, invalBytes, isStorage}
+use Rattle.mdf.specs.Records.{joined, sizeOf, Frame, unsortedRecords}
+use Rattle.mdf.specs.Walk.{cg, cn, Source, idSize}
 use Rattle.plan.specs.Channel.{channelType, fits, isMasterType, both}
 use Rattle.plan.specs.Columns.{kindCA, SrcGroup, differs, timeOf, Signal, unsigned, signalData, Omission}
 use Rattle.result.specs.Member.{In}
+use Rattle.result.specs.Payload.{recordsOf}
 
 -- ---- chains
 
@@ -62,6 +66,33 @@ pub record Met (st : Source) (gs : List SrcGroup) : Type 0 where
   pub groups : (a : ℕ) → In (cg a) (st .items) → (g : SrcGroup) × In g gs × (g .at ≡ a)
   pub channels : (a : ℕ) → In (cn a) (st .items) → (g : SrcGroup) × In g gs × In a (g .channels)
   pub noOther : (g : SrcGroup) → In g gs → In (cg (g .at)) (st .items) × ((c : ℕ) → In c (g .channels) → In (cn c) (st .items))
+
+-- ---- records
+
+-- "With several groups a record is its id, then samples + invalidation bytes; in a VLSD storage group a 32-bit length and that many bytes follow the
+-- id": what is left of the data, d, is the record r, past an id of n bytes, and the rest; r is of the group with that id among those at gs
+pub record IsRecord (s : List ℕ) (n : ℕ) (gs d : List ℕ) (r : Frame) (rest : List ℕ) : Type 0 where
+  pub id : List ℕ
+  pub parts : d ≡ id ++ (r .bytes ++ rest)
+  pub idLength : length id ≡ n
+  pub numbered : r .group < length gs
+  pub named : recordId s (getD gs (r .group) 0) ≡ leAt n d 0
+  pub long : length (r .bytes)
+      ≡ pick (isStorage s (getD gs (r .group) 0)) (4 + leAt 4 d n) (samples s (getD gs (r .group) 0) + invalBytes s (getD gs (r .group) 0))
+
+-- "Such a DG's data is always read to the end": the records are all of it, in order
+unfoldable pub Fill : List ℕ → ℕ → List ℕ → List Frame → List ℕ → Type 0
+Fill s n gs [] d = d ≡ []
+Fill s n gs (r ∷ rs) d = (rest : List ℕ) × IsRecord s n gs d r rest × Fill s n gs rs rest
+
+-- the records of a group that shares its DG: those with its id among all that the DG's joined fragments hold, as many as its count; no fragment
+-- lacks a byte
+pub record Framed (s : List ℕ) (g : SrcGroup) : Type 0 where
+  pub frames : List Frame
+  pub fill : Fill s (idSize s (g .dataGroup .at)) (addresses (g .dataGroup .groups)) frames (joined s (g .dataGroup .fragments))
+  pub whole : length (joined s (g .dataGroup .fragments)) ≡ sizeOf (g .dataGroup .fragments)
+  pub own : recordsOf s g ≡ unsortedRecords (g .number) frames
+  pub many : length (recordsOf s g) ≡ g .records
 
 -- ---- channels
 
