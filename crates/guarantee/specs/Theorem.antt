@@ -21,6 +21,7 @@ use Rattle.result.specs.Result.{Args, Decided, answer, fileOf, blocksOf}
 use Rattle.result.specs.Recording.{Met}
 use Rattle.result.specs.Guarantee.{In, Guaranteed, duePayload}
 use Rattle.copies_laws.specs.LengthLaws.{InImage}
+use Rattle.copies_laws.specs.CopyLaws.{root-grown}
 use Rattle.copies_laws.specs.LayoutLaws.{LaidOut, laid-out, columns-placed, columns-within, metadataEnd-near, columns-ordered, blocks-ordered}
 use Rattle.copies_laws.specs.OrderLaws.{ordered-ends}
 use Rattle.payload_laws.specs.CountLaws.{member, group-framed, counted}
@@ -35,6 +36,7 @@ use Rattle.shown_laws.specs.ColumnShown.{ColumnSound}
 use Rattle.shown_laws.specs.ImageBytes.{column-sound}
 use Rattle.shown_laws.specs.Final.{file-apart, file-filled, file-shows}
 use Rattle.guarantee.specs.List.{listed}
+use Rattle.guarantee.specs.Ends.{history-followed, attachments-followed}
 use Rattle.guarantee.specs.Places.{equal-even, flatten-together, data-inside, fragments-few, signal-small, Sized, DataWithin, data-within, in-column}
 
 -- the elements of an image are bytes
@@ -128,6 +130,9 @@ module _ (x : Args) (d : Decided) (k : Known x d) where
         (omega (arith, t .sdAbove, w .begins, w .ends, metadata-above))
         (omega (arith, t .sdBelow, metadata-small, k .fewColumns, signal-small (x .image) (c .signalOf) (z .signals) (k .steps .imageLength) (z .fewSignals)))
 
+few-comment : (x : Args) (d : Decided) → Known x d → length (d .laidOut .comment .memo) ≤ 2048
+few-comment x d k = omega (arith, root-grown (x .image) _ _ _ (o x d k .comment) .few (omega arith))
+
 -- what any walk met is what was decided from
 met : (x : Args) (d : Decided) → Known x d → (st : Source) → walk (x .image) ≡ ok st → Met st (d .groups)
 met x d k st w = subst (λ (t : Source). Met t (d .groups)) (ok-same (sym (k .steps .walked) ∙ w)) (k .groups .met)
@@ -157,4 +162,6 @@ guaranteed x out list d bytes e =
       framed = λ g i. group-framed g (member (x .image) (dataGroups (k .steps .source)) (k .steps .counted) g (subst (In g) (k .steps .groups) i));
       signals = λ c i. k .planned .sourced c i .signal;
       masters = k .masters;
+      history = history-followed (x .image) _ _ _ (o x d k .past) (few-comment x d k);
+      attachments = attachments-followed (x .image) _ _ _ (o x d k .attached);
     }

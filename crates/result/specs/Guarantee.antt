@@ -16,9 +16,10 @@ use Rattle.mdf.specs.Walk.{Source, walk}
 use Rattle.base.specs.Checked.{ok}
 use Rattle.plan.specs.Columns.{SrcGroup, Column, Omission, TimeOf, time, untimed, differs, timeOf, omissionAddresses}
 use Rattle.plan.specs.Data.{isNonempty}
+use Rattle.plan.specs.Copies.{isCopied}
 use Rattle.plan.specs.Layout.{Placed, cgOf, cnOf, columnBlocks}
 pub use Rattle.result.specs.Member.{In, here, there}
-use Rattle.result.specs.Recording.{Recorded, Met, Framed, IsMaster, reasonFor, OmissionDue, Among, filePlaces, SignalDue}
+use Rattle.result.specs.Recording.{Recorded, Met, Framed, IsMaster, reasonFor, OmissionDue, Among, filePlaces, SignalDue, Followed, isAT, attachedFrom}
 use Rattle.result.specs.Payload.{recordsOf, cells, signalBytes}
 use Rattle.result.specs.Fill.{Block, dgBytes, cgBytes, cnBytes, dlBytes, cgAt, nextDG}
 use Rattle.result.specs.Result.{Args, Decided, blocksOf, memoOf}
@@ -242,3 +243,7 @@ pub record Guaranteed (x : Args) (d : Decided) (f l : List ℕ) : Type 0 where
 
   -- ---- "masters are named as planned"
   pub masters : (c : Column) → In c (d .planned .columns) → NamesMaster (x .image) (d .groups) (d .planned .columns) c (c .isTime)
+
+  -- ---- the chains of history and attachments are followed to their end
+  pub history : Followed (x .image) isCopied (linkAt (x .image) 64 1) (d .laidOut .past .chain)
+  pub attachments : Followed (x .image) isAT (linkAt (x .image) 64 3) (attachedFrom (d .laidOut .attached .attachments))

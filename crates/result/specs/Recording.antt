@@ -3,18 +3,20 @@ use Prim.Native.Nat.{ℕ, zero, suc, _+_, _<_}
 use mathlib.Core.Bool.{Bool, true, false}
 use mathlib.Core.List.{List, [], _∷_, _++_}
 use mathlib.Core.Option.{Option, none, some}
+use mathlib.Core.Logic.{_⊎_}
 use mathlib.Core.Path.{_≡_}
 use lib.Dec.{eqb}
 use lib.ListN.{length, getD}
 use Rattle.base.specs.Choice.{pick, ifEq}
 use Rattle.base.specs.Field.{leAt}
-use Rattle.mdf.specs.Block.{kindCG, kindCN, kindAt, linkAt}
+use Rattle.mdf.specs.Block.{kindCG, kindCN, kindAt, linkAt, firstLink}
 use Rattle.mdf.specs.Chain.{Chain.records, Chain.signal, found, limits, chain}
 use Rattle.mdf.specs.Group.{Group, DataGroup, addresses, recordId, samples, invalBytes, isStorage}
 use Rattle.mdf.specs.Records.{joined, sizeOf, Frame, unsortedRecords}
 use Rattle.mdf.specs.Walk.{cg, cn, Source, idSize}
 use Rattle.plan.specs.Channel.{channelType, fits, isMasterType, both}
 use Rattle.plan.specs.Columns.{kindCA, SrcGroup, differs, timeOf, Signal, unsigned, signalData, Omission}
+use Rattle.plan.specs.Copies.{kindAT, Attachment}
 use Rattle.result.specs.Member.{In}
 use Rattle.result.specs.Payload.{recordsOf}
 
@@ -143,3 +145,25 @@ filePlaces (g ∷ gs) = (g .at ∷ g .channels) ++ filePlaces gs
 abbrev pub SignalDue : List ℕ → ℕ → Signal → Type 0
 SignalDue s c unsigned = channelType s c ≡ 1 → linkAt s c 5 ≡ 0
 SignalDue s c (signalData fs) = (channelType s c ≡ 1) × (n : ℕ) × (chain signal limits s n (linkAt s c 5) ≡ found fs)
+
+-- ---- the history and the attachments
+
+-- these addresses are the chain from a on by first links, and then comes e
+unfoldable pub Leads : List ℕ → ℕ → List ℕ → ℕ → Type 0
+Leads s a [] e = a ≡ e
+Leads s a (b ∷ bs) e = (a ≡ b) × Leads s (firstLink s b) bs e
+
+-- the chain from a on, of kinds that go on, is followed to its end: "History and attachment chains that return to an earlier block end quietly, also a
+-- history chain at a kind not copied and an attachment chain at a kind other than AT"
+pub record Followed (s : List ℕ) (goesOn : ℕ → Bool) (a : ℕ) (met : List ℕ) : Type 0 where
+  pub end : ℕ
+  pub leads : Leads s a met end
+  pub each : (b : ℕ) → In b met → goesOn (kindAt s b) ≡ true
+  pub ends : (end ≡ 0) ⊎ (In end met ⊎ (goesOn (kindAt s end) ≡ false))
+
+abbrev pub isAT : ℕ → Bool
+isAT k = eqb k kindAT
+
+unfoldable pub attachedFrom : List Attachment → List ℕ
+attachedFrom [] = []
+attachedFrom (t ∷ ts) = t .from ∷ attachedFrom ts
