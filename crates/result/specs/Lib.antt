@@ -7,4 +7,6 @@ pub mod OrderedLaws
 pub mod Listing
 pub mod Member
 pub mod Recording
+pub mod Links
+pub mod Due
 pub mod Guarantee
