@@ -1,0 +1,3 @@
+pub mod JoinedLaws
+pub mod OpenedLaws
+pub mod RangeLaws
