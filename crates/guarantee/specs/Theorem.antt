@@ -84,19 +84,19 @@ module _ (x : Args) (d : Decided) (k : Known x d) where
 
   -- ---- bounds
 
-  in-placed : (p : Placed) → In p (d .laidOut .placed)
+  pub in-placed : (p : Placed) → In p (d .laidOut .placed)
       → In p (placedFrom (x .image) (x .blockSize) (structurePlace (d .laidOut .metadata)) (d .laidOut .metadataEnd) (d .planned .columns))
   in-placed p i = subst (In p) (o .placed) i
 
-  column-in : (p : Placed) → In p (d .laidOut .placed) → In (p .column) (d .planned .columns)
+  pub column-in : (p : Placed) → In p (d .laidOut .placed) → In (p .column) (d .planned .columns)
   column-in p i = in-column (x .image) (x .blockSize) _ _ (d .planned .columns) p (in-placed p i)
 
   -- metadata ends below 2^45
-  metadata-small : d .laidOut .metadataEnd ≤ 18200000000000
+  pub metadata-small : d .laidOut .metadataEnd ≤ 18200000000000
   metadata-small = omega (arith, metadataEnd-near o (k .steps .blocksFine), k .fewColumns, k .steps .lent .textLength)
 
   -- and begins past the header
-  metadata-above : 0 < structurePlace (d .laidOut .metadata)
+  pub metadata-above : 0 < structurePlace (d .laidOut .metadata)
   metadata-above =
       omega (arith, ordered-ends (d .laidOut .fh + 56) (structurePlace (d .laidOut .metadata)) _ (columns-ordered o (d .laidOut .past .chain) [] 0))
 
@@ -108,7 +108,7 @@ module _ (x : Args) (d : Decided) (k : Known x d) where
   structure-above p i = omega arith
 
   module _ (bytes : AllBytes (x .image)) where
-    sound : (p : Placed) → In p (d .laidOut .placed) → ColumnSound (x .image) (x .blockSize) p
+    pub sound : (p : Placed) → In p (d .laidOut .placed) → ColumnSound (x .image) (x .blockSize) p
     sound p i =
         let c = p .column in
         let j = column-in p i in

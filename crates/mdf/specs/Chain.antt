@@ -52,15 +52,23 @@ abbrev pub onPassed : Verdict → List Fragment → Found → Found
 onPassed (ok u) fs next = next
 onPassed (refused number place) fs next = stopped number place fs
 
--- limits of a chain: the most bytes of a DL or HL (9), the most DL and HL (19), the most fragments, n of which were found before this chain (19)
+-- limits of a chain: the most bytes of a DL and of an HL (9), the most DL and HL (19), the most fragments, n of which were found before this
+-- chain (19)
 pub record Limits : Type 0 where
-  pub bytes : ℕ
+  pub dlBytes : ℕ
+  pub hlBytes : ℕ
   pub lists : ℕ
   pub fragments : ℕ
 
 -- "1,024 fragments (SD too) in the whole image .. 256 DL and HL in one chain"
 abbrev pub limits : Limits
-limits = record { bytes = 268435456; lists = 256; fragments = 1024 }
+limits = record { dlBytes = 268435456; hlBytes = 268435456; lists = 256; fragments = 1024 }
+
+-- of a file whose columns are read: "but 3, 9 for a DL or a data block and the limit on fragments don't apply" (document 02, request 1). A length
+-- has 64 bits, so that no DL exceeds the first number. No image under 2^47 bytes has as many fragments: at most 512 DG, 256 DL in each one's
+-- chain, under 2^44 links in each of these
+abbrev pub fileLimits : Limits
+fileLimits = record { dlBytes = 18446744073709551615; hlBytes = 268435456; lists = 256; fragments = 4611686018427387904 }
 
 -- a fragment more, within the limit
 unfoldable pub added : Limits → ℕ → ℕ → Fragment → List Fragment → Found
@@ -87,17 +95,17 @@ unfoldable pub isIn : ℕ → List ℕ → Bool
 isIn a [] = false
 isIn a (b ∷ bs) = let more = isIn a bs in pick (eqb b a) true more
 
--- a DL or HL that is read: 8, 9, range, then the limit (19)
-unfoldable pub listIn : Limits → List ℕ → List ℕ → ℕ → Verdict
-listIn l s seen a = andThen (lengthIn (l .bytes) s a) (λ _. ifLt (length seen) (l .lists) fine (refused 19 a))
+-- a DL or HL that is read, with the most bytes of its kind: 8, 9, range, then the limit (19)
+unfoldable pub listIn : ℕ → Limits → List ℕ → List ℕ → ℕ → Verdict
+listIn most l s seen a = andThen (lengthIn most s a) (λ _. ifLt (length seen) (l .lists) fine (refused 19 a))
 
 -- the chain from a on, with the DL and HL that were seen; n fragments were found before this chain. One turn for each DL and HL
 unfoldable pub chainFrom : Chain → Limits → ℕ → List ℕ → ℕ → List ℕ → ℕ → List Fragment → Found
 chainFrom c l zero s n seen a fs = stopped 19 a fs
 chainFrom c l (suc turns) s n seen a fs =
-    let dl = onPassed (listIn l s seen a) fs
+    let dl = onPassed (listIn (l .dlBytes) l s seen a) fs
     (onFound (listed c l s n (linksAt s a - 1) (a + 32) fs) (λ gs. chainFrom c l turns s n (a ∷ seen) (firstLink s a) gs)) in
-    let hl = onPassed (listIn l s seen a) fs (chainFrom c l turns s n (a ∷ seen) (firstLink s a) fs) in
+    let hl = onPassed (listIn (l .hlBytes) l s seen a) fs (chainFrom c l turns s n (a ∷ seen) (firstLink s a) fs) in
     let node = onLeaf (leafOf c (kindAt s a))
     (ifEq (kindAt s a) kindDL dl (ifEq (kindAt s a) kindHL hl (stopped 12 a fs)))
     (λ k. added l n a (fragment s a k) fs) in

@@ -9,7 +9,7 @@ use Rattle.base.specs.Blit.{part}
 use Rattle.base.specs.Checked.{Checked, ok, refused, andThen, Verdict, fine}
 use Rattle.mdf.specs.Block.{HD, DG, CG, CN, Wanted, linkAt, dataAt, blockAt}
 use Rattle.mdf.specs.Name.{nameAt}
-use Rattle.mdf.specs.Chain.{Fragment, Chain.records, Found, found, stopped, limits, chain}
+use Rattle.mdf.specs.Chain.{Fragment, Chain.records, Found, found, stopped, Limits, limits, chain}
 
 -- a block met, with its address; of a DG also the number of fragments found before its own
 pub data Item : Type 0 where
@@ -117,11 +117,15 @@ withFound (found fs) st = ok (source (st .items) (st .fragments ++ fs))
 withFound (stopped number place fs) st = refused number place
 
 -- a DG: its data chain at link 3, its id size, then the CG chain at link 2
-unfoldable pub belowDG : List ℕ → ℕ → Source → Checked Source
-belowDG s a st =
-    andThen (withFound (chain records limits s (length (st .fragments)) (linkAt s a 2)) st) (λ st'.
+unfoldable pub belowDG : Limits → List ℕ → ℕ → Source → Checked Source
+belowDG l s a st =
+    andThen (withFound (chain records l s (length (st .fragments)) (linkAt s a 2)) st) (λ st'.
     andThen (idSizeIn s a) (λ _. level levelCG (belowCG s) turns s (linkAt s a 1) st'))
 
 -- HD, which stands at 64, then the DG chain at its link 1
-unfoldable pub walk : List ℕ → Checked Source
-walk s = andThen (blockAt HD s 64) (λ _. level levelDG (belowDG s) turns s (linkAt s 64 0) (source [] []))
+unfoldable pub walkOf : Limits → List ℕ → Checked Source
+walkOf l s = andThen (blockAt HD s 64) (λ _. level levelDG (belowDG l s) turns s (linkAt s 64 0) (source [] []))
+
+-- a recording's
+abbrev pub walk : List ℕ → Checked Source
+walk s = walkOf limits s

@@ -67,10 +67,10 @@ module _ (c : Chain) (l : Limits) (s : List ℕ) (n : ℕ) where
       pick-cases (isIn a seen) _ _ t (λ _ q. absurd (stopped≢found q)) (λ _ q.
       leaf-found (leafOf c (kindAt s a)) _ _ (passed-found (headerIn s a) fs _ q)
       (λ q. eq-cases (kindAt s a) kindDL _ _ q
-      (λ _ q. with-found (listed c l s n (linksAt s a - 1) (a + 32) fs) _ (passed-found (listIn l s seen a) fs _ q) (λ ms u r.
+      (λ _ q. with-found (listed c l s n (linksAt s a - 1) (a + 32) fs) _ (passed-found (listIn (l .dlBytes) l s seen a) fs _ q) (λ ms u r.
       from-fits turns (a ∷ seen) (firstLink s a) ms gs (listed-fits (linksAt s a - 1) (a + 32) fs ms h u) r))
       (λ _ q. eq-cases (kindAt s a) kindHL _ _ q
-      (λ _ q. from-fits turns (a ∷ seen) (firstLink s a) fs gs h (passed-found (listIn l s seen a) fs _ q))
+      (λ _ q. from-fits turns (a ∷ seen) (firstLink s a) fs gs h (passed-found (listIn (l .hlBytes) l s seen a) fs _ q))
       (λ _ q. absurd (stopped≢found q))))
       (λ k q. added-fits a (fragment s a k) fs gs q)))
 

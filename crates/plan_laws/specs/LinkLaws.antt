@@ -10,7 +10,7 @@ use Rattle.base.specs.Checked.{Checked, ok}
 use Rattle.mdf.specs.Block.{HD, linkAt, blockAt}
 use Rattle.mdf.specs.Name.{nameAt}
 use Rattle.mdf.specs.Chain.{Fragment, Chain.records, Found, found, stopped, limits, chain}
-use Rattle.mdf.specs.Walk.{Item, dg, cg, cn, Source, source, Level, levelDG, levelCG, levelCN, visit, entered, level, turns, belowCN, belowCG, idSizeIn, withFound, belowDG, walk}
+use Rattle.mdf.specs.Walk.{Item, dg, cg, cn, Source, source, Level, levelDG, levelCG, levelCN, visit, entered, level, turns, belowCN, belowCG, idSizeIn, withFound, belowDG, walkOf, walk}
 use Rattle.mdf.specs.Group.{Group, DataGroup, addresses, channelsOf, groupsOf, upTo, dataGroupsOf, dataGroups}
 use Rattle.result.specs.Member.{In, here, there}
 use Rattle.result.specs.Recording.{Chained, Linked, dataGroupPlaces}
@@ -116,9 +116,9 @@ module _ (s : List ℕ) where
             channels = each g (r .groups) (c .chained) (r .channels);
           })
 
-  data-groups-met : (a : ℕ) (st st' : Source) → level levelDG (belowDG s) turns s a st ≡ ok st' → DataGroups s a st st'
+  data-groups-met : (a : ℕ) (st st' : Source) → level levelDG (belowDG limits s) turns s a st ≡ ok st' → DataGroups s a st st'
   unfolding belowDG entered dataGroupItems allFragments dataGroupPlaces Chained
-  data-groups-met = level-chain (DataGroups s) levelDG (belowDG s) s end step turns
+  data-groups-met = level-chain (DataGroups s) levelDG (belowDG limits s) s end step turns
     where
       end : (a : ℕ) (st : Source) → a ≡ 0 → DataGroups s a st st
       end a st z =
@@ -155,7 +155,7 @@ module _ (s : List ℕ) where
             linked = each d (r .dataGroups) (record { groups = g .chained; channels = g .channels; fragments = (length (st .fragments), c) }) (r .linked);
           }
 
-      step : (a : ℕ) (st u st' : Source) → (a ≡ 0 → ⊥) → belowDG s a (entered levelDG a st) ≡ ok u → DataGroups s (linkAt s a 0) u st' → DataGroups s a st st'
+      step : (a : ℕ) (st u st' : Source) → (a ≡ 0 → ⊥) → belowDG limits s a (entered levelDG a st) ≡ ok u → DataGroups s (linkAt s a 0) u st' → DataGroups s a st st'
       step a st u st' n b r =
           with-ok (withFound (chain records limits s (length (st .fragments)) (linkAt s a 2)) (entered levelDG a st)) _ b (λ v f q.
           with-ok (idSizeIn s a) _ q (λ _ _ q.
@@ -263,7 +263,7 @@ pub record Walked (s : List ℕ) (ds : List DataGroup) : Type 0 where
   pub linked : (d : DataGroup) → In d ds → Linked s d
 
 pub walk-linked : (s : List ℕ) (st : Source) → walk s ≡ ok st → Walked s (dataGroups st)
-unfolding walk dataGroups
+unfolding walkOf dataGroups
 walk-linked s st e =
     with-ok (blockAt HD s 64) _ e (λ _ _ q.
     let r = data-groups-met s (linkAt s 64 0) (source [] []) st q in

@@ -8,8 +8,8 @@ use lib.ListN.{length}
 use Rattle.base.specs.Checked.{ok}
 use Rattle.mdf.specs.Block.{HD, linkAt, blockAt}
 use Rattle.mdf.specs.Name.{nameAt}
-use Rattle.mdf.specs.Chain.{Fragment, Chain.records, Found, found, stopped, limits, chain}
-use Rattle.mdf.specs.Walk.{Item, dg, cg, cn, Source, source, levelDG, levelCG, levelCN, entered, turns, belowCN, belowCG, idSizeIn, withFound, belowDG, walk}
+use Rattle.mdf.specs.Chain.{Fragment, Chain.records, Found, found, stopped, Limits, chain}
+use Rattle.mdf.specs.Walk.{Item, dg, cg, cn, Source, source, levelDG, levelCG, levelCN, entered, turns, belowCN, belowCG, idSizeIn, withFound, belowDG, walkOf}
 use Rattle.mdf.specs.Group.{Group, DataGroup, channelsOf, groupsOf, dataGroupsOf}
 use Rattle.result.specs.Guarantee.{In, here, there}
 use Rattle.plan_laws.specs.Answers.{refused≢ok, ok-same, true≢false, with-ok}
@@ -65,7 +65,7 @@ enter-cn : (a : ℕ) (st : Source) → Within st → Within (entered levelCN a s
 unfolding entered Follows
 enter-cn a st h = record { follows = follows-more false (st .items) (cn a) (h .follows) (h .after, tt); after = ends-more false (st .items) (cn a) }
 
-module _ (s : List ℕ) where
+module _ (l : Limits) (s : List ℕ) where
   below-cn : (a : ℕ) (st st' : Source) → Within st → belowCN s a st ≡ ok st' → Within st'
   unfolding belowCN
   below-cn a st st' h e = with-ok (nameAt s (linkAt s a 2)) _ e (λ _ _ q. subst Within (ok-same q) h)
@@ -80,19 +80,19 @@ module _ (s : List ℕ) where
   fragments-more (found fs) st st' h e = subst Inside (ok-same e) h
   fragments-more (stopped n p fs) st st' h e = absurd (refused≢ok e)
 
-  below-dg : (a : ℕ) (st st' : Source) → Inside st → belowDG s a st ≡ ok st' → Inside st'
+  below-dg : (a : ℕ) (st st' : Source) → Inside st → belowDG l s a st ≡ ok st' → Inside st'
   unfolding belowDG
   below-dg a st st' h e =
-      with-ok (withFound (chain records limits s (length (st .fragments)) (linkAt s a 2)) st) _ e (λ st2 f q.
+      with-ok (withFound (chain records l s (length (st .fragments)) (linkAt s a 2)) st) _ e (λ st2 f q.
       with-ok (idSizeIn s a) _ q (λ _ _ q.
       level-keeps Inside Within levelCG (belowCG s) s (λ a st n h v. enter-cg a st h) below-cg turns (linkAt s a 1) st2 st'
-      (fragments-more (chain records limits s (length (st .fragments)) (linkAt s a 2)) st st2 h f) q))
+      (fragments-more (chain records l s (length (st .fragments)) (linkAt s a 2)) st st2 h f) q))
 
-  pub walk-follows : (st : Source) → walk s ≡ ok st → Follows false (st .items)
-  unfolding walk Follows
-  walk-follows st e =
+  pub walkOf-follows : (st : Source) → walkOf l s ≡ ok st → Follows false (st .items)
+  unfolding walkOf Follows
+  walkOf-follows st e =
       with-ok (blockAt HD s 64) _ e (λ _ _ q.
-      level-keeps Inside Inside levelDG (belowDG s) s (λ a st n h v. enter-dg a st h) below-dg turns (linkAt s 64 0) (source [] []) st tt q)
+      level-keeps Inside Inside levelDG (belowDG l s) s (λ a st n h v. enter-dg a st h) below-dg turns (linkAt s 64 0) (source [] []) st tt q)
 
 -- ---- where a CN stands: in front, in a group in front, in a group of a later DG
 data Stands (b : Bool) (fs : List Fragment) (a : ℕ) (is : List Item) : Type 0 where

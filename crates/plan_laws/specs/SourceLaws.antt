@@ -9,6 +9,7 @@ use lib.ListN.{length, length-append, getD, List·getD-append}
 use lib.Seq.{drop-at}
 use Rattle.base.specs.Checked.{ok, fine}
 use Rattle.mdf.specs.Block.{CG, CN, blockAt}
+use Rattle.mdf.specs.Chain.{limits}
 use Rattle.mdf.specs.Walk.{cg, cn, Source, walk}
 use Rattle.mdf.specs.Group.{Group, DataGroup, addresses, dataGroupsOf, dataGroups}
 use Rattle.mdf.specs.Count.{countGroups, counts}
@@ -18,7 +19,7 @@ use Rattle.result.specs.Recording.{groupPlaces, countedPlaces, groupNumber, Rec
 use Rattle.plan_laws.specs.Lists.{in-left, in-right, in-cases, in-none, same-yes, occurs, occurs-append, occurs-in, Distinct, distinct-of}
 use Rattle.plan_laws.specs.WalkLaws.{Sound, walk-sound, walk-open}
 use Rattle.plan_laws.specs.LinkLaws.{Walked, walk-linked}
-use Rattle.plan_laws.specs.OrderLaws.{walk-follows, cn-is-in}
+use Rattle.plan_laws.specs.OrderLaws.{walkOf-follows, cn-is-in}
 use Rattle.plan_laws.specs.GroupLaws.{allAddresses, allChannels, dgAddresses, groupCount, DataGroupFine, Counted, no-more, and-more, counts-counted, counted-length, count-length, addresses-length, groups-occurs, data-groups-fine, data-groups-met, cg-is-in, few-channels, few-groups, few-data-groups}
 
 -- ---- one group and its count
@@ -274,7 +275,7 @@ groups-known s st ns w k =
 
     allCN : (a : ℕ) → In (cn a) (st .items) → (g : SrcGroup) × In g (srcGroups ds ns) × In a (g .channels)
     allCN a i =
-        let r = cn-is-in (st .fragments) a (st .items) (walk-open s st w) (walk-follows s st w) i in
+        let r = cn-is-in (st .fragments) a (st .items) (walk-open s st w) (walkOf-follows limits s st w) i in
         let t = src-has s ds ns c (r .dataGroup) (r .isIn) (r .group) (r .groupIn) in
         (t .source, t .isIn, rw (t .channels) (r .channelIn))
 

@@ -13,8 +13,8 @@ use Rattle.base.specs.ChoiceLaws.{lt-first}
 use Rattle.base.specs.Checked.{Checked, ok, fine}
 use Rattle.mdf.specs.Block.{HD, DG, CG, CN, linkAt, blockAt}
 use Rattle.mdf.specs.Name.{nameAt}
-use Rattle.mdf.specs.Chain.{Chain.records, Found, found, stopped, limits, chain}
-use Rattle.mdf.specs.Walk.{Item, dg, cg, cn, address, Source, source, isMet, Level, levelDG, levelCG, levelCN, tally, visit, entered, level, turns, belowCN, belowCG, idSizeIn, withFound, belowDG, walk}
+use Rattle.mdf.specs.Chain.{Chain.records, Found, found, stopped, Limits, limits, chain}
+use Rattle.mdf.specs.Walk.{Item, dg, cg, cn, address, Source, source, isMet, Level, levelDG, levelCG, levelCN, tally, visit, entered, level, turns, belowCN, belowCG, idSizeIn, withFound, belowDG, walkOf, walk}
 use Rattle.result.specs.Guarantee.{In}
 use Rattle.plan_laws.specs.Answers.{refused≢ok, ok-same, with-ok, pick-no, eq-cases, pick-cases, or-not}
 use Rattle.plan_laws.specs.Lists.{in-cases, in-one, in-none, same, same-yes, same-no, occurs, occurs-append}
@@ -30,14 +30,18 @@ ItemFine s (dg a n) = blockAt DG s a ≡ fine
 ItemFine s (cg a) = blockAt CG s a ≡ fine
 ItemFine s (cn a) = blockAt CN s a ≡ fine
 
-pub record Sound (s : List ℕ) (st : Source) : Type 0 where
+pub record SoundOf (l : Limits) (s : List ℕ) (st : Source) : Type 0 where
   pub once : (a : ℕ) → occurs a (itemAddresses (st .items)) ≤ 1
   pub nonzero : occurs 0 (itemAddresses (st .items)) ≡ 0
   pub checked : (i : Item) → In i (st .items) → ItemFine s i
   pub fewDG : tally (levelDG .own) (st .items) ≤ 512
   pub fewCG : tally (levelCG .own) (st .items) ≤ 512
   pub fewCN : tally (levelCN .own) (st .items) ≤ 512
-  pub fewFragments : length (st .fragments) ≤ 1024
+  pub fewFragments : length (st .fragments) ≤ l .fragments
+
+-- of a recording's
+abbrev pub Sound : List ℕ → Source → Type 0
+Sound s st = SoundOf limits s st
 
 -- ---- one more item
 addresses-append : (is js : List Item) → itemAddresses (is ++ js) ≡ itemAddresses is ++ itemAddresses js
@@ -78,10 +82,10 @@ tally-more : (own : Item → ℕ) (is : List Item) (i : Item) → tally own (is 
 unfolding tally
 tally-more own is i = tally-append own is (i ∷ []) ∙ omega arith
 
-module _ (s : List ℕ) (st : Source) (i : Item) (h : Sound s st) (nonzero : address i ≡ 0 → ⊥) (unmet : isMet (address i) (st .items) ≡ false) where
+module _ (l : Limits) (s : List ℕ) (st : Source) (i : Item) (h : SoundOf l s st) (nonzero : address i ≡ 0 → ⊥) (unmet : isMet (address i) (st .items) ≡ false) where
   item-more : ItemFine s i
       → tally (levelDG .own) (st .items) + levelDG .own i ≤ 512 → tally (levelCG .own) (st .items) + levelCG .own i ≤ 512
-      → tally (levelCN .own) (st .items) + levelCN .own i ≤ 512 → Sound s (source (st .items ++ (i ∷ [])) (st .fragments))
+      → tally (levelCN .own) (st .items) + levelCN .own i ≤ 512 → SoundOf l s (source (st .items ++ (i ∷ [])) (st .fragments))
   item-more fine d g n =
       record {
         once = λ b. rw (occurs-more b (st .items) i) (one b);
@@ -104,24 +108,24 @@ module _ (s : List ℕ) (st : Source) (i : Item) (h : Sound s st) (nonzero : add
       each j (inl m) = h .checked j m
       each j (inr m) = subst (ItemFine s) (sym (in-one m)) fine
 
-module _ (s : List ℕ) (st : Source) (a : ℕ) (nonzero : a ≡ 0 → ⊥) where
-  enter-dg : Sound s st → visit levelDG s st a ≡ fine → Sound s (entered levelDG a st)
+module _ (l : Limits) (s : List ℕ) (st : Source) (a : ℕ) (nonzero : a ≡ 0 → ⊥) where
+  enter-dg : SoundOf l s st → visit levelDG s st a ≡ fine → SoundOf l s (entered levelDG a st)
   unfolding entered
   enter-dg h e =
       let v = visit-fine levelDG s st a e in
-      item-more s st (dg a (length (st .fragments))) h nonzero (v .unmet) (v .block) (omega (arith, v .room)) (omega (arith, h .fewCG)) (omega (arith, h .fewCN))
+      item-more l s st (dg a (length (st .fragments))) h nonzero (v .unmet) (v .block) (omega (arith, v .room)) (omega (arith, h .fewCG)) (omega (arith, h .fewCN))
 
-  enter-cg : Sound s st → visit levelCG s st a ≡ fine → Sound s (entered levelCG a st)
+  enter-cg : SoundOf l s st → visit levelCG s st a ≡ fine → SoundOf l s (entered levelCG a st)
   unfolding entered
   enter-cg h e =
       let v = visit-fine levelCG s st a e in
-      item-more s st (cg a) h nonzero (v .unmet) (v .block) (omega (arith, h .fewDG)) (omega (arith, v .room)) (omega (arith, h .fewCN))
+      item-more l s st (cg a) h nonzero (v .unmet) (v .block) (omega (arith, h .fewDG)) (omega (arith, v .room)) (omega (arith, h .fewCN))
 
-  enter-cn : Sound s st → visit levelCN s st a ≡ fine → Sound s (entered levelCN a st)
+  enter-cn : SoundOf l s st → visit levelCN s st a ≡ fine → SoundOf l s (entered levelCN a st)
   unfolding entered
   enter-cn h e =
       let v = visit-fine levelCN s st a e in
-      item-more s st (cn a) h nonzero (v .unmet) (v .block) (omega (arith, h .fewDG)) (omega (arith, h .fewCG)) (omega (arith, v .room))
+      item-more l s st (cn a) h nonzero (v .unmet) (v .block) (omega (arith, h .fewDG)) (omega (arith, h .fewCG)) (omega (arith, v .room))
 
 -- ---- the first item of a walk is a DG
 abbrev pub Opened : List Item → Type 0
@@ -167,31 +171,31 @@ level-keeps P Q k below s enter under (suc turns) a st st' h e =
     with-ok (below a (entered k a st)) _ q (λ st2 b q.
     level-keeps P Q k below s enter under turns (linkAt s a 0) st2 st' (under a (entered k a st) st2 (enter a st n h v) b) q)))
 
-pub record SoundIn (s : List ℕ) (st : Source) : Type 0 where
-  pub sound : Sound s st
+pub record SoundIn (l : Limits) (s : List ℕ) (st : Source) : Type 0 where
+  pub sound : SoundOf l s st
   pub opened : Opened (st .items)
 
-pub record SoundAt (s : List ℕ) (st : Source) : Type 0 where
-  pub sound : Sound s st
+pub record SoundAt (l : Limits) (s : List ℕ) (st : Source) : Type 0 where
+  pub sound : SoundOf l s st
   pub opening : Open (st .items)
 
-module _ (s : List ℕ) where
-  below-cn : (a : ℕ) (st st' : Source) → SoundIn s st → belowCN s a st ≡ ok st' → SoundIn s st'
+module _ (l : Limits) (s : List ℕ) where
+  below-cn : (a : ℕ) (st st' : Source) → SoundIn l s st → belowCN s a st ≡ ok st' → SoundIn l s st'
   unfolding belowCN
-  below-cn a st st' h e = with-ok (nameAt s (linkAt s a 2)) _ e (λ _ _ q. subst (SoundIn s) (ok-same q) h)
+  below-cn a st st' h e = with-ok (nameAt s (linkAt s a 2)) _ e (λ _ _ q. subst (SoundIn l s) (ok-same q) h)
 
-  below-cg : (a : ℕ) (st st' : Source) → SoundIn s st → belowCG s a st ≡ ok st' → SoundIn s st'
+  below-cg : (a : ℕ) (st st' : Source) → SoundIn l s st → belowCG s a st ≡ ok st' → SoundIn l s st'
   unfolding belowCG entered
   below-cg a st st' h e =
       with-ok (nameAt s (linkAt s a 2)) _ e (λ _ _ q.
-      level-keeps (SoundIn s) (SoundIn s) levelCN (belowCN s) s
-      (λ a st n h v. record { sound = enter-cn s st a n (h .sound) v; opened = opened-more (st .items) _ (h .opened) })
+      level-keeps (SoundIn l s) (SoundIn l s) levelCN (belowCN s) s
+      (λ a st n h v. record { sound = enter-cn l s st a n (h .sound) v; opened = opened-more (st .items) _ (h .opened) })
       below-cn turns (linkAt s a 1) st st' h q)
 
-  fragments-more : (v : Found) (st st' : Source) (a : ℕ) → SoundIn s st → chain records limits s (length (st .fragments)) a ≡ v
-      → withFound v st ≡ ok st' → SoundIn s st'
+  fragments-more : (v : Found) (st st' : Source) (a : ℕ) → SoundIn l s st → chain records l s (length (st .fragments)) a ≡ v
+      → withFound v st ≡ ok st' → SoundIn l s st'
   fragments-more (found fs) st st' a h c e =
-      subst (SoundIn s) (ok-same e) (record {
+      subst (SoundIn l s) (ok-same e) (record {
         sound = record {
           once = h .sound .once;
           nonzero = h .sound .nonzero;
@@ -199,23 +203,23 @@ module _ (s : List ℕ) where
           fewDG = h .sound .fewDG;
           fewCG = h .sound .fewCG;
           fewCN = h .sound .fewCN;
-          fewFragments = rw length-append (chain-fits records limits s (length (st .fragments)) a fs (h .sound .fewFragments) c);
+          fewFragments = rw length-append (chain-fits records l s (length (st .fragments)) a fs (h .sound .fewFragments) c);
         };
         opened = h .opened;
       })
   fragments-more (stopped n p fs) st st' a h c e = absurd (refused≢ok e)
 
-  below-dg : (a : ℕ) (st st' : Source) → SoundIn s st → belowDG s a st ≡ ok st' → SoundAt s st'
+  below-dg : (a : ℕ) (st st' : Source) → SoundIn l s st → belowDG l s a st ≡ ok st' → SoundAt l s st'
   unfolding belowDG entered
   below-dg a st st' h e =
-      with-ok (withFound (chain records limits s (length (st .fragments)) (linkAt s a 2)) st) _ e (λ st2 f q.
+      with-ok (withFound (chain records l s (length (st .fragments)) (linkAt s a 2)) st) _ e (λ st2 f q.
       with-ok (idSizeIn s a) _ q (λ _ _ q.
-      let r = level-keeps (SoundIn s) (SoundIn s) levelCG (belowCG s) s
-      (λ a st n h v. record { sound = enter-cg s st a n (h .sound) v; opened = opened-more (st .items) _ (h .opened) })
+      let r = level-keeps (SoundIn l s) (SoundIn l s) levelCG (belowCG s) s
+      (λ a st n h v. record { sound = enter-cg l s st a n (h .sound) v; opened = opened-more (st .items) _ (h .opened) })
       below-cg turns (linkAt s a 1) st2 st' (fragments-more _ st st2 (linkAt s a 2) h refl f) q in
       record { sound = r .sound; opening = open-opened (st' .items) (r .opened) }))
 
-  nothing : SoundAt s (source [] [])
+  nothing : SoundAt l s (source [] [])
   unfolding occurs itemAddresses tally
   nothing =
       record {
@@ -231,18 +235,25 @@ module _ (s : List ℕ) where
         opening = tt;
       }
 
-  pub walk-sound-at : (st : Source) → walk s ≡ ok st → SoundAt s st
-  unfolding walk entered
-  walk-sound-at st e =
+  walkOf-sound-at : (st : Source) → walkOf l s ≡ ok st → SoundAt l s st
+  unfolding walkOf entered
+  walkOf-sound-at st e =
       with-ok (blockAt HD s 64) _ e (λ _ _ q.
-      level-keeps (SoundAt s) (SoundIn s) levelDG (belowDG s) s
-      (λ a st n h v. record { sound = enter-dg s st a n (h .sound) v; opened = open-dg (st .items) a _ (h .opening) })
+      level-keeps (SoundAt l s) (SoundIn l s) levelDG (belowDG l s) s
+      (λ a st n h v. record { sound = enter-dg l s st a n (h .sound) v; opened = open-dg (st .items) a _ (h .opening) })
       below-dg turns (linkAt s 64 0) (source [] []) st nothing q)
 
   -- the whole walk
-  pub walk-sound : (st : Source) → walk s ≡ ok st → Sound s st
-  walk-sound st e = walk-sound-at st e .sound
+  pub walkOf-sound : (st : Source) → walkOf l s ≡ ok st → SoundOf l s st
+  walkOf-sound st e = walkOf-sound-at st e .sound
 
   -- its first item, if any, is a DG
-  pub walk-open : (st : Source) → walk s ≡ ok st → Open (st .items)
-  walk-open st e = walk-sound-at st e .opening
+  pub walkOf-open : (st : Source) → walkOf l s ≡ ok st → Open (st .items)
+  walkOf-open st e = walkOf-sound-at st e .opening
+
+-- a recording's
+pub walk-sound : (s : List ℕ) (st : Source) → walk s ≡ ok st → Sound s st
+walk-sound s st e = walkOf-sound limits s st e
+
+pub walk-open : (s : List ℕ) (st : Source) → walk s ≡ ok st → Open (st .items)
+walk-open s st e = walkOf-open limits s st e

@@ -7,16 +7,12 @@ use Rattle.base.specs.Field.{leAt}
 use Rattle.base.specs.Blit.{part}
 use Rattle.base.specs.Checked.{Checked, ok, refused}
 use Rattle.mdf.specs.Block.{kindAt, sizeAt, linksAt, linkAt, dataAt}
-use Rattle.mdf.specs.Chain.{Fragment, Chain, Chain.records, Chain.signal, Found, found, stopped, Limits, chain}
+use Rattle.mdf.specs.Chain.{Fragment, Chain, Chain.records, Chain.signal, Found, found, stopped, fileLimits, chain}
 use Rattle.mdf.specs.Group.{recordId, groupFlags, samples, invalBytes}
 use Rattle.mdf.specs.Records.{joined}
 use Rattle.mdf.specs.Walk.{idSize}
 use Rattle.plan.specs.Channel.{channelType, bitOffset, byteOffset, bitCount, channelFlags, invalPosition}
 use Rattle.plan.specs.Columns.{remoteLink}
-
--- limits of a data chain that no result meets: lengths below 2 ^ 64, 256 lists, 2 ^ 62 fragments
-abbrev pub fileLimits : Limits
-fileLimits = record { bytes = 18446744073709551615; lists = 256; fragments = 4611686018427387904 }
 
 -- ---- blocks
 

@@ -27,7 +27,8 @@ use Rattle.plan.specs.Layout.{Placed, cgOf, cnOf, dlOf, cgSize, dlSize, columnW
 use Rattle.result.specs.Payload.{payloads, columnPayloads, signalBytes}
 use Rattle.result.specs.Fill.{Block, block, header, words, dgBytes, cgBytes, cnBytes, cnData, dlBytes, dlBlocks, payloadBlocks, sdBlocks}
 use Rattle.result.specs.Fill.{sdLink, blockLinks, columnPayload, cgAt, cgFlags, cgData, cnFlags, one, dataKind, storedType}
-use Rattle.result.specs.Links.{fileLimits, Head, headAt, GroupFields, groupFields, ChannelFields, channelFields, DataList, listAt, listShown, fragmentsIn, joinedIn, shownAt}
+use Rattle.mdf.specs.Chain.{fileLimits}
+use Rattle.result.specs.Links.{Head, headAt, GroupFields, groupFields, ChannelFields, channelFields, DataList, listAt, listShown, fragmentsIn, joinedIn, shownAt}
 use Rattle.result.specs.Due.{
   duePayload,
   dueKind,
@@ -146,7 +147,7 @@ blocksAt s size p =
     payloadBlocks (dataKind (keepsInval s (p .column .group .at) (p .column .channel))) (p .first) (columnPayloads s size (p .column))
 
 -- the fragments of its blocks are those due
-due-fragments : (s : List ℕ) (size : ℕ) (p : Placed) → ColumnSound s size p
+pub due-fragments : (s : List ℕ) (size : ℕ) (p : Placed) → ColumnSound s size p
     → fragmentsOf (dueKind (keepsInval s (p .column .group .at) (p .column .channel))) (p .first) (columnPayloads s size (p .column))
     ≡ fragmentsDue s size p
 unfolding fragmentsDue
@@ -172,7 +173,7 @@ dl-shape s size p z =
 
 module _ {f : List ℕ} (s : List ℕ) (size : ℕ) (p : Placed) (k : ColumnSound s size p)
     (list : (b : Block) → In b (dlBlocks s size p) → Stands f (b .at) (b .bytes)) where
-  dl-there : (z : columnBlocks s size (p .column) ≡ 0 → ⊥)
+  pub dl-there : (z : columnBlocks s size (p .column) ≡ 0 → ⊥)
       → Stands f (dlOf p) (header kindDL (24 + 8 * (columnBlocks s size (p .column) + 1) + 16) (columnBlocks s size (p .column) + 1) ++ le 8 0
       ++ blockLinks (columnPayload s size (p .column)) (columnBlocks s size (p .column)) (p .first)
       ++ le 4 1 ++ le 4 (columnBlocks s size (p .column)) ++ le 8 (columnPayload s size (p .column)))

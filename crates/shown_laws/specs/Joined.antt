@@ -41,7 +41,7 @@ use Rattle.mdf.specs.Records.{joined}
 use Rattle.plan.specs.Layout.{Placed, columnBlocks, dlSize}
 use Rattle.result.specs.Fill.{Block, header, framed, payloadBlocks, blockLinks, columnPayload, dlBytes}
 use Rattle.result.specs.FillLaws.{length-blockLinks}
-use Rattle.result.specs.Links.{fileLimits}
+use Rattle.mdf.specs.Chain.{fileLimits}
 use Rattle.result.specs.Due.{evenBlocks}
 use Rattle.result.specs.Guarantee.{Stands, In, here, there}
 use Rattle.shown_laws.specs.Standing.{stands-front, stands-at, read}
@@ -177,7 +177,7 @@ chain-signal a p n s h z r = framed-alone signal fileLimits kindSD dt refl (lit<
 
 -- a DL whose links lead to the fragments fs, with a first link of 0
 list-alone : (l : Limits) (turns : ℕ) (f : List ℕ) (n a : ℕ) (fs : List Fragment) → (a ≡ 0 → ⊥) → headerIn f a ≡ fine → kindAt f a ≡ kindDL
-    → listIn l f [] a ≡ fine → listed records l f n (linksAt f a - 1) (a + 32) [] ≡ found fs → firstLink f a ≡ 0
+    → listIn (l .dlBytes) l f [] a ≡ fine → listed records l f n (linksAt f a - 1) (a + 32) [] ≡ found fs → firstLink f a ≡ 0
     → chainFrom records l turns f n (a ∷ []) 0 fs ≡ found fs → chainFrom records l (suc turns) f n [] a [] ≡ found fs
 unfolding chainFrom isIn leafOf ifEq
 list-alone l turns f n a fs z inside kind fits links last more = rw (ne-eqb a 0 z, inside, kind, fits, links, last) more
@@ -242,12 +242,12 @@ module _ {f : List ℕ} (dl n q first : ℕ) (few : n < 256 ^ 4) (small : q < 25
   unfolding headerIn
   dl-headed = sym (le-yes _ _ _ _ (omega (arith, dl-inside)) refl)
 
-  dl-whole : lengthIn (fileLimits .bytes) f dl ≡ fine
+  dl-whole : lengthIn (fileLimits .dlBytes) f dl ≡ fine
   unfolding lengthIn
   dl-whole =
       rw (dl-size, dl-links) (sym (lt-no _ _ _ _ (omega arith) (lt-no _ _ _ _ (omega arith) (lt-no _ _ _ _ (omega (arith, dl-inside)) refl))))
 
-  dl-fits : listIn fileLimits f [] dl ≡ fine
+  dl-fits : listIn (fileLimits .dlBytes) fileLimits f [] dl ≡ fine
   unfolding listIn
   dl-fits = rw dl-whole (sym (lt-yes _ _ _ _ (lit< tt) refl))
 
