@@ -24,7 +24,7 @@ use Rattle.copies_laws.specs.LengthLaws.{InImage}
 use Rattle.copies_laws.specs.CopyLaws.{root-grown}
 use Rattle.copies_laws.specs.LayoutLaws.{LaidOut, laid-out, columns-placed, columns-within, metadataEnd-near, columns-ordered, blocks-ordered}
 use Rattle.copies_laws.specs.OrderLaws.{ordered-ends}
-use Rattle.payload_laws.specs.CountLaws.{member, group-framed, counted}
+use Rattle.payload_laws.specs.CountLaws.{member, group-framed, column-sorted, counted}
 use Rattle.payload_laws.specs.ColumnLaws.{Ready, ready, column-joined, column-bytes, column-even}
 use Rattle.payload_laws.specs.BoundLaws.{data-small, records-small}
 use Rattle.payload_laws.specs.SignalLaws.{column-signal, data-ordered}
@@ -159,6 +159,7 @@ guaranteed x out list d bytes e =
       inOrder = q .0;
       listed = listed (d .planned .omissions) list (a .listFits);
       counted = λ c i. counted (x .image) (dataGroups (k .steps .source)) (d .planned .columns) (k .steps .counted) (k .steps .dataFine) c i (in-source x d k c i);
+      sorted = λ c i. column-sorted (x .image) (dataGroups (k .steps .source)) (d .planned .columns) (k .steps .counted) (k .steps .dataFine) c i (in-source x d k c i) (k .fitting c i);
       framed = λ g i. group-framed g (member (x .image) (dataGroups (k .steps .source)) (k .steps .counted) g (subst (In g) (k .steps .groups) i));
       signals = λ c i. k .planned .sourced c i .signal;
       masters = k .masters;

@@ -19,7 +19,7 @@ use Rattle.plan.specs.Data.{isNonempty}
 use Rattle.plan.specs.Copies.{isCopied}
 use Rattle.plan.specs.Layout.{Placed, cgOf, cnOf, columnBlocks}
 pub use Rattle.result.specs.Member.{In, here, there}
-use Rattle.result.specs.Recording.{Recorded, Met, Framed, IsMaster, reasonFor, OmissionDue, Among, filePlaces, SignalDue, Followed, isAT, attachedFrom}
+use Rattle.result.specs.Recording.{Recorded, Met, Framed, Sorted, IsMaster, reasonFor, OmissionDue, Among, filePlaces, SignalDue, Followed, isAT, attachedFrom}
 use Rattle.result.specs.Payload.{recordsOf, cells, signalBytes}
 use Rattle.result.specs.Fill.{Block, dgBytes, cgBytes, cnBytes, dlBytes, cgAt, nextDG}
 use Rattle.result.specs.Result.{Args, Decided, blocksOf, memoOf}
@@ -236,7 +236,10 @@ pub record Guaranteed (x : Args) (d : Decided) (f l : List ℕ) : Type 0 where
   -- the records of a group with a nonempty column are as many as its count
   pub counted : (c : Column) → In c (d .planned .columns) → isNonempty (x .image) c ≡ true
       → length (recordsOf (x .image) (c .group)) ≡ c .group .records
-  -- those of a group that shares its DG are its own among all that the DG's data holds to its end
+  -- those of a sorted group are all that its DG's data holds
+  pub sorted : (c : Column) → In c (d .planned .columns) → isNonempty (x .image) c ≡ true → length (c .group .dataGroup .groups) ≡ 1
+      → Sorted (x .image) (c .group)
+  -- those of a group that shares its DG are its own among all that the DG's data holds
   pub framed : (g : SrcGroup) → In g (d .groups) → 1 < length (g .dataGroup .groups) → Framed (x .image) g
   -- signal data is that of a type 1 channel's SD chain
   pub signals : (c : Column) → In c (d .planned .columns) → SignalDue (x .image) (c .channel) (c .signalOf)

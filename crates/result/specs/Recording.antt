@@ -6,13 +6,13 @@ use mathlib.Core.Option.{Option, none, some}
 use mathlib.Core.Logic.{_⊎_}
 use mathlib.Core.Path.{_≡_}
 use lib.Dec.{eqb}
-use lib.ListN.{length, getD}
+use lib.ListN.{length, getD, replicate}
 use Rattle.base.specs.Choice.{pick, ifEq}
 use Rattle.base.specs.Field.{leAt}
 use Rattle.mdf.specs.Block.{kindCG, kindCN, kindAt, linkAt, firstLink}
-use Rattle.mdf.specs.Chain.{Chain.records, Chain.signal, found, limits, chain}
+use Rattle.mdf.specs.Chain.{Kind, Fragment, Chain.records, Chain.signal, found, limits, chain}
 use Rattle.mdf.specs.Group.{Group, DataGroup, addresses, recordId, samples, invalBytes, isStorage}
-use Rattle.mdf.specs.Records.{joined, sizeOf, Frame, unsortedRecords}
+use Rattle.mdf.specs.Records.{joined, idBytes, sizeOf, Frame, unsortedRecords}
 use Rattle.mdf.specs.Walk.{cg, cn, Source, idSize}
 use Rattle.plan.specs.Channel.{channelType, fits, isMasterType, both}
 use Rattle.plan.specs.Columns.{kindCA, SrcGroup, differs, timeOf, Signal, unsigned, signalData, Omission}
@@ -95,6 +95,30 @@ pub record Framed (s : List ℕ) (g : SrcGroup) : Type 0 where
   pub whole : length (joined s (g .dataGroup .fragments)) ≡ sizeOf (g .dataGroup .fragments)
   pub own : recordsOf s g ≡ unsortedRecords (g .number) frames
   pub many : length (recordsOf s g) ≡ g .records
+
+-- the kind of each byte of the joined data
+unfoldable pub kindsOf : List Fragment → List Kind
+kindsOf [] = []
+kindsOf (f ∷ fs) = replicate (f .size) (f .kind) ++ kindsOf fs
+
+-- the record r of a sorted group, the only CG in its DG: the data d with the kinds ks is an id, "a sorted group's DV has none", r and the rest; id and
+-- record are of one kind
+pub record IsSorted (s : List ℕ) (dg g : ℕ) (r d rest : List ℕ) (ks later : List Kind) : Type 0 where
+  pub kind : Kind
+  pub id : List ℕ
+  pub parts : d ≡ id ++ (r ++ rest)
+  pub ofKind : ks ≡ replicate (length id + length r) kind ++ later
+  pub idLength : length id ≡ idBytes s dg kind
+  pub long : length r ≡ samples s g + invalBytes s g
+
+unfoldable pub FillSorted : List ℕ → ℕ → ℕ → List (List ℕ) → List ℕ → List Kind → Type 0
+FillSorted s dg g [] d ks = d ≡ []
+FillSorted s dg g (r ∷ rs) d ks = (rest : List ℕ) × (later : List Kind) × IsSorted s dg g r d rest ks later × FillSorted s dg g rs rest later
+
+-- the records of a sorted group are all that the DG's joined fragments hold; no fragment lacks a byte
+pub record Sorted (s : List ℕ) (g : SrcGroup) : Type 0 where
+  pub fill : FillSorted s (g .dataGroup .at) (g .at) (recordsOf s g) (joined s (g .dataGroup .fragments)) (kindsOf (g .dataGroup .fragments))
+  pub whole : length (joined s (g .dataGroup .fragments)) ≡ sizeOf (g .dataGroup .fragments)
 
 -- ---- channels
 
