@@ -143,7 +143,7 @@ pub guaranteed : (x : Args) (out list : List ℕ) (d : Decided) → AllBytes (x 
 guaranteed x out list d bytes e =
     let k = answer-known x (length out) (length list) d e in
     let a = answer-accepted x (length out) (length list) d e in
-    let q = plan-omissions (x .image) (length (k .steps .source .fragments)) (d .groups) (d .planned) (k .steps .planned) in
+    let q = plan-omissions (x .image) (length (k .steps .source .fragments)) (d .groups) (d .planned) (λ y. omega (arith, k .groups .once y)) (k .steps .planned) in
     record {
       planned = columns-placed (o x d k);
       shows = file-shows x (d .laidOut) out (ordered x d k) (a .outputFits) (sound x d k bytes);

@@ -9,6 +9,7 @@ pub mod GroupLaws
 pub mod SourceLaws
 pub mod DecideLaws
 pub mod ColumnLaws
+pub mod MasterLaws
 pub mod PlanLaws
 pub mod OmissionLaws
 pub mod DataLaws

@@ -1,5 +1,5 @@
 -- Omissions stand in file order, and each group whose remote master has another count has one.
-use Prim.Native.Nat.{ℕ}
+use Prim.Native.Nat.{ℕ, _≤_}
 use mathlib.Core.List.{List, [], _∷_, _++_, append-nil, append-assoc}
 use mathlib.Core.Bool.{false}
 use mathlib.Core.Option.{Option, none, some}
@@ -9,9 +9,11 @@ use Rattle.base.specs.Checked.{ok}
 use Rattle.mdf.specs.Group.{isStorage}
 use Rattle.plan.specs.Columns.{SrcGroup, masterOf, TimeOf, time, untimed, differs, timeOf, Column, Omission, Plan, withOmission, timeColumn, onPlanned, withColumn, withTime, Decision, omitted, kept, decide, decided, planChannels, ownMaster, planTimed, planGroup, planGroups, plan, omissionAddresses}
 use Rattle.result.specs.Member.{In, here, there}
-use Rattle.result.specs.Recording.{Among, filePlaces}
+use Rattle.result.specs.Recording.{Differs, Among, filePlaces}
 use Rattle.plan_laws.specs.Answers.{ok-same, true≢false, with-ok, eq-cases, pick-cases}
-use Rattle.plan_laws.specs.Lists.{in-left, in-right, in-none}
+use Rattle.plan_laws.specs.Lists.{in-left, in-right, in-none, occurs}
+use Rattle.plan_laws.specs.GroupLaws.{allAddresses}
+use Rattle.plan_laws.specs.MasterLaws.{differs-time}
 use Rattle.plan_laws.specs.DecideLaws.{time≢differs}
 
 -- ---- lists with some left out
@@ -128,10 +130,13 @@ groups-more s all (g ∷ gs) p q e =
     each h k j (there i) f d = k .differing j i f d
 
 -- the whole plan
-pub plan-omissions : (s : List ℕ) (n : ℕ) (all : List SrcGroup) (p : Plan) → plan s n all ≡ ok p
+pub plan-omissions : (s : List ℕ) (n : ℕ) (all : List SrcGroup) (p : Plan) → ((x : ℕ) → occurs x (allAddresses all) ≤ 1) → plan s n all ≡ ok p
     → Among (omissionAddresses (p .omissions)) (filePlaces all)
-    × ((g : SrcGroup) → In g all → isStorage s (g .at) ≡ false → timeOf s all g ≡ differs → In (record { at = g .at; reason = 1 }) (p .omissions))
+    × ((g : SrcGroup) → In g all → isStorage s (g .at) ≡ false → Differs s all g → In (record { at = g .at; reason = 1 }) (p .omissions))
 unfolding plan
-plan-omissions s n all p e =
+plan-omissions s n all p once e =
     let r = groups-more s all all _ p e in
-    (subst (λ (l : List Omission). Among (omissionAddresses l) (filePlaces all)) (sym (r .given .is)) (r .given .among), r .differing)
+    (
+      subst (λ (l : List Omission). Among (omissionAddresses l) (filePlaces all)) (sym (r .given .is)) (r .given .among),
+      λ g i f d. r .differing g i f (differs-time s all once g f d),
+    )

@@ -14,12 +14,12 @@ use Rattle.mdf.specs.Group.{DataGroup, groupFlags, samples, invalBytes, isStora
 use Rattle.plan.specs.Channel.{bit, keepsInval, channelBytes}
 use Rattle.mdf.specs.Walk.{Source, walk}
 use Rattle.base.specs.Checked.{ok}
-use Rattle.plan.specs.Columns.{SrcGroup, Column, Omission, TimeOf, time, untimed, differs, timeOf, omissionAddresses}
+use Rattle.plan.specs.Columns.{SrcGroup, Column, Omission, omissionAddresses}
 use Rattle.plan.specs.Data.{isNonempty}
 use Rattle.plan.specs.Copies.{isCopied}
 use Rattle.plan.specs.Layout.{Placed, cgOf, cnOf, columnBlocks}
 pub use Rattle.result.specs.Member.{In, here, there}
-use Rattle.result.specs.Recording.{Recorded, Met, Framed, Sorted, IsMaster, reasonFor, OmissionDue, Among, filePlaces, SignalDue, Followed, isAT, attachedFrom}
+use Rattle.result.specs.Recording.{Recorded, Met, Framed, Sorted, IsMaster, Uses, Differs, reasonFor, OmissionDue, Among, filePlaces, SignalDue, Followed, isAT, attachedFrom}
 use Rattle.result.specs.Payload.{recordsOf, cells, signalBytes}
 use Rattle.result.specs.Fill.{Block, dgBytes, cgBytes, cnBytes, dlBytes, cgAt, nextDG}
 use Rattle.result.specs.Result.{Args, Decided, blocksOf, memoOf}
@@ -165,16 +165,15 @@ pub record IsTime (cs : List Column) (k : ℕ) (t : SrcGroup) (m n : ℕ) (d : C
   pub ofChannel : d .channel ≡ m
   pub asMany : d .group .records ≡ n
 
--- "a signal column names a master exactly when planning gave a time column for the master its group has or uses, that one, with as many records"
-abbrev pub MasterDue : List Column → Column → TimeOf → Type 0
-MasterDue cs c (time t m) = (k : ℕ) × (d : Column) × (c .master ≡ some k) × IsTime cs k t m (c .group .records) d
-MasterDue cs c untimed = c .master ≡ none
-MasterDue cs c differs = c .master ≡ none
+-- a signal column names the time column of the master that its group has or uses, with as many records; without such a master it names none
+pub record MasterDue (s : List ℕ) (gs : List SrcGroup) (cs : List Column) (c : Column) : Type 0 where
+  pub names : (t : SrcGroup) (m : ℕ) → Uses s gs (c .group) t m → (k : ℕ) × (d : Column) × (c .master ≡ some k) × IsTime cs k t m (c .group .records) d
+  pub only : (k : ℕ) → c .master ≡ some k → (t : SrcGroup) × (m : ℕ) × Uses s gs (c .group) t m
 
 -- "a time column names none"
 abbrev pub NamesMaster : List ℕ → List SrcGroup → List Column → Column → Bool → Type 0
-NamesMaster s all cs c true = c .master ≡ none
-NamesMaster s all cs c false = MasterDue cs c (timeOf s all (c .group))
+NamesMaster s gs cs c true = c .master ≡ none
+NamesMaster s gs cs c false = MasterDue s gs cs c
 
 -- a time column is its group's master; any other column is of a channel that nothing omits
 abbrev pub Kinded : List ℕ → Column → Bool → Type 0
@@ -226,7 +225,7 @@ pub record Guaranteed (x : Args) (d : Decided) (f l : List ℕ) : Type 0 where
   pub kinded : (c : Column) → In c (d .planned .columns) → Kinded (x .image) c (c .isTime)
   -- an omission is of a channel for its reason, or of a group's CG with reason 1, which each group has whose remote master has another count
   pub omitted : (o : Omission) → In o (d .planned .omissions) → OmissionDue (x .image) (d .groups) o
-  pub differing : (g : SrcGroup) → In g (d .groups) → isStorage (x .image) (g .at) ≡ false → timeOf (x .image) (d .groups) g ≡ differs
+  pub differing : (g : SrcGroup) → In g (d .groups) → isStorage (x .image) (g .at) ≡ false → Differs (x .image) (d .groups) g
       → In (record { at = g .at; reason = 1 }) (d .planned .omissions)
   -- the lent list has the omissions at its front, in file order
   pub inOrder : Among (omissionAddresses (d .planned .omissions)) (filePlaces (d .groups))

@@ -15,7 +15,7 @@ use Rattle.mdf.specs.Group.{Group, DataGroup, addresses, recordId, samples, inv
 use Rattle.mdf.specs.Records.{joined, idBytes, sizeOf, Frame, unsortedRecords}
 use Rattle.mdf.specs.Walk.{cg, cn, Source, idSize}
 use Rattle.plan.specs.Channel.{channelType, fits, isMasterType, both}
-use Rattle.plan.specs.Columns.{kindCA, SrcGroup, differs, timeOf, Signal, unsigned, signalData, Omission}
+use Rattle.plan.specs.Columns.{kindCA, SrcGroup, remoteLink, Signal, unsigned, signalData, Omission}
 use Rattle.plan.specs.Copies.{kindAT, Attachment}
 use Rattle.result.specs.Member.{In}
 use Rattle.result.specs.Payload.{recordsOf}
@@ -131,6 +131,26 @@ pub record IsMaster (s : List ℕ) (g : ℕ) (channels : List ℕ) (m : ℕ) : T
   pub fitting : fits s g m ≡ true
   pub first : (c : ℕ) → In c before → both (isMasterType s c) (fits s g c) ≡ false
 
+abbrev pub NoMaster : List ℕ → SrcGroup → Type 0
+NoMaster s g = (c : ℕ) → In c (g .channels) → both (isMasterType s c) (fits s (g .at) c) ≡ false
+
+-- the group g has no master, and t, "the group at its remote link (flag bit 3, seventh link)", has the master m; VLSD storage groups have none
+pub record Remote (s : List ℕ) (gs : List SrcGroup) (g t : SrcGroup) (m : ℕ) : Type 0 where
+  pub without : NoMaster s g
+  pub isIn : In t gs
+  pub linked : t .at ≡ remoteLink s (g .at)
+  pub stored : isStorage s (t .at) ≡ false
+  pub master : IsMaster s (t .at) (t .channels) m
+
+-- the master that the group g has or uses is m, of the group t: "Without one, the group uses the master of the group at its remote link .. if both
+-- counts agree"
+abbrev pub Uses : List ℕ → List SrcGroup → SrcGroup → SrcGroup → ℕ → Type 0
+Uses s gs g t m = ((g ≡ t) × IsMaster s (t .at) (t .channels) m) ⊎ (Remote s gs g t m × (t .records ≡ g .records))
+
+-- "1 remote master with another count"
+abbrev pub Differs : List ℕ → List SrcGroup → SrcGroup → Type 0
+Differs s gs g = (t : SrcGroup) × (m : ℕ) × Remote s gs g t m × (t .records ≡ g .records → ⊥)
+
 -- a link leads to a block of that kind
 unfoldable pub leadsTo : List ℕ → ℕ → ℕ → Bool
 leadsTo s a k = ifEq a 0 false (eqb (kindAt s a) k)
@@ -151,7 +171,7 @@ reasonFor s g c =
 pub data OmissionDue (s : List ℕ) (gs : List SrcGroup) (o : Omission) : Type 0 where
   ofChannel : (g : SrcGroup) → In g gs → isStorage s (g .at) ≡ false → In (o .at) (g .channels) → o .reason ≡ reasonFor s (g .at) (o .at)
       → (o .reason ≡ 0 → ⊥) → OmissionDue s gs o
-  ofGroup : (g : SrcGroup) → In g gs → isStorage s (g .at) ≡ false → o .at ≡ g .at → o .reason ≡ 1 → timeOf s gs g ≡ differs → OmissionDue s gs o
+  ofGroup : (g : SrcGroup) → In g gs → isStorage s (g .at) ≡ false → o .at ≡ g .at → o .reason ≡ 1 → Differs s gs g → OmissionDue s gs o
 
 -- the list is the other with some left out
 pub data Among : List ℕ → List ℕ → Type 0 where
