@@ -419,8 +419,7 @@ module _ (s : List ℕ) (dg g : ℕ) (k : Kind) (n : ℕ) (wide : n ≡ idBytes 
       let b : length (drop i front) ≡ samples s g + invalBytes s g = length-drop i front ∙ omega (arith, f, wide) in
       let w : d ≡ (take i front ++ drop i front) ++ drop n d =
       sym (take-append-drop n d) ∙ ap (λ (x : List ℕ). x ++ drop n d) (sym (take-append-drop i front)) in
-      let z : length d ≡ length (take i front) + length (drop i front) + length (drop n d) = omega (arith, a, b, t, m, wide) in
-      (
+      let z : length d ≡ length (take i front) + length (drop i front) + length (drop n d) = omega (arith, a, b, t, m, wide) in (
         drop n d ++ rest,
         replicate (length (drop n d)) k ++ later,
         record {

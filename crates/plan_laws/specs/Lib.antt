@@ -11,6 +11,6 @@ pub mod DecideLaws
 pub mod ColumnLaws
 pub mod MasterLaws
 pub mod PlanLaws
-pub mod OmissionLaws
+pub mod FileOrderLaws
 pub mod DataLaws
 pub mod Known

@@ -1,4 +1,4 @@
--- The archive's guarantee (demand 3, in the words of document 01, e): what holds of the final bytes of every accepted result.
+-- The archive's guarantee (demand 3, in the words of document 01, e): what holds of the final bytes and the final list of every accepted result.
 use Prim.Native.Nat.{ℕ, zero, suc, _+_, _*_, _-_, _≤_, _<_}
 use mathlib.Core.List.{List, [], _∷_, _++_}
 use mathlib.Core.Bool.{Bool, true, false}
@@ -19,7 +19,7 @@ use Rattle.plan.specs.Data.{isNonempty}
 use Rattle.plan.specs.Copies.{isCopied}
 use Rattle.plan.specs.Layout.{Placed, cgOf, cnOf, columnBlocks}
 pub use Rattle.result.specs.Member.{In, here, there}
-use Rattle.result.specs.Recording.{Recorded, Met, Framed, Sorted, IsMaster, Uses, Differs, reasonFor, OmissionDue, Among, filePlaces, SignalDue, Followed, isAT, attachedFrom}
+use Rattle.result.specs.Recording.{Recorded, Met, Framed, Sorted, IsMaster, Uses, Differs, reasonFor, OmissionDue, Among, filePlaces, signalChannels, SignalDue, signalSize, Followed, isAT, attachedFrom}
 use Rattle.result.specs.Payload.{recordsOf, cells, signalBytes}
 use Rattle.result.specs.Fill.{Block, dgBytes, cgBytes, cnBytes, dlBytes, cgAt, nextDG}
 use Rattle.result.specs.Result.{Args, Decided, blocksOf, memoOf}
@@ -209,12 +209,10 @@ pub record Guaranteed (x : Args) (d : Decided) (f l : List ℕ) : Type 0 where
   -- every block is written as planned, and no two share a byte
   pub filled : (b : Block) → In b (blocksOf x (d .laidOut)) → Stands f (b .at) (b .bytes)
   pub apart : AllApart (blocksOf x (d .laidOut))
-
   -- ---- the recording: "groups in file order", "A group's channels are the CN of its own chain"
   -- its groups, their channels and their fragments are what links list from its header on; they are what the walk met
   pub recording : (ds : List DataGroup) × Recorded (x .image) ds (d .groups)
   pub met : (st : Source) → walk (x .image) ≡ ok st → Met st (d .groups)
-
   -- ---- "every channel became one column or one omission"
   -- every channel of every group that is not VLSD storage is one column or one omission, and nothing else is a column
   pub once : (g : SrcGroup) → In g (d .groups) → isStorage (x .image) (g .at) ≡ false → (c : ℕ) → In c (g .channels)
@@ -227,10 +225,10 @@ pub record Guaranteed (x : Args) (d : Decided) (f l : List ℕ) : Type 0 where
   pub omitted : (o : Omission) → In o (d .planned .omissions) → OmissionDue (x .image) (d .groups) o
   pub differing : (g : SrcGroup) → In g (d .groups) → isStorage (x .image) (g .at) ≡ false → Differs (x .image) (d .groups) g
       → In (record { at = g .at; reason = 1 }) (d .planned .omissions)
-  -- the lent list has the omissions at its front, in file order
-  pub inOrder : Among (omissionAddresses (d .planned .omissions)) (filePlaces (d .groups))
+  -- signal columns and omissions are each in file order; the lent list has the omissions at its front
+  pub columnsInOrder : Among (signalChannels (d .planned .columns)) (filePlaces (d .groups))
+  pub omissionsInOrder : Among (omissionAddresses (d .planned .omissions)) (filePlaces (d .groups))
   pub listed : Listed l (d .planned .omissions)
-
   -- ---- "payloads and signal data equal their source": `shows`, with
   -- the records of a group with a nonempty column are as many as its count
   pub counted : (c : Column) → In c (d .planned .columns) → isNonempty (x .image) c ≡ true
@@ -240,12 +238,11 @@ pub record Guaranteed (x : Args) (d : Decided) (f l : List ℕ) : Type 0 where
       → Sorted (x .image) (c .group)
   -- those of a group that shares its DG are its own among all that the DG's data holds
   pub framed : (g : SrcGroup) → In g (d .groups) → 1 < length (g .dataGroup .groups) → Framed (x .image) g
-  -- signal data is that of a type 1 channel's SD chain
-  pub signals : (c : Column) → In c (d .planned .columns) → SignalDue (x .image) (c .channel) (c .signalOf)
-
+  -- signal data is that of a type 1 channel's SD chain, and lacks no byte
+  pub signals : (c : Column) → In c (d .planned .columns)
+      → SignalDue (x .image) (c .channel) (c .signalOf) × (length (signalBytes (x .image) (c .signalOf)) ≡ signalSize (c .signalOf))
   -- ---- "masters are named as planned"
   pub masters : (c : Column) → In c (d .planned .columns) → NamesMaster (x .image) (d .groups) (d .planned .columns) c (c .isTime)
-
   -- ---- the chains of history and attachments are followed to their end
   pub history : Followed (x .image) isCopied (linkAt (x .image) 64 1) (d .laidOut .past .chain)
   pub attachments : Followed (x .image) isAT (linkAt (x .image) 64 3) (attachedFrom (d .laidOut .attached .attachments))

@@ -15,7 +15,7 @@ use Rattle.mdf.specs.Group.{Group, DataGroup, addresses, recordId, samples, inv
 use Rattle.mdf.specs.Records.{joined, idBytes, sizeOf, Frame, unsortedRecords}
 use Rattle.mdf.specs.Walk.{cg, cn, Source, idSize}
 use Rattle.plan.specs.Channel.{channelType, fits, isMasterType, both}
-use Rattle.plan.specs.Columns.{kindCA, SrcGroup, remoteLink, Signal, unsigned, signalData, Omission}
+use Rattle.plan.specs.Columns.{kindCA, SrcGroup, remoteLink, Signal, unsigned, signalData, Column, Omission}
 use Rattle.plan.specs.Copies.{kindAT, Attachment}
 use Rattle.result.specs.Member.{In}
 use Rattle.result.specs.Payload.{recordsOf}
@@ -36,6 +36,7 @@ pub record Linked (s : List ℕ) (d : DataGroup) : Type 0 where
   pub channels : (g : Group) → In g (d .groups) → Chained s (linkAt s (g .at) 1) (g .channels)
   pub fragments : (n : ℕ) × (chain records limits s n (linkAt s (d .at) 2) ≡ found (d .fragments))
 
+-- the DG
 unfoldable pub dataGroupPlaces : List DataGroup → List ℕ
 dataGroupPlaces [] = []
 dataGroupPlaces (d ∷ ds) = d .at ∷ dataGroupPlaces ds
@@ -45,6 +46,7 @@ unfoldable pub groupPlaces : List DataGroup → List ℕ
 groupPlaces [] = []
 groupPlaces (d ∷ ds) = addresses (d .groups) ++ groupPlaces ds
 
+-- the groups, counted
 unfoldable pub countedPlaces : List SrcGroup → List ℕ
 countedPlaces [] = []
 countedPlaces (g ∷ gs) = g .at ∷ countedPlaces gs
@@ -55,7 +57,7 @@ groupNumber k [] = none
 groupNumber zero (g ∷ gs) = some g
 groupNumber (suc k) (g ∷ gs) = groupNumber k gs
 
--- the recording's DG are ds, the chain at HD link 1; the groups gs are theirs, all of them, in file order, each with its DG, its number in it and its channels
+-- the recording's DG are ds, the chain at HD link 1; the groups gs are all of theirs, in file order, each with its DG, its number in it and its channels
 pub record Recorded (s : List ℕ) (ds : List DataGroup) (gs : List SrcGroup) : Type 0 where
   pub dataGroups : Chained s (linkAt s 64 0) (dataGroupPlaces ds)
   pub linked : (d : DataGroup) → In d ds → Linked s d
@@ -111,6 +113,7 @@ pub record IsSorted (s : List ℕ) (dg g : ℕ) (r d rest : List ℕ) (ks later 
   pub idLength : length id ≡ idBytes s dg kind
   pub long : length r ≡ samples s g + invalBytes s g
 
+-- the records are all of the data, in order
 unfoldable pub FillSorted : List ℕ → ℕ → ℕ → List (List ℕ) → List ℕ → List Kind → Type 0
 FillSorted s dg g [] d ks = d ≡ []
 FillSorted s dg g (r ∷ rs) d ks = (rest : List ℕ) × (later : List Kind) × IsSorted s dg g r d rest ks later × FillSorted s dg g rs rest later
@@ -131,6 +134,7 @@ pub record IsMaster (s : List ℕ) (g : ℕ) (channels : List ℕ) (m : ℕ) : T
   pub fitting : fits s g m ≡ true
   pub first : (c : ℕ) → In c before → both (isMasterType s c) (fits s g c) ≡ false
 
+-- the group has no such channel
 abbrev pub NoMaster : List ℕ → SrcGroup → Type 0
 NoMaster s g = (c : ℕ) → In c (g .channels) → both (isMasterType s c) (fits s (g .at) c) ≡ false
 
@@ -184,11 +188,20 @@ unfoldable pub filePlaces : List SrcGroup → List ℕ
 filePlaces [] = []
 filePlaces (g ∷ gs) = (g .at ∷ g .channels) ++ filePlaces gs
 
+-- the channels of the columns that are no time columns
+unfoldable pub signalChannels : List Column → List ℕ
+signalChannels [] = []
+signalChannels (c ∷ cs) = pick (c .isTime) [] (c .channel ∷ []) ++ signalChannels cs
+
 -- the signal data of channel c: "source is the joined data of a type 1 channel's SD chain, else nothing", "Any other nonzero link 6 of type 1 is an
 -- SD chain"; n fragments were found before the chain
 abbrev pub SignalDue : List ℕ → ℕ → Signal → Type 0
 SignalDue s c unsigned = channelType s c ≡ 1 → linkAt s c 5 ≡ 0
 SignalDue s c (signalData fs) = (channelType s c ≡ 1) × (n : ℕ) × (chain signal limits s n (linkAt s c 5) ≡ found fs)
+
+abbrev pub signalSize : Signal → ℕ
+signalSize unsigned = 0
+signalSize (signalData fs) = sizeOf fs
 
 -- ---- the history and the attachments
 
