@@ -56,9 +56,9 @@ module _ (os : List Omission) (list : List ℕ) (room : length (omissionWords os
   at-word k o e = (
     ap (λ (l : List ℕ). getD l (suc k) 0) words ∙ address-at os k o (omissionReasons os ++ rest) e,
     ap (λ (l : List ℕ). getD l (suc (length os + k)) 0) words
-    ∙ ap (λ (n : ℕ). getD (omissionAddresses os ++ (omissionReasons os ++ rest)) (n + k) 0) (sym (length-addresses os))
-    ∙ getD-append-add (omissionAddresses os) (omissionReasons os ++ rest) k 0
-    ∙ reason-at os k o rest e,
+        ∙ ap (λ (n : ℕ). getD (omissionAddresses os ++ (omissionReasons os ++ rest)) (n + k) 0) (sym (length-addresses os))
+        ∙ getD-append-add (omissionAddresses os) (omissionReasons os ++ rest) k 0
+        ∙ reason-at os k o rest e,
   )
 
   pub listed : Listed (blit 0 (omissionWords os) list) os

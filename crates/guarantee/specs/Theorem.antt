@@ -12,27 +12,28 @@ use Rattle.base.specs.CheckedLaws.{ok-same}
 use Rattle.mdf.specs.Block.{CG, CN}
 use Rattle.mdf.specs.Group.{DataGroup, dataGroups}
 use Rattle.mdf.specs.Walk.{Source, walk}
-use Rattle.plan.specs.Columns.{SrcGroup, srcGroups, Column, sizeOfSignal, omissionWords}
+use Rattle.plan.specs.Columns.{SrcGroup, srcGroups, Column, Signal, unsigned, signalData, sizeOfSignal, omissionWords}
+use Rattle.plan.specs.Data.{signalIn}
 use Rattle.plan.specs.Layout.{Layout, Placed, placedFrom, structurePlace, structureEnd, structureSize, dataEnd, columnBlocks, payloadSize, cgSize, dlOf}
 use Rattle.result.specs.Ordered.{Ordered}
 use Rattle.result.specs.Payload.{columnPayloads, signalBytes}
 use Rattle.result.specs.Fill.{dataBlocks, columnPayload}
 use Rattle.result.specs.Result.{Args, Decided, answer, fileOf, blocksOf}
 use Rattle.result.specs.Due.{duePayload}
-use Rattle.result.specs.Recording.{Met}
+use Rattle.result.specs.Recording.{Met, signalSize}
 use Rattle.result.specs.Guarantee.{In, Guaranteed}
 use Rattle.copies_laws.specs.LengthLaws.{InImage}
 use Rattle.copies_laws.specs.CopyLaws.{root-grown}
 use Rattle.copies_laws.specs.LayoutLaws.{LaidOut, laid-out, columns-placed, columns-within, metadataEnd-near, columns-ordered, blocks-ordered}
 use Rattle.copies_laws.specs.OrderLaws.{ordered-ends}
-use Rattle.payload_laws.specs.CountLaws.{member, group-framed, counted}
+use Rattle.payload_laws.specs.CountLaws.{member, group-framed, column-sorted, counted}
 use Rattle.payload_laws.specs.ColumnLaws.{Ready, ready, column-joined, column-bytes, column-even}
 use Rattle.payload_laws.specs.BoundLaws.{data-small, full-bound, records-small}
-use Rattle.payload_laws.specs.SignalLaws.{column-signal, data-ordered}
+use Rattle.payload_laws.specs.SignalLaws.{column-signal, length-signal, data-ordered}
 use Rattle.plan_laws.specs.Decision.{Steps, Accepted, answer-accepted, blocks-few}
 use Rattle.plan_laws.specs.Known.{Known, answer-known}
 use Rattle.plan_laws.specs.PlanLaws.{made-kinded}
-use Rattle.plan_laws.specs.OmissionLaws.{plan-omissions}
+use Rattle.plan_laws.specs.FileOrderLaws.{plan-in-order}
 use Rattle.shown_laws.specs.ColumnShown.{ColumnSound}
 use Rattle.shown_laws.specs.Final.{file-apart, file-filled, file-shows}
 use Rattle.guarantee.specs.List.{listed}
@@ -137,6 +138,10 @@ module _ (x : Args) (d : Decided) (k : Known x d) where
           sdEnds = omega (arith, t .sdBelow, metadata-small, k .fewColumns, signal-small (x .image) (c .signalOf) (z .signals) (k .steps .imageLength) (z .fewSignals));
         }
 
+signal-whole : (s : List ℕ) (g : Signal) → signalIn s g ≡ fine → length (signalBytes s g) ≡ signalSize g
+signal-whole s unsigned e = refl
+signal-whole s (signalData fs) e = length-signal s fs e
+
 few-comment : (x : Args) (d : Decided) → Known x d → length (d .laidOut .comment .memo) ≤ 2048
 few-comment x d k = omega (arith, root-grown (x .image) _ _ _ (o x d k .comment) .few (omega arith))
 
@@ -150,7 +155,7 @@ pub guaranteed : (x : Args) (out list : List ℕ) (d : Decided) → AllBytes (x 
 guaranteed x out list d bytes e =
     let k = answer-known x (length out) (length list) d e in
     let a = answer-accepted x (length out) (length list) d e in
-    let q = plan-omissions (x .image) (length (k .steps .source .fragments)) (d .groups) (d .planned) (k .steps .planned) in
+    let q = plan-in-order (x .image) (length (k .steps .source .fragments)) (d .groups) (d .planned) (λ y. omega (arith, k .groups .once y)) (k .steps .planned) in
     record {
       planned = columns-placed (o x d k);
       shows = file-shows x (d .laidOut) out (ordered x d k) (a .outputFits) (sound x d k bytes);
@@ -162,12 +167,14 @@ guaranteed x out list d bytes e =
       source = k .source;
       kinded = λ c i. made-kinded (x .image) c (c .isTime) (k .planned .sourced c i .made);
       omitted = k .planned .omitted;
-      differing = q .1;
-      inOrder = q .0;
+      differing = q .differing;
+      columnsInOrder = q .columns;
+      omissionsInOrder = q .omissions;
       listed = listed (d .planned .omissions) list (a .listFits);
       counted = λ c i. counted (x .image) (dataGroups (k .steps .source)) (d .planned .columns) (k .steps .counted) (k .steps .dataFine) c i (in-source x d k c i);
+      sorted = λ c i. column-sorted (x .image) (dataGroups (k .steps .source)) (d .planned .columns) (k .steps .counted) (k .steps .dataFine) c i (in-source x d k c i) (k .fitting c i);
       framed = λ g i. group-framed g (member (x .image) (dataGroups (k .steps .source)) (k .steps .counted) g (subst (In g) (k .steps .groups) i));
-      signals = λ c i. k .planned .sourced c i .signal;
+      signals = λ c i. (k .planned .sourced c i .signal, signal-whole (x .image) (c .signalOf) (k .signalFine c i));
       masters = k .masters;
       history = history-followed (x .image) _ _ _ (o x d k .past) (few-comment x d k);
       attachments = attachments-followed (x .image) _ _ _ (o x d k .attached);

@@ -7,8 +7,8 @@ use native.Mathlib.Nat.{zero-add}
 use native.Mathlib.Omega.{arith}
 use lib.ListN.{length, drop, getD}
 use lib.Seq.{drop-at}
-use lib.Dec.{eqb}
-use borrow.Author.Tests.{eq-eqb}
+use lib.Dec.{eqb, ltb}
+use borrow.Author.Tests.{eq-eqb, ltb-true}
 use Rattle.base.specs.Choice.{pick}
 use Rattle.base.specs.ChoiceLaws.{lt-back}
 use Rattle.base.specs.Checked.{ok, Verdict, fine}
@@ -17,15 +17,16 @@ use Rattle.mdf.specs.Group.{Group, DataGroup, addresses, samples, invalBytes, i
 use Rattle.mdf.specs.Walk.{idSize}
 use Rattle.mdf.specs.Records.{rangesIn, joined, runs, sizeOf, sortedRecords, Frame, sortedIn, unsortedFrames, unsortedRecords}
 use Rattle.mdf.specs.Count.{sortedCount, countOne, ofGroup, tallies, countGroups, countsFrom, counts}
-use Rattle.plan.specs.Channel.{both}
+use Rattle.plan.specs.Channel.{both, fits, width}
 use Rattle.plan.specs.Columns.{SrcGroup, withCounts, srcGroups, Column}
 use Rattle.plan.specs.Data.{isNonempty, anyNonempty, recordsIn, signalsIn, dataIn, allDataIn}
 use Rattle.result.specs.Payload.{framedRecords, groupRecords, recordsOf}
 use Rattle.result.specs.Member.{In, here, there}
-use Rattle.result.specs.Recording.{Fill, Framed}
+use Rattle.result.specs.Recording.{Fill, Framed, kindsOf, FillSorted, Sorted}
 use Rattle.payload_laws.specs.Answers.{refused≢ok, ok-same, then-fine, then-ok, under}
 use Rattle.payload_laws.specs.Lists.{Long, in-append}
-use Rattle.payload_laws.specs.SortedLaws.{joined-length, sorted-count, sorted-long, sorted-bytes, sorted-ranges}
+use Rattle.payload_laws.specs.SortedLaws.{joined-length, sorted-fill, sorted-count, sorted-long, sorted-bytes, sorted-ranges}
+use Rattle.payload_laws.specs.CellLaws.{both-true, width-within}
 use Rattle.payload_laws.specs.FramedLaws.{counted-group, length-tallies, tallies-at, unsorted-several, framed-long, framed-bytes}
 
 -- ---- the counts, DG by DG
@@ -261,3 +262,26 @@ column-read s ds cs e w c i j q =
 pub counted : (s : List ℕ) (ds : List DataGroup) (cs : List Column) {ns : List ℕ} → counts s ds ≡ ok ns → allDataIn s cs ds ≡ fine
     → (c : Column) → In c cs → In (c .group) (srcGroups ds ns) → isNonempty s c ≡ true → length (recordsOf s (c .group)) ≡ c .group .records
 counted s ds cs e w c i j q = column-read s ds cs e w c i j q .many
+
+-- ---- a sorted group with a nonempty column: its records are all of the DG's data
+
+sorted-at : (s : List ℕ) (d k a : ℕ) (gs : List ℕ) (fs : List Fragment) → length gs ≡ 1 → k < length gs → getD gs k 0 ≡ a → recordsIn s d gs fs ≡ fine
+    → 0 < samples s a + invalBytes s a
+    → FillSorted s d a (groupRecords s d k gs fs) (joined s fs) (kindsOf fs) × (length (joined s fs) ≡ sizeOf fs)
+sorted-at s d k a [] fs o l e w h = absurd (omega arith)
+sorted-at s d zero a (g ∷ []) fs o l e w h = (rw (← e) (sorted-fill s d g fs w (rw e h)), joined-length s fs (sorted-ranges s d g fs w))
+sorted-at s d (suc k) a (g ∷ []) fs o l e w h = absurd (omega arith)
+sorted-at s d k a (g ∷ i ∷ gs) fs o l e w h = absurd (omega arith)
+
+pub column-sorted : (s : List ℕ) (ds : List DataGroup) (cs : List Column) {ns : List ℕ} → counts s ds ≡ ok ns → allDataIn s cs ds ≡ fine
+    → (c : Column) → In c cs → In (c .group) (srcGroups ds ns) → fits s (c .group .at) (c .channel) ≡ true → isNonempty s c ≡ true
+    → length (c .group .dataGroup .groups) ≡ 1 → Sorted s (c .group)
+unfolding recordsOf isNonempty
+column-sorted s ds cs e w c i j f q o =
+    let m = member s ds e (c .group) j in
+    let d : DataGroup = c .group .dataGroup in
+    let wide : 0 < width s (c .group .at) (c .channel) = ltb-true 0 (width s (c .group .at) (c .channel)) (both-true (ltb 0 (width s (c .group .at) (c .channel))) (ltb 0 (c .group .records)) q .0) in
+    let r = sorted-at s (d .at) (c .group .number) (c .group .at) (addresses (d .groups)) (d .fragments) (length-addresses (d .groups) ∙ o) (m .within) (m .address)
+    (records-checked s cs d (all-checked s cs ds d w (m .listed)) (any-nonempty s (d .at) cs c i q refl))
+    (omega (arith, wide, width-within s (c .group .at) (c .channel) f)) in
+    record { fill = r .0; whole = r .1 }

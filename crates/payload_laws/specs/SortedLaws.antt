@@ -1,12 +1,12 @@
 -- A group that is alone in its DG: as many records as its count, all of one length, in the DG's bytes.
 use Prim.Native.Nat.{ℕ, zero, suc, _+_, _*_, _/_, _%_, _≤_, _<_}
 use mathlib.Core.Bool.{true}
-use mathlib.Core.List.{List, [], _∷_, _++_}
+use mathlib.Core.List.{List, [], _∷_, _++_, append-nil, append-assoc}
 use mathlib.Core.Path.{_≡_, refl, sym, ap, _∙_, subst}
 use mathlib.Core.Logic.{_⊎_, inl, inr}
-use native.Mathlib.Nat.{zero-add, zero-mul, zero-div, suc-mul, add-mul, div-zero, div-add-mod', mul-add-div-right, div-mul-le-self, mul-le-mul-left}
+use native.Mathlib.Nat.{add-zero, zero-add, zero-mul, zero-div, suc-mul, add-mul, div-zero, div-add-mod', mul-add-div-right, div-mul-le-self, mul-le-mul-left}
 use native.Mathlib.Omega.{arith}
-use lib.ListN.{length, drop, length-append, length-drop}
+use lib.ListN.{length, take, drop, replicate, length-append, length-drop, take-append-drop, replicate-append-replicate}
 use lib.Seq.{length-take-le}
 use Rattle.base.specs.Choice.{pick, ifEq}
 use Rattle.base.specs.ChoiceLaws.{lt-back, eq-first, eq-yes, eq-no}
@@ -16,6 +16,7 @@ use Rattle.mdf.specs.Chain.{Kind, dt, dv, Fragment}
 use Rattle.mdf.specs.Group.{samples, invalBytes}
 use Rattle.mdf.specs.Records.{rangesIn, joined, isDV, anyDV, recordSize, idBytes, Run, inFront, runs, sizeOf, runWhole, runsWhole, pieces, withoutIds, runRecords, sortedRecords, sortedIn}
 use Rattle.mdf.specs.Count.{sizeDT, sizeDV, quotient, sortedCount}
+use Rattle.result.specs.Recording.{kindsOf, FillSorted}
 use Rattle.payload_laws.specs.Answers.{refused≢ok, then-fine, under}
 use Rattle.payload_laws.specs.Lists.{Long, none, next, long-append, length-part}
 
@@ -349,3 +350,110 @@ sorted-bytes s d g fs e =
 
 pub sorted-ranges : (s : List ℕ) (d g : ℕ) (fs : List Fragment) → sortedIn s d g fs ≡ fine → rangesIn s fs ≡ fine
 sorted-ranges s d g fs e = sorted-alone s d g fs e .0 .ranges
+
+-- ---- the records are all of the data
+
+unfoldable joinedRuns : List ℕ → List Run → List ℕ
+joinedRuns s [] = []
+joinedRuns s (r ∷ rs) = joined s (r .fragments) ++ joinedRuns s rs
+
+unfoldable kindsRuns : List Run → List Kind
+kindsRuns [] = []
+kindsRuns (r ∷ rs) = replicate (sizeOf (r .fragments)) (r .kind) ++ kindsRuns rs
+
+front-joined : (s : List ℕ) (f : Fragment) (rs : List Run) → joinedRuns s (inFront f rs) ≡ part (f .offset) (f .size) s ++ joinedRuns s rs
+unfolding inFront joinedRuns joined
+front-joined s f [] = ap (λ (l : List ℕ). l ++ []) (append-nil (part (f .offset) (f .size) s))
+front-joined s f (r ∷ rs) = go (front-cases f r rs)
+  where
+    p : List ℕ
+    p = part (f .offset) (f .size) s
+
+    go : (inFront f (r ∷ rs) ≡ longer f r ∷ rs) ⊎ (inFront f (r ∷ rs) ≡ alone f ∷ r ∷ rs)
+        → joinedRuns s (inFront f (r ∷ rs)) ≡ p ++ (joined s (r .fragments) ++ joinedRuns s rs)
+    go (inl e) = ap (joinedRuns s) e ∙ append-assoc p (joined s (r .fragments)) (joinedRuns s rs)
+    go (inr e) = ap (joinedRuns s) e ∙ ap (λ (l : List ℕ). l ++ (joined s (r .fragments) ++ joinedRuns s rs)) (append-nil p)
+
+runs-joined : (s : List ℕ) (fs : List Fragment) → joinedRuns s (runs fs) ≡ joined s fs
+unfolding runs joinedRuns joined
+runs-joined s [] = refl
+runs-joined s (f ∷ fs) = front-joined s f (runs fs) ∙ ap (λ (l : List ℕ). part (f .offset) (f .size) s ++ l) (runs-joined s fs)
+
+same-kinds : (n m : ℕ) (k : Kind) (l : List Kind) → replicate (n + m) k ++ l ≡ replicate n k ++ (replicate m k ++ l)
+same-kinds n m k l = ap (λ (x : List Kind). x ++ l) (sym (replicate-append-replicate n m k)) ∙ append-assoc (replicate n k) (replicate m k) l
+
+front-kinds : (f : Fragment) (rs : List Run) → kindsRuns (inFront f rs) ≡ replicate (f .size) (f .kind) ++ kindsRuns rs
+unfolding inFront kindsRuns sizeOf
+front-kinds f [] = rw add-zero
+front-kinds f (r ∷ rs) = go (f .kind) (r .kind) refl refl
+  where
+    go : (k j : Kind) → f .kind ≡ k → r .kind ≡ j
+        → kindsRuns (inFront f (r ∷ rs)) ≡ replicate (f .size) (f .kind) ++ (replicate (sizeOf (r .fragments)) (r .kind) ++ kindsRuns rs)
+    go dt dt p q = rw (p, q) (same-kinds (f .size) (sizeOf (r .fragments)) dt (kindsRuns rs))
+    go dt dv p q = rw (p, q, add-zero)
+    go dv dt p q = rw (p, q, add-zero)
+    go dv dv p q = rw (p, q) (same-kinds (f .size) (sizeOf (r .fragments)) dv (kindsRuns rs))
+
+runs-kinds : (fs : List Fragment) → kindsRuns (runs fs) ≡ kindsOf fs
+unfolding runs kindsRuns kindsOf
+runs-kinds [] = refl
+runs-kinds (f ∷ fs) = front-kinds f (runs fs) ∙ ap (λ (l : List Kind). replicate (f .size) (f .kind) ++ l) (runs-kinds fs)
+
+no-bytes : (d : List ℕ) → length d ≡ 0 → d ≡ []
+no-bytes [] e = refl
+no-bytes (x ∷ d) e = absurd (omega arith)
+
+-- q whole records of one kind, each after an id of i bytes, then more
+module _ (s : List ℕ) (dg g : ℕ) (k : Kind) (n : ℕ) (wide : n ≡ idBytes s dg k + (samples s g + invalBytes s g)) where
+  fill-pieces : (q : ℕ) (d : List ℕ) → length d ≡ q * n → (rs : List (List ℕ)) (rest : List ℕ) (later : List Kind) → FillSorted s dg g rs rest later
+      → FillSorted s dg g (withoutIds (idBytes s dg k) (pieces q n d) ++ rs) (d ++ rest) (replicate (length d) k ++ later)
+  unfolding pieces withoutIds FillSorted
+  fill-pieces zero d l rs rest later h = rw (no-bytes d (l ∙ zero-mul n)) h
+  fill-pieces (suc q) d l rs rest later h =
+      let i : ℕ = idBytes s dg k in
+      let front : List ℕ = take n d in
+      let m : length d ≡ q * n + n = l ∙ suc-mul q n in
+      let f : length front ≡ n = length-take-le n d (omega (arith, m)) in
+      let t : length (drop n d) ≡ q * n = length-drop n d ∙ omega (arith, m) in
+      let a : length (take i front) ≡ i = length-take-le i front (omega (arith, f, wide)) in
+      let b : length (drop i front) ≡ samples s g + invalBytes s g = length-drop i front ∙ omega (arith, f, wide) in
+      let w : d ≡ (take i front ++ drop i front) ++ drop n d =
+      sym (take-append-drop n d) ∙ ap (λ (x : List ℕ). x ++ drop n d) (sym (take-append-drop i front)) in
+      let z : length d ≡ length (take i front) + length (drop i front) + length (drop n d) = omega (arith, a, b, t, m, wide) in (
+        drop n d ++ rest,
+        replicate (length (drop n d)) k ++ later,
+        record {
+          kind = k;
+          id = take i front;
+          parts = ap (λ (x : List ℕ). x ++ rest) w ∙ append-assoc (take i front ++ drop i front) (drop n d) rest
+              ∙ append-assoc (take i front) (drop i front) (drop n d ++ rest);
+          ofKind = ap (λ (x : ℕ). replicate x k ++ later) z ∙ same-kinds (length (take i front) + length (drop i front)) (length (drop n d)) k later;
+          idLength = a;
+          long = b;
+        },
+        fill-pieces q (drop n d) t rs rest later h,
+      )
+
+fill-runs : {s : List ℕ} {rs : List Run} (d g : ℕ) → Sound s (invalBytes s g) rs → runsWhole s d g rs ≡ fine → 0 < samples s g + invalBytes s g
+    → FillSorted s d g (sortedRecords s d g rs) (joinedRuns s rs) (kindsRuns rs)
+unfolding sortedRecords joinedRuns kindsRuns runRecords FillSorted
+fill-runs d g end e h = refl
+fill-runs {s} d g (run {r} {rs} l v w) e h =
+    let c = whole-cons s d g r rs e in
+    let n : ℕ = recordSize s d g (r .kind) in
+    let wide : n ≡ idBytes s d (r .kind) + (samples s g + invalBytes s g) = sized (r .kind) v in
+    let m : length (joined s (r .fragments)) ≡ sizeOf (r .fragments) / n * n =
+    l ∙ omega (arith, div-add-mod' (sizeOf (r .fragments)) n, c .0 (omega (arith, wide, h))) in
+    subst (λ (x : ℕ). FillSorted s d g (sortedRecords s d g (r ∷ rs)) (joinedRuns s (r ∷ rs)) (replicate x (r .kind) ++ kindsRuns rs)) l
+    (fill-pieces s d g (r .kind) n wide (sizeOf (r .fragments) / n) (joined s (r .fragments)) m (sortedRecords s d g rs) (joinedRuns s rs) (kindsRuns rs)
+    (fill-runs d g w (c .1) h))
+  where
+    sized : (k : Kind) → (k ≡ dv → invalBytes s g ≡ 0) → recordSize s d g k ≡ idBytes s d k + (samples s g + invalBytes s g)
+    sized dt u = omega arith
+    sized dv u = omega (arith, u refl)
+
+pub sorted-fill : (s : List ℕ) (d g : ℕ) (fs : List Fragment) → sortedIn s d g fs ≡ fine → 0 < samples s g + invalBytes s g
+    → FillSorted s d g (sortedRecords s d g (runs fs)) (joined s fs) (kindsOf fs)
+sorted-fill s d g fs e h =
+    let a = sorted-alone s d g fs e in
+    rw (← runs-joined s fs, ← runs-kinds fs) (fill-runs d g (sound-runs s (invalBytes s g) fs (a .0 .ranges) (a .0 .unmixed)) (a .1) h)

@@ -10,7 +10,7 @@ use borrow.Author.Tests.{eqb-true, eq-eqb, ne-eqb}
 use Rattle.base.specs.Choice.{pick}
 use Rattle.plan.specs.Channel.{both}
 use Rattle.plan.specs.Columns.{SrcGroup, TimeOf, time, untimed, differs, timeOf, Column, Omission, timeColumn, sizeOfSignal}
-use Rattle.result.specs.Guarantee.{In, here, there, columnsOf, omissionsOf, columnAt, IsTime, MasterDue, NamesMaster}
+use Rattle.result.specs.Guarantee.{In, here, there, columnsOf, omissionsOf, columnAt, IsTime}
 use Rattle.plan_laws.specs.Answers.{pick-cases, or-not}
 use Rattle.plan_laws.specs.Lists.{same, same-yes, same-no}
 use Rattle.plan_laws.specs.DecideLaws.{none≢some, some-same, both-true}
@@ -170,7 +170,18 @@ time-missing g k (c ∷ cs) e =
     (λ t q. rw t (omega (arith, time-missing g (k + 1) cs q)))
 
 -- ---- masters named, in a list that grows
-due-later : (cs ds : List Column) (c : Column) (o : TimeOf) → MasterDue cs c o → MasterDue (cs ++ ds) c o
+
+-- by what planning decides of the group
+abbrev pub TimeDue : List Column → Column → TimeOf → Type 0
+TimeDue cs c (time t m) = (k : ℕ) × (d : Column) × (c .master ≡ some k) × IsTime cs k t m (c .group .records) d
+TimeDue cs c untimed = c .master ≡ none
+TimeDue cs c differs = c .master ≡ none
+
+abbrev pub NamesTime : List ℕ → List SrcGroup → List Column → Column → Bool → Type 0
+NamesTime s all cs c true = c .master ≡ none
+NamesTime s all cs c false = TimeDue cs c (timeOf s all (c .group))
+
+due-later : (cs ds : List Column) (c : Column) (o : TimeOf) → TimeDue cs c o → TimeDue (cs ++ ds) c o
 due-later cs ds c (time t m) h = (
   h .0,
   h .1,
@@ -186,7 +197,7 @@ due-later cs ds c (time t m) h = (
 due-later cs ds c untimed h = h
 due-later cs ds c differs h = h
 
-pub named-later : (s : List ℕ) (all : List SrcGroup) (cs ds : List Column) (c : Column) (t : Bool) → NamesMaster s all cs c t → NamesMaster s all (cs ++ ds) c t
+pub named-later : (s : List ℕ) (all : List SrcGroup) (cs ds : List Column) (c : Column) (t : Bool) → NamesTime s all cs c t → NamesTime s all (cs ++ ds) c t
 named-later s all cs ds c true h = h
 named-later s all cs ds c false h = due-later cs ds c (timeOf s all (c .group)) h
 
@@ -196,7 +207,7 @@ GivenDue cs m n (time t x) = (k : ℕ) × (d : Column) × (m ≡ some k) × IsTi
 GivenDue cs m n untimed = m ≡ none
 GivenDue cs m n differs = m ≡ none
 
-pub given-due : (cs : List Column) (c : Column) (o : TimeOf) → GivenDue cs (c .master) (c .group .records) o → MasterDue cs c o
+pub given-due : (cs : List Column) (c : Column) (o : TimeOf) → GivenDue cs (c .master) (c .group .records) o → TimeDue cs c o
 given-due cs c (time t m) h = h
 given-due cs c untimed h = h
 given-due cs c differs h = h

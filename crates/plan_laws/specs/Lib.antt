@@ -9,7 +9,8 @@ pub mod GroupLaws
 pub mod SourceLaws
 pub mod DecideLaws
 pub mod ColumnLaws
+pub mod MasterLaws
 pub mod PlanLaws
-pub mod OmissionLaws
+pub mod FileOrderLaws
 pub mod DataLaws
 pub mod Known

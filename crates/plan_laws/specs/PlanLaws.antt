@@ -20,7 +20,8 @@ use Rattle.plan_laws.specs.Lists.{in-none, in-cases, in-one, same, same-
 use Rattle.plan_laws.specs.GroupLaws.{allAddresses, allChannels}
 use Rattle.plan_laws.specs.SourceLaws.{ownAddresses, own-within, group-unique, channel-group, channel-once, channel-no-group}
 use Rattle.plan_laws.specs.DecideLaws.{none≢some, some-same, master-known, Timed, time-known, time-own, time-same, time≢untimed, time≢differs, decide-kept, decide-reason, kept-due, master-unsigned, signal-few}
-use Rattle.plan_laws.specs.ColumnLaws.{timesAt, timesOf, signalsOf, column-more, omission-more, signals-more, times-at-signal, times-signal, times-at-here, times-at-other, times-timed, times-in, times-none, times-within, time-found, time-missing, named-later, GivenDue, given-due, given-later}
+use Rattle.plan_laws.specs.MasterLaws.{time-differs, names}
+use Rattle.plan_laws.specs.ColumnLaws.{timesAt, timesOf, signalsOf, column-more, omission-more, signals-more, times-at-signal, times-signal, times-at-here, times-at-other, times-timed, times-in, times-none, times-within, time-found, time-missing, TimeDue, NamesTime, named-later, GivenDue, given-due, given-later}
 
 -- ---- what is known of one column
 
@@ -48,7 +49,7 @@ made-kinded s c false h = h
 pub record Planned (s : List ℕ) (all : List SrcGroup) (n : ℕ) (p : Plan) : Type 0 where
   pub sourced : (c : Column) → In c (p .columns) → Sourced s all c
   pub omitted : (o : Omission) → In o (p .omissions) → OmissionDue s all o
-  pub named : (c : Column) → In c (p .columns) → NamesMaster s all (p .columns) c (c .isTime)
+  pub named : (c : Column) → In c (p .columns) → NamesTime s all (p .columns) c (c .isTime)
   pub timesOnce : (a : ℕ) → timesAt a (p .columns) ≤ 1
   pub signals : n + signalsOf (p .columns) ≡ p .fragments
   pub few : p .fragments ≤ 1024
@@ -68,7 +69,7 @@ module _ (s : List ℕ) (all : List SrcGroup) (n : ℕ) where
       each u (inr i) = subst (OmissionDue s all) (sym (in-one i)) k
 
   -- one column more
-  column-planned : (p : Plan) (c : Column) → Planned s all n p → Sourced s all c → NamesMaster s all (p .columns ++ (c ∷ [])) c (c .isTime)
+  column-planned : (p : Plan) (c : Column) → Planned s all n p → Sourced s all c → NamesTime s all (p .columns ++ (c ∷ [])) c (c .isTime)
       → ((a : ℕ) → timesAt a (p .columns ++ (c ∷ [])) ≤ 1) → p .fragments + sizeOfSignal (c .signalOf) ≤ 1024
       → Planned s all n (withColumn c (sizeOfSignal (c .signalOf)) p)
   column-planned p c h k m t f =
@@ -85,9 +86,9 @@ module _ (s : List ℕ) (all : List SrcGroup) (n : ℕ) where
       source d (inl i) = h .sourced d i
       source d (inr i) = subst (Sourced s all) (sym (in-one i)) k
 
-      name : (d : Column) → In d (p .columns) ⊎ In d (c ∷ []) → NamesMaster s all (p .columns ++ (c ∷ [])) d (d .isTime)
+      name : (d : Column) → In d (p .columns) ⊎ In d (c ∷ []) → NamesTime s all (p .columns ++ (c ∷ [])) d (d .isTime)
       name d (inl i) = named-later s all (p .columns) (c ∷ []) d (d .isTime) (h .named d i)
-      name d (inr i) = subst (λ (e : Column). NamesMaster s all (p .columns ++ (c ∷ [])) e (e .isTime)) (sym (in-one i)) m
+      name d (inr i) = subst (λ (e : Column). NamesTime s all (p .columns ++ (c ∷ [])) e (e .isTime)) (sym (in-one i)) m
 
 -- ---- the channels of a group
 
@@ -329,7 +330,7 @@ module _ (s : List ℕ) (all : List SrcGroup) (n : ℕ) (once : (x : ℕ) → oc
           own = λ k b. absurd (time≢untimed (sym o ∙ time-own s all g k b));
         }
     timed-done p q differs o h e =
-        let r = channels-done s all n g none gin stored (g .channels) (withOmission (g .at) 1 p) q (omitted-planned s all n p (record { at = g .at; reason = 1 }) h (OmissionDue.ofGroup g gin stored refl refl o)) (rw o refl) (λ c i. i) e in
+        let r = channels-done s all n g none gin stored (g .channels) (withOmission (g .at) 1 p) q (omitted-planned s all n p (record { at = g .at; reason = 1 }) h (OmissionDue.ofGroup g gin stored refl refl (time-differs s all g stored o))) (rw o refl) (λ c i. i) e in
         record {
           planned = r .planned;
           totals = λ x y. omega (arith, r .totals x, r .times x, due-stored s g x stored, omitted-total x (g .at) 1 p y);
@@ -543,9 +544,9 @@ module _ (s : List ℕ) (all : List SrcGroup) (n : ℕ) (p : Plan) (once : (x : 
   pub plan-fits : (c : Column) → In c (p .columns) → fits s (c .group .at) (c .channel) ≡ true
   plan-fits c i = plan-known .sourced c i .fitting
 
-  -- masters as planning gave them
+  -- masters as document 01 gives them
   pub plan-masters : (c : Column) → In c (p .columns) → NamesMaster s all (p .columns) c (c .isTime)
-  plan-masters = plan-known .named
+  plan-masters c i = names s all once (p .columns) c (plan-known .sourced c i .groupIn) (plan-known .sourced c i .stored) (c .isTime) (plan-known .named c i)
 
   -- no more columns than channels
   pub plan-few : length (p .columns) ≤ length (allChannels all)

@@ -1,4 +1,4 @@
--- The archive's guarantee (demand 3, in the words of document 01, e): what holds of the final bytes of every accepted result.
+-- The archive's guarantee (demand 3, in the words of document 01, e): what holds of the final bytes and the final list of every accepted result.
 use Prim.Native.Nat.{ℕ, zero, suc, _+_, _*_, _≤_, _<_}
 use mathlib.Core.List.{List, [], _∷_}
 use mathlib.Core.Bool.{Bool, true, false}
@@ -11,13 +11,13 @@ use Rattle.base.specs.Checked.{ok}
 use Rattle.mdf.specs.Block.{linkAt}
 use Rattle.mdf.specs.Group.{DataGroup, isStorage}
 use Rattle.mdf.specs.Walk.{Source, walk}
-use Rattle.plan.specs.Columns.{SrcGroup, Column, Omission, TimeOf, time, untimed, differs, timeOf, omissionAddresses}
+use Rattle.plan.specs.Columns.{SrcGroup, Column, Omission, omissionAddresses}
 use Rattle.plan.specs.Data.{isNonempty}
 use Rattle.plan.specs.Copies.{isCopied}
 use Rattle.plan.specs.Layout.{Placed}
 pub use Rattle.result.specs.Member.{In, here, there}
-use Rattle.result.specs.Recording.{Recorded, Met, Framed, IsMaster, reasonFor, OmissionDue, Among, filePlaces, SignalDue, Followed, isAT, attachedFrom}
-use Rattle.result.specs.Payload.{recordsOf}
+use Rattle.result.specs.Recording.{Recorded, Met, Framed, Sorted, IsMaster, Uses, Differs, reasonFor, OmissionDue, Among, filePlaces, signalChannels, SignalDue, signalSize, Followed, isAT, attachedFrom}
+use Rattle.result.specs.Payload.{recordsOf, signalBytes}
 use Rattle.result.specs.Fill.{Block}
 use Rattle.result.specs.Result.{Args, Decided, blocksOf}
 use Rattle.result.specs.Links.{shown}
@@ -64,16 +64,15 @@ pub record IsTime (cs : List Column) (k : ℕ) (t : SrcGroup) (m n : ℕ) (d : C
   pub ofChannel : d .channel ≡ m
   pub asMany : d .group .records ≡ n
 
--- "a signal column names a master exactly when planning gave a time column for the master its group has or uses, that one, with as many records"
-abbrev pub MasterDue : List Column → Column → TimeOf → Type 0
-MasterDue cs c (time t m) = (k : ℕ) × (d : Column) × (c .master ≡ some k) × IsTime cs k t m (c .group .records) d
-MasterDue cs c untimed = c .master ≡ none
-MasterDue cs c differs = c .master ≡ none
+-- a signal column names the time column of the master that its group has or uses, with as many records; without such a master it names none
+pub record MasterDue (s : List ℕ) (gs : List SrcGroup) (cs : List Column) (c : Column) : Type 0 where
+  pub names : (t : SrcGroup) (m : ℕ) → Uses s gs (c .group) t m → (k : ℕ) × (d : Column) × (c .master ≡ some k) × IsTime cs k t m (c .group .records) d
+  pub only : (k : ℕ) → c .master ≡ some k → (t : SrcGroup) × (m : ℕ) × Uses s gs (c .group) t m
 
 -- "a time column names none"
 abbrev pub NamesMaster : List ℕ → List SrcGroup → List Column → Column → Bool → Type 0
-NamesMaster s all cs c true = c .master ≡ none
-NamesMaster s all cs c false = MasterDue cs c (timeOf s all (c .group))
+NamesMaster s gs cs c true = c .master ≡ none
+NamesMaster s gs cs c false = MasterDue s gs cs c
 
 -- a time column is its group's master; any other column is of a channel that nothing omits
 abbrev pub Kinded : List ℕ → Column → Bool → Type 0
@@ -109,12 +108,10 @@ pub record Guaranteed (x : Args) (d : Decided) (f l : List ℕ) : Type 0 where
   -- every block is written as planned, and no two share a byte
   pub filled : (b : Block) → In b (blocksOf x (d .laidOut)) → Stands f (b .at) (b .bytes)
   pub apart : AllApart (blocksOf x (d .laidOut))
-
   -- ---- the recording: "groups in file order", "A group's channels are the CN of its own chain"
   -- its groups, their channels and their fragments are what links list from its header on; they are what the walk met
   pub recording : (ds : List DataGroup) × Recorded (x .image) ds (d .groups)
   pub met : (st : Source) → walk (x .image) ≡ ok st → Met st (d .groups)
-
   -- ---- "every channel became one column or one omission"
   -- every channel of every group that is not VLSD storage is one column or one omission, and nothing else is a column
   pub once : (g : SrcGroup) → In g (d .groups) → isStorage (x .image) (g .at) ≡ false → (c : ℕ) → In c (g .channels)
@@ -125,24 +122,26 @@ pub record Guaranteed (x : Args) (d : Decided) (f l : List ℕ) : Type 0 where
   pub kinded : (c : Column) → In c (d .planned .columns) → Kinded (x .image) c (c .isTime)
   -- an omission is of a channel for its reason, or of a group's CG with reason 1, which each group has whose remote master has another count
   pub omitted : (o : Omission) → In o (d .planned .omissions) → OmissionDue (x .image) (d .groups) o
-  pub differing : (g : SrcGroup) → In g (d .groups) → isStorage (x .image) (g .at) ≡ false → timeOf (x .image) (d .groups) g ≡ differs
+  pub differing : (g : SrcGroup) → In g (d .groups) → isStorage (x .image) (g .at) ≡ false → Differs (x .image) (d .groups) g
       → In (record { at = g .at; reason = 1 }) (d .planned .omissions)
-  -- the lent list has the omissions at its front, in file order
-  pub inOrder : Among (omissionAddresses (d .planned .omissions)) (filePlaces (d .groups))
+  -- signal columns and omissions are each in file order; the lent list has the omissions at its front
+  pub columnsInOrder : Among (signalChannels (d .planned .columns)) (filePlaces (d .groups))
+  pub omissionsInOrder : Among (omissionAddresses (d .planned .omissions)) (filePlaces (d .groups))
   pub listed : Listed l (d .planned .omissions)
-
   -- ---- "payloads and signal data equal their source": `shows`, with
   -- the records of a group with a nonempty column are as many as its count
   pub counted : (c : Column) → In c (d .planned .columns) → isNonempty (x .image) c ≡ true
       → length (recordsOf (x .image) (c .group)) ≡ c .group .records
-  -- those of a group that shares its DG are its own among all that the DG's data holds to its end
+  -- those of a sorted group are all that its DG's data holds
+  pub sorted : (c : Column) → In c (d .planned .columns) → isNonempty (x .image) c ≡ true → length (c .group .dataGroup .groups) ≡ 1
+      → Sorted (x .image) (c .group)
+  -- those of a group that shares its DG are its own among all that the DG's data holds
   pub framed : (g : SrcGroup) → In g (d .groups) → 1 < length (g .dataGroup .groups) → Framed (x .image) g
-  -- signal data is that of a type 1 channel's SD chain
-  pub signals : (c : Column) → In c (d .planned .columns) → SignalDue (x .image) (c .channel) (c .signalOf)
-
+  -- signal data is that of a type 1 channel's SD chain, and lacks no byte
+  pub signals : (c : Column) → In c (d .planned .columns)
+      → SignalDue (x .image) (c .channel) (c .signalOf) × (length (signalBytes (x .image) (c .signalOf)) ≡ signalSize (c .signalOf))
   -- ---- "masters are named as planned"
   pub masters : (c : Column) → In c (d .planned .columns) → NamesMaster (x .image) (d .groups) (d .planned .columns) c (c .isTime)
-
   -- ---- the chains of history and attachments are followed to their end
   pub history : Followed (x .image) isCopied (linkAt (x .image) 64 1) (d .laidOut .past .chain)
   pub attachments : Followed (x .image) isAT (linkAt (x .image) 64 3) (attachedFrom (d .laidOut .attached .attachments))

@@ -6,16 +6,16 @@ use mathlib.Core.Option.{Option, none, some}
 use mathlib.Core.Logic.{_⊎_}
 use mathlib.Core.Path.{_≡_}
 use lib.Dec.{eqb}
-use lib.ListN.{length, getD}
+use lib.ListN.{length, getD, replicate}
 use Rattle.base.specs.Choice.{pick, ifEq}
 use Rattle.base.specs.Field.{leAt}
 use Rattle.mdf.specs.Block.{kindCG, kindCN, kindAt, linkAt, firstLink}
-use Rattle.mdf.specs.Chain.{Chain.records, Chain.signal, found, limits, chain}
+use Rattle.mdf.specs.Chain.{Kind, Fragment, Chain.records, Chain.signal, found, limits, chain}
 use Rattle.mdf.specs.Group.{Group, DataGroup, addresses, recordId, samples, invalBytes, isStorage}
-use Rattle.mdf.specs.Records.{joined, sizeOf, Frame, unsortedRecords}
+use Rattle.mdf.specs.Records.{joined, idBytes, sizeOf, Frame, unsortedRecords}
 use Rattle.mdf.specs.Walk.{cg, cn, Source, idSize}
 use Rattle.plan.specs.Channel.{channelType, fits, isMasterType, both}
-use Rattle.plan.specs.Columns.{kindCA, SrcGroup, differs, timeOf, Signal, unsigned, signalData, Omission}
+use Rattle.plan.specs.Columns.{kindCA, SrcGroup, remoteLink, Signal, unsigned, signalData, Column, Omission}
 use Rattle.plan.specs.Copies.{kindAT, Attachment}
 use Rattle.result.specs.Member.{In}
 use Rattle.result.specs.Payload.{recordsOf}
@@ -36,6 +36,7 @@ pub record Linked (s : List ℕ) (d : DataGroup) : Type 0 where
   pub channels : (g : Group) → In g (d .groups) → Chained s (linkAt s (g .at) 1) (g .channels)
   pub fragments : (n : ℕ) × (chain records limits s n (linkAt s (d .at) 2) ≡ found (d .fragments))
 
+-- the DG
 unfoldable pub dataGroupPlaces : List DataGroup → List ℕ
 dataGroupPlaces [] = []
 dataGroupPlaces (d ∷ ds) = d .at ∷ dataGroupPlaces ds
@@ -45,6 +46,7 @@ unfoldable pub groupPlaces : List DataGroup → List ℕ
 groupPlaces [] = []
 groupPlaces (d ∷ ds) = addresses (d .groups) ++ groupPlaces ds
 
+-- the groups, counted
 unfoldable pub countedPlaces : List SrcGroup → List ℕ
 countedPlaces [] = []
 countedPlaces (g ∷ gs) = g .at ∷ countedPlaces gs
@@ -55,7 +57,7 @@ groupNumber k [] = none
 groupNumber zero (g ∷ gs) = some g
 groupNumber (suc k) (g ∷ gs) = groupNumber k gs
 
--- the recording's DG are ds, the chain at HD link 1; the groups gs are theirs, all of them, in file order, each with its DG, its number in it and its channels
+-- the recording's DG are ds, the chain at HD link 1; the groups gs are all of theirs, in file order, each with its DG, its number in it and its channels
 pub record Recorded (s : List ℕ) (ds : List DataGroup) (gs : List SrcGroup) : Type 0 where
   pub dataGroups : Chained s (linkAt s 64 0) (dataGroupPlaces ds)
   pub linked : (d : DataGroup) → In d ds → Linked s d
@@ -96,6 +98,31 @@ pub record Framed (s : List ℕ) (g : SrcGroup) : Type 0 where
   pub own : recordsOf s g ≡ unsortedRecords (g .number) frames
   pub many : length (recordsOf s g) ≡ g .records
 
+-- the kind of each byte of the joined data
+unfoldable pub kindsOf : List Fragment → List Kind
+kindsOf [] = []
+kindsOf (f ∷ fs) = replicate (f .size) (f .kind) ++ kindsOf fs
+
+-- the record r of a sorted group, the only CG in its DG: the data d with the kinds ks is an id, "a sorted group's DV has none", r and the rest; id and
+-- record are of one kind
+pub record IsSorted (s : List ℕ) (dg g : ℕ) (r d rest : List ℕ) (ks later : List Kind) : Type 0 where
+  pub kind : Kind
+  pub id : List ℕ
+  pub parts : d ≡ id ++ (r ++ rest)
+  pub ofKind : ks ≡ replicate (length id + length r) kind ++ later
+  pub idLength : length id ≡ idBytes s dg kind
+  pub long : length r ≡ samples s g + invalBytes s g
+
+-- the records are all of the data, in order
+unfoldable pub FillSorted : List ℕ → ℕ → ℕ → List (List ℕ) → List ℕ → List Kind → Type 0
+FillSorted s dg g [] d ks = d ≡ []
+FillSorted s dg g (r ∷ rs) d ks = (rest : List ℕ) × (later : List Kind) × IsSorted s dg g r d rest ks later × FillSorted s dg g rs rest later
+
+-- the records of a sorted group are all that the DG's joined fragments hold; no fragment lacks a byte
+pub record Sorted (s : List ℕ) (g : SrcGroup) : Type 0 where
+  pub fill : FillSorted s (g .dataGroup .at) (g .at) (recordsOf s g) (joined s (g .dataGroup .fragments)) (kindsOf (g .dataGroup .fragments))
+  pub whole : length (joined s (g .dataGroup .fragments)) ≡ sizeOf (g .dataGroup .fragments)
+
 -- ---- channels
 
 -- "A group's master is its first fitting channel of type 2 or 3": m among the channels of the group with its CG at g
@@ -106,6 +133,27 @@ pub record IsMaster (s : List ℕ) (g : ℕ) (channels : List ℕ) (m : ℕ) : T
   pub typed : isMasterType s m ≡ true
   pub fitting : fits s g m ≡ true
   pub first : (c : ℕ) → In c before → both (isMasterType s c) (fits s g c) ≡ false
+
+-- the group has no such channel
+abbrev pub NoMaster : List ℕ → SrcGroup → Type 0
+NoMaster s g = (c : ℕ) → In c (g .channels) → both (isMasterType s c) (fits s (g .at) c) ≡ false
+
+-- the group g has no master, and t, "the group at its remote link (flag bit 3, seventh link)", has the master m; VLSD storage groups have none
+pub record Remote (s : List ℕ) (gs : List SrcGroup) (g t : SrcGroup) (m : ℕ) : Type 0 where
+  pub without : NoMaster s g
+  pub isIn : In t gs
+  pub linked : t .at ≡ remoteLink s (g .at)
+  pub stored : isStorage s (t .at) ≡ false
+  pub master : IsMaster s (t .at) (t .channels) m
+
+-- the master that the group g has or uses is m, of the group t: "Without one, the group uses the master of the group at its remote link .. if both
+-- counts agree"
+abbrev pub Uses : List ℕ → List SrcGroup → SrcGroup → SrcGroup → ℕ → Type 0
+Uses s gs g t m = ((g ≡ t) × IsMaster s (t .at) (t .channels) m) ⊎ (Remote s gs g t m × (t .records ≡ g .records))
+
+-- "1 remote master with another count"
+abbrev pub Differs : List ℕ → List SrcGroup → SrcGroup → Type 0
+Differs s gs g = (t : SrcGroup) × (m : ℕ) × Remote s gs g t m × (t .records ≡ g .records → ⊥)
 
 -- a link leads to a block of that kind
 unfoldable pub leadsTo : List ℕ → ℕ → ℕ → Bool
@@ -127,7 +175,7 @@ reasonFor s g c =
 pub data OmissionDue (s : List ℕ) (gs : List SrcGroup) (o : Omission) : Type 0 where
   ofChannel : (g : SrcGroup) → In g gs → isStorage s (g .at) ≡ false → In (o .at) (g .channels) → o .reason ≡ reasonFor s (g .at) (o .at)
       → (o .reason ≡ 0 → ⊥) → OmissionDue s gs o
-  ofGroup : (g : SrcGroup) → In g gs → isStorage s (g .at) ≡ false → o .at ≡ g .at → o .reason ≡ 1 → timeOf s gs g ≡ differs → OmissionDue s gs o
+  ofGroup : (g : SrcGroup) → In g gs → isStorage s (g .at) ≡ false → o .at ≡ g .at → o .reason ≡ 1 → Differs s gs g → OmissionDue s gs o
 
 -- the list is the other with some left out
 pub data Among : List ℕ → List ℕ → Type 0 where
@@ -140,11 +188,20 @@ unfoldable pub filePlaces : List SrcGroup → List ℕ
 filePlaces [] = []
 filePlaces (g ∷ gs) = (g .at ∷ g .channels) ++ filePlaces gs
 
+-- the channels of the columns that are no time columns
+unfoldable pub signalChannels : List Column → List ℕ
+signalChannels [] = []
+signalChannels (c ∷ cs) = pick (c .isTime) [] (c .channel ∷ []) ++ signalChannels cs
+
 -- the signal data of channel c: "source is the joined data of a type 1 channel's SD chain, else nothing", "Any other nonzero link 6 of type 1 is an
 -- SD chain"; n fragments were found before the chain
 abbrev pub SignalDue : List ℕ → ℕ → Signal → Type 0
 SignalDue s c unsigned = channelType s c ≡ 1 → linkAt s c 5 ≡ 0
 SignalDue s c (signalData fs) = (channelType s c ≡ 1) × (n : ℕ) × (chain signal limits s n (linkAt s c 5) ≡ found fs)
+
+abbrev pub signalSize : Signal → ℕ
+signalSize unsigned = 0
+signalSize (signalData fs) = sizeOf fs
 
 -- ---- the history and the attachments
 

@@ -46,7 +46,7 @@ pub extern "C" fn sitaungo_convert(
         (four (now (source .entry)) (now (fragments .entry)) (now (columns .entry)) (now (copies .entry))) ⌝ }
     ensures promised { λ _. ⌜ Promised (args (now (image .entry)) size (now (ident .entry)) (now (text .entry)) time)
         (length (now (out .entry))) (length (now (list .entry)))
-        (four (now (source .entry)) (now (fragments .entry)) (now (columns .entry)) (now (copies .entry))) (now (out .exit)) ⌝ }
+        (four (now (source .entry)) (now (fragments .entry)) (now (columns .entry)) (now (copies .entry))) (now (out .exit)) (now (list .exit)) ⌝ }
 {
     let answer = convert(
         image,

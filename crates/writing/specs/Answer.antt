@@ -42,6 +42,6 @@ fileFor x (refused number place) = []
 pub record Bytes (s : List ℕ) : Type 0 where
   pub all : AllBytes s
 
--- Demand 3 of the output's last bytes, for whatever was accepted
-pub record Promised (x : Args) (out list : ℕ) (work : List (List ℕ)) (last : List ℕ) : Type 0 where
-  pub accepted : (d : Decided) → andThen (workIn work) (λ _. answer x out list) ≡ ok d → Guaranteed x d last
+-- Demand 3 of the output's and the list's last values, for whatever was accepted
+pub record Promised (x : Args) (out list : ℕ) (work : List (List ℕ)) (bytes words : List ℕ) : Type 0 where
+  pub accepted : (d : Decided) → andThen (workIn work) (λ _. answer x out list) ≡ ok d → Guaranteed x d bytes words

@@ -260,13 +260,14 @@ module _ {y : Args} {i f k o : ℕ} {n : Numbers} {a b c d a' b' c' d' : List �
 
 -- ---- demand 3
 pub promised-by : (x : Args) (out list : List ℕ) (ws : List (List ℕ)) {y : Outcome} → Bytes (x .image)
-    → y ≡ convert x out list ws → Promised x (length out) (length list) ws (y .output)
+    → y ≡ convert x out list ws → Promised x (length out) (length list) ws (y .output) (y .list)
 unfolding convert
 promised-by x out list ws {y} b e = record {
   accepted = λ d a.
       let f : y .output ≡ blit 0 (fileOf x (d .laidOut)) out = ap (λ (o : Outcome). o .output) e ∙ rw a in
+      let w : y .list ≡ blit 0 (omissionWords (d .planned .omissions)) list = ap (λ (o : Outcome). o .list) e ∙ rw a in
       let g = then-fine (workIn ws) _ a in
-      rw f (guaranteed x out list d (b .all) (g .1));
+      rw (f, w) (guaranteed x out list d (b .all) (g .1));
 }
 
 -- an empty image has no other elements

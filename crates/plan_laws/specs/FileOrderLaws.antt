@@ -1,17 +1,20 @@
--- Omissions stand in file order, and each group whose remote master has another count has one.
-use Prim.Native.Nat.{ℕ}
+-- Signal columns and omissions stand in file order, and each group whose remote master has another count has an omission.
+use Prim.Native.Nat.{ℕ, _≤_}
 use mathlib.Core.List.{List, [], _∷_, _++_, append-nil, append-assoc}
-use mathlib.Core.Bool.{false}
+use mathlib.Core.Bool.{true, false}
 use mathlib.Core.Option.{Option, none, some}
 use mathlib.Core.Path.{_≡_, refl, sym, ap, _∙_, subst}
 use native.Mathlib.Omega.{arith}
+use Rattle.base.specs.Choice.{pick}
 use Rattle.base.specs.Checked.{ok}
 use Rattle.mdf.specs.Group.{isStorage}
-use Rattle.plan.specs.Columns.{SrcGroup, masterOf, TimeOf, time, untimed, differs, timeOf, Column, Omission, Plan, withOmission, timeColumn, onPlanned, withColumn, withTime, Decision, omitted, kept, decide, decided, planChannels, ownMaster, planTimed, planGroup, planGroups, plan, omissionAddresses}
+use Rattle.plan.specs.Columns.{SrcGroup, masterOf, TimeOf, time, untimed, differs, timeOf, Column, Omission, Plan, withOmission, timeColumn, onPlanned, withColumn, withTime, Decision, omitted, kept, decide, sizeOfSignal, decided, planChannels, ownMaster, planTimed, planGroup, planGroups, plan, omissionAddresses}
 use Rattle.result.specs.Member.{In, here, there}
-use Rattle.result.specs.Recording.{Among, filePlaces}
+use Rattle.result.specs.Recording.{Differs, Among, filePlaces, signalChannels}
 use Rattle.plan_laws.specs.Answers.{ok-same, true≢false, with-ok, eq-cases, pick-cases}
-use Rattle.plan_laws.specs.Lists.{in-left, in-right, in-none}
+use Rattle.plan_laws.specs.Lists.{in-left, in-right, in-none, occurs}
+use Rattle.plan_laws.specs.GroupLaws.{allAddresses}
+use Rattle.plan_laws.specs.MasterLaws.{differs-time}
 use Rattle.plan_laws.specs.DecideLaws.{time≢differs}
 
 -- ---- lists with some left out
@@ -29,16 +32,33 @@ unfolding omissionAddresses
 addresses-append [] us = refl
 addresses-append (o ∷ os) us = ap (λ (l : List ℕ). o .at ∷ l) (addresses-append os us)
 
--- ---- from plan p to plan q: omissions more, whose addresses are among l in order
+channels-append : (cs ds : List Column) → signalChannels (cs ++ ds) ≡ signalChannels cs ++ signalChannels ds
+unfolding signalChannels
+channels-append [] ds = refl
+channels-append (c ∷ cs) ds =
+    ap (λ (l : List ℕ). pick (c .isTime) [] (c .channel ∷ []) ++ l) (channels-append cs ds)
+    ∙ sym (append-assoc (pick (c .isTime) [] (c .channel ∷ [])) (signalChannels cs) (signalChannels ds))
+
+-- ---- from plan p to plan q: omissions more, whose addresses are among l in order, and signal columns likewise
 record More (p q : Plan) (l : List ℕ) : Type 0 where
   more : List Omission
   is : q .omissions ≡ p .omissions ++ more
   among : Among (omissionAddresses more) l
+  channels : List ℕ
+  signals : signalChannels (q .columns) ≡ signalChannels (p .columns) ++ channels
+  among-channels : Among channels l
 
 no-more : (p q : Plan) (l : List ℕ) → p ≡ q → More p q l
 unfolding omissionAddresses
 no-more p q l e =
-    record { more = []; is = ap (λ (r : Plan). r .omissions) (sym e) ∙ sym (append-nil (p .omissions)); among = nothing-among l }
+    record {
+      more = [];
+      is = ap (λ (r : Plan). r .omissions) (sym e) ∙ sym (append-nil (p .omissions));
+      among = nothing-among l;
+      channels = [];
+      signals = ap (λ (r : Plan). signalChannels (r .columns)) (sym e) ∙ sym (append-nil (signalChannels (p .columns)));
+      among-channels = nothing-among l;
+    }
 
 -- one omission, then those of the rest
 omitted-more : (p q : Plan) (a r : ℕ) (l : List ℕ) → More (withOmission a r p) q l → More p q (a ∷ l)
@@ -48,14 +68,39 @@ omitted-more p q a r l m =
       more = record { at = a; reason = r } ∷ m .more;
       is = m .is ∙ append-assoc (p .omissions) (record { at = a; reason = r } ∷ []) (m .more);
       among = Among.next (m .among);
+      channels = m .channels;
+      signals = m .signals;
+      among-channels = Among.left (m .among-channels);
+    }
+
+-- one signal column, then those of the rest
+kept-more : (p q : Plan) (c : Column) (n : ℕ) (l : List ℕ) → c .isTime ≡ false → More (withColumn c n p) q l → More p q (c .channel ∷ l)
+unfolding signalChannels
+kept-more p q c n l f m =
+    let e : signalChannels (p .columns ++ (c ∷ [])) ≡ signalChannels (p .columns) ++ (c .channel ∷ []) = channels-append (p .columns) (c ∷ []) ∙ rw f in
+    record {
+      more = m .more;
+      is = m .is;
+      among = Among.left (m .among);
+      channels = c .channel ∷ m .channels;
+      signals = m .signals ∙ ap (λ (x : List ℕ). x ++ m .channels) e ∙ append-assoc (signalChannels (p .columns)) (c .channel ∷ []) (m .channels);
+      among-channels = Among.next (m .among-channels);
     }
 
 left-more : {p q : Plan} {l : List ℕ} (a : ℕ) → More p q l → More p q (a ∷ l)
-left-more a m = record { more = m .more; is = m .is; among = Among.left (m .among) }
+left-more a m =
+    record {
+      more = m .more;
+      is = m .is;
+      among = Among.left (m .among);
+      channels = m .channels;
+      signals = m .signals;
+      among-channels = Among.left (m .among-channels);
+    }
 
 decided-more : (g : SrcGroup) (m : Option ℕ) (c : ℕ) (p q : Plan) (d : Decision) (l : List ℕ) → More (decided g m c p d) q l → More p q (c ∷ l)
 decided-more g m c p q (omitted r) l h = omitted-more p q c r l h
-decided-more g m c p q (kept d) l h = left-more c (record { more = h .more; is = h .is; among = h .among })
+decided-more g m c p q (kept d) l h = kept-more p q _ (sizeOfSignal d) l refl h
 
 channels-more : (s : List ℕ) (g : SrcGroup) (own : ℕ) (m : Option ℕ) (cs : List ℕ) (p q : Plan) → planChannels s g own m cs p ≡ ok q → More p q cs
 unfolding planChannels
@@ -68,6 +113,11 @@ channels-more s g own m (c ∷ cs) p q e =
 time-omissions : (o : Option ℕ) (c : Column) (p : Plan) → onPlanned o (withColumn c 0 p) p .omissions ≡ p .omissions
 time-omissions none c p = refl
 time-omissions (some k) c p = refl
+
+time-channels : (o : Option ℕ) (c : Column) (p : Plan) → c .isTime ≡ true → signalChannels (onPlanned o (withColumn c 0 p) p .columns) ≡ signalChannels (p .columns)
+unfolding signalChannels
+time-channels none c p e = channels-append (p .columns) (c ∷ []) ∙ rw e (append-nil (signalChannels (p .columns)))
+time-channels (some k) c p e = refl
 
 -- of a group; its own omission comes first
 record GroupMore (s : List ℕ) (all : List SrcGroup) (g : SrcGroup) (p q : Plan) : Type 0 where
@@ -86,6 +136,9 @@ timed-more s all g p q (time t m) o e =
         more = r .more;
         is = r .is ∙ ap (λ (l : List Omission). l ++ r .more) (time-omissions (timeColumn (t .at) 0 (p .columns)) _ p);
         among = r .among;
+        channels = r .channels;
+        signals = r .signals ∙ ap (λ (l : List ℕ). l ++ r .channels) (time-channels (timeColumn (t .at) 0 (p .columns)) _ p refl);
+        among-channels = r .among-channels;
       });
       differing = λ _ d. absurd (time≢differs (sym d ∙ o));
     }
@@ -118,6 +171,10 @@ groups-more s all (g ∷ gs) p q e =
         more = h .given .more ++ k .given .more;
         is = k .given .is ∙ ap (λ (l : List Omission). l ++ k .given .more) (h .given .is) ∙ append-assoc (p .omissions) (h .given .more) (k .given .more);
         among = subst (λ (l : List ℕ). Among l (filePlaces (g ∷ gs))) (sym (addresses-append (h .given .more) (k .given .more))) (among-append (h .given .among) (k .given .among));
+        channels = h .given .channels ++ k .given .channels;
+        signals = k .given .signals ∙ ap (λ (l : List ℕ). l ++ k .given .channels) (h .given .signals)
+            ∙ append-assoc (signalChannels (p .columns)) (h .given .channels) (k .given .channels);
+        among-channels = among-append (h .given .among-channels) (k .given .among-channels);
       };
       differing = each h k;
     })
@@ -128,10 +185,17 @@ groups-more s all (g ∷ gs) p q e =
     each h k j (there i) f d = k .differing j i f d
 
 -- the whole plan
-pub plan-omissions : (s : List ℕ) (n : ℕ) (all : List SrcGroup) (p : Plan) → plan s n all ≡ ok p
-    → Among (omissionAddresses (p .omissions)) (filePlaces all)
-    × ((g : SrcGroup) → In g all → isStorage s (g .at) ≡ false → timeOf s all g ≡ differs → In (record { at = g .at; reason = 1 }) (p .omissions))
-unfolding plan
-plan-omissions s n all p e =
+pub record InOrder (s : List ℕ) (all : List SrcGroup) (p : Plan) : Type 0 where
+  pub columns : Among (signalChannels (p .columns)) (filePlaces all)
+  pub omissions : Among (omissionAddresses (p .omissions)) (filePlaces all)
+  pub differing : (g : SrcGroup) → In g all → isStorage s (g .at) ≡ false → Differs s all g → In (record { at = g .at; reason = 1 }) (p .omissions)
+
+pub plan-in-order : (s : List ℕ) (n : ℕ) (all : List SrcGroup) (p : Plan) → ((x : ℕ) → occurs x (allAddresses all) ≤ 1) → plan s n all ≡ ok p → InOrder s all p
+unfolding plan signalChannels
+plan-in-order s n all p once e =
     let r = groups-more s all all _ p e in
-    (subst (λ (l : List Omission). Among (omissionAddresses l) (filePlaces all)) (sym (r .given .is)) (r .given .among), r .differing)
+    record {
+      columns = subst (λ (l : List ℕ). Among l (filePlaces all)) (sym (r .given .signals)) (r .given .among-channels);
+      omissions = subst (λ (l : List Omission). Among (omissionAddresses l) (filePlaces all)) (sym (r .given .is)) (r .given .among);
+      differing = λ g i f d. r .differing g i f (differs-time s all once g f d);
+    }
