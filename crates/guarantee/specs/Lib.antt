@@ -1,3 +1,6 @@
 pub mod Places
+pub mod Named
+pub mod Front
+pub mod Copied
 pub mod Theorem
 pub mod Untouched
