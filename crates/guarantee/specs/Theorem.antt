@@ -24,7 +24,7 @@ use Rattle.result.specs.Recording.{Met, signalSize}
 use Rattle.result.specs.Guarantee.{In, Guaranteed}
 use Rattle.copies_laws.specs.LengthLaws.{InImage}
 use Rattle.copies_laws.specs.CopyLaws.{root-grown}
-use Rattle.copies_laws.specs.LayoutLaws.{LaidOut, laid-out, columns-placed, columns-within, metadataEnd-near, columns-ordered, blocks-ordered}
+use Rattle.copies_laws.specs.LayoutLaws.{LaidOut, laid-out, columns-placed, columns-within, metadataEnd-near, file-near, columns-ordered, blocks-ordered}
 use Rattle.copies_laws.specs.OrderLaws.{ordered-ends}
 use Rattle.payload_laws.specs.CountLaws.{member, group-framed, column-sorted, counted}
 use Rattle.payload_laws.specs.ColumnLaws.{Ready, ready, column-joined, column-bytes, column-even}
@@ -38,7 +38,9 @@ use Rattle.shown_laws.specs.ColumnShown.{ColumnSound}
 use Rattle.shown_laws.specs.Final.{file-apart, file-filled, file-shows}
 use Rattle.guarantee.specs.List.{listed}
 use Rattle.guarantee.specs.Ends.{history-followed, attachments-followed}
-use Rattle.guarantee.specs.Places.{equal-even, flatten-together, data-inside, fragments-few, signal-small, Sized, DataWithin, data-within, in-column}
+use Rattle.guarantee.specs.Places.{equal-even, flatten-together, data-inside, fragments-few, signal-small, Sized, DataWithin, data-within, data-ends, in-column}
+use Rattle.guarantee.specs.Copied.{comment-due, names-due}
+use Rattle.guarantee.specs.Front.{front-due}
 
 -- the elements of an image are bytes
 abbrev pub AllBytes : List ℕ → Type 0
@@ -138,6 +140,18 @@ module _ (x : Args) (d : Decided) (k : Known x d) where
           sdEnds = omega (arith, t .sdBelow, metadata-small, k .fewColumns, signal-small (x .image) (c .signalOf) (z .signals) (k .steps .imageLength) (z .fewSignals));
         }
 
+  -- ---- every address is below 2 ^ 64
+  pub file-below : d .laidOut .fileSize < 256 ^ 8
+  file-below =
+      omega (
+        arith,
+        file-near o,
+        data-ends (x .image) (x .blockSize) (d .laidOut .metadataEnd) (d .planned .columns) (k .steps .imageLength) sized,
+        metadata-small,
+        k .fewColumns,
+        k .steps .imageLength,
+      )
+
 signal-whole : (s : List ℕ) (g : Signal) → signalIn s g ≡ fine → length (signalBytes s g) ≡ signalSize g
 signal-whole s unsigned e = refl
 signal-whole s (signalData fs) e = length-signal s fs e
@@ -156,10 +170,15 @@ guaranteed x out list d bytes e =
     let k = answer-known x (length out) (length list) d e in
     let a = answer-accepted x (length out) (length list) d e in
     let q = plan-in-order (x .image) (length (k .steps .source .fragments)) (d .groups) (d .planned) (λ y. omega (arith, k .groups .once y)) (k .steps .planned) in
+    let filled = file-filled x (d .laidOut) out (ordered x d k) (a .outputFits) in
     record {
       planned = columns-placed (o x d k);
       shows = file-shows x (d .laidOut) out (ordered x d k) (a .outputFits) (sound x d k bytes);
-      filled = file-filled x (d .laidOut) out (ordered x d k) (a .outputFits);
+      front = front-due x (d .laidOut) _ filled (k .steps .lent);
+      comment = λ n. comment-due x (d .planned .columns) (d .laidOut) (o x d k) _ bytes (ordered x d k) (file-below x d k) filled n;
+      names = λ p i n. names-due x (d .planned .columns) (d .laidOut) (o x d k) _ bytes (ordered x d k) (file-below x d k) filled p i
+          (column-in x d k p i) (sound x d k bytes p i) n;
+      filled = filled;
       apart = file-apart x (d .laidOut) out (ordered x d k);
       recording = (dataGroups (k .steps .source), k .groups .recorded);
       met = met x d k;

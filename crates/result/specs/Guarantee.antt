@@ -21,7 +21,8 @@ use Rattle.result.specs.Payload.{recordsOf, signalBytes}
 use Rattle.result.specs.Fill.{Block}
 use Rattle.result.specs.Result.{Args, Decided, blocksOf}
 use Rattle.result.specs.Links.{shown}
-use Rattle.result.specs.Due.{dueAll}
+use Rattle.result.specs.Due.{dueAll, FrontDue}
+use Rattle.result.specs.Names.{LinkDue, NamesDue}
 
 -- ---- blocks
 
@@ -103,8 +104,12 @@ pub record Guaranteed (x : Args) (d : Decided) (f l : List ℕ) : Type 0 where
   -- ---- the result: "followed from the header by links alone, show exactly the planned columns in order, no two blocks share a byte"
   -- the planned columns are those placed, in order
   pub planned : columnsPlaced (d .laidOut .placed) ≡ d .planned .columns
-  -- followed from the header by links alone, the file shows exactly these, however far one looks; with their payloads, signal data and masters
+  -- followed from the header by links alone, the file shows exactly these, however far one looks; with their fields, payloads, signal data and masters
   pub shows : (k : ℕ) → length (d .laidOut .placed) ≤ k → shown f k ≡ dueAll (x .image) (x .blockSize) (d .laidOut .placed) (d .laidOut .placed)
+  -- the lent identification and HD; HD's comment, and names, units, conversions, sources and comments of every column, however deep one looks
+  pub front : FrontDue x f
+  pub comment : (k : ℕ) → LinkDue k (x .image) f (d .laidOut .past .chain) (linkAt (x .image) 64 5) (linkAt f 64 5)
+  pub names : (p : Placed) → In p (d .laidOut .placed) → (k : ℕ) → NamesDue k (x .image) f (d .laidOut .past .chain) p
   -- every block is written as planned, and no two share a byte
   pub filled : (b : Block) → In b (blocksOf x (d .laidOut)) → Stands f (b .at) (b .bytes)
   pub apart : AllApart (blocksOf x (d .laidOut))

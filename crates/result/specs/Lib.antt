@@ -9,4 +9,5 @@ pub mod Member
 pub mod Recording
 pub mod Links
 pub mod Due
+pub mod Names
 pub mod Guarantee
