@@ -1,0 +1,4 @@
+pub mod Passed
+pub mod Names
+pub mod ColumnForm
+pub mod Columns
