@@ -12,9 +12,10 @@ use Rattle.base.specs.Checked.{fine}
 use Rattle.mdf.specs.Block.{DG, CG, CN, kindCG, kindCN, linkAt, blockAt}
 use Rattle.mdf.specs.Chain.{fileLimits}
 use Rattle.mdf.specs.Name.{nameAt}
+use Rattle.mdf.specs.Records.{joined}
 use Rattle.plan.specs.Columns.{Column}
 use Rattle.plan.specs.Copies.{Copy}
-use Rattle.plan.specs.Layout.{Placed, cgOf, cnOf, dlOf, cgSize, structureSize, placedFrom, payloadSize, columnBlocks, blocksEnd, signalEnd}
+use Rattle.plan.specs.Layout.{Placed, cgOf, cnOf, dlOf, cgSize, structureSize, placedFrom, payloadSize, columnWidth, columnBlocks, blocksEnd, signalEnd}
 use Rattle.result.specs.Fill.{Block, block, header, words, newLink, dgBytes, cgBytes, cnBytes, cgData, cnData, dlBlocks, structureBlocks, dataBlocks, nextDG, cgAt}
 use Rattle.result.specs.Due.{duePayload, hasMaster, blocksDue, fragmentsDue}
 use Rattle.result.specs.Guarantee.{Stands, In, here, there}
@@ -22,12 +23,12 @@ use Rattle.copies_laws.specs.LengthLaws.{InImage, length-dg, length-cg, length-
 use Rattle.shown_laws.specs.Header.{block-link}
 use Rattle.shown_laws.specs.Joined.{stands-inside}
 use Rattle.shown_laws.specs.Shapes.{masterWord, cgWords, cg-shape, cnLinks, cn-shape}
-use Rattle.shown_laws.specs.ColumnShown.{ColumnSound, blocksAt, column-chain, dg-head, dg-next, dg-cg, dg-dl, cg-head, cg-next, cg-cn, cn-head, cn-next}
+use Rattle.shown_laws.specs.ColumnShown.{ColumnSound, blocksAt, column-chain, column-joined, dg-head, dg-next, dg-cg, dg-dl, cg-head, cg-next, cg-cn, cn-head, cn-next}
 use Rattle.shown_laws.specs.AllShown.{in-list, in-later, in-payload, in-data-later}
-use Rattle.file.specs.Form.{FileColumn}
+use Rattle.file.specs.Form.{FileColumn, cycles, recordBytes}
 use Rattle.file_laws.specs.Standing.{ColumnStands, firstDG, AllStand, allFragments, FileStands}
 use Rattle.file_guarantee.specs.Passed.{block-fine}
-use Rattle.file_guarantee.specs.ColumnForm.{fileColumn, length-even, same-blocks, due-ranges, due-formed}
+use Rattle.file_guarantee.specs.ColumnForm.{fileColumn, length-even, same-blocks, due-ranges, due-cycles, due-width, due-formed}
 
 cg-bytes : (m : Option ℕ) → cgSize m ≡ 104 + 8 * hasMaster m
 cg-bytes none = refl
@@ -116,17 +117,17 @@ unfoldable pub fileColumns : List ℕ → ℕ → List Placed → List FileColum
 fileColumns s size [] = []
 fileColumns s size (p ∷ ps) = fileColumn s size p ∷ fileColumns s size ps
 
-first-same : (s : List ℕ) (size : ℕ) (ps : List Placed) → firstDG (fileColumns s size ps) ≡ nextDG ps
+pub first-same : (s : List ℕ) (size : ℕ) (ps : List Placed) → firstDG (fileColumns s size ps) ≡ nextDG ps
 unfolding fileColumns fileColumn
 first-same s size [] = refl
 first-same s size (p ∷ ps) = refl
 
-stand-from : (f : List ℕ) (a b : ℕ) (cs : List FileColumn) → a ≤ b → AllStand f b cs → AllStand f a cs
+pub stand-from : (f : List ℕ) (a b : ℕ) (cs : List FileColumn) → a ≤ b → AllStand f b cs → AllStand f a cs
 unfolding AllStand
 stand-from f a b [] h l = tt
 stand-from f a b (c ∷ cs) h l = (omega (arith, l .0), l .1, l .2)
 
-next-below : (s : List ℕ) (size : ℕ) (ps : List Placed) → ((p : Placed) → In p ps → Good s size p) → nextDG ps < 256 ^ 8
+pub next-below : (s : List ℕ) (size : ℕ) (ps : List Placed) → ((p : Placed) → In p ps → Good s size p) → nextDG ps < 256 ^ 8
 next-below s size [] h = lit< tt
 next-below s size (p ∷ ps) h = let e = h p here .sound .structureEnds in omega arith
 
@@ -150,6 +151,30 @@ module _ {f : List ℕ} (s : List ℕ) (size : ℕ) (memo : List Copy) (all : Li
       columns-stand cs (a + structureSize s size c) (signalEnd (c .signalOf) (blocksEnd s size c d)) (λ q i. good q (there i))
       (λ b i. made b (in-later s size memo all p ps i)) (λ b i. filled b (in-data-later s size p ps i)) in
       (le-refl a, rw (first-same s size ps) one, stand-from f (suc (cnOf p)) (a + structureSize s size c) (fileColumns s size ps) (omega arith) more)
+
+-- ---- what is read of a column
+pub record ColumnRead (f s : List ℕ) (size : ℕ) (p : Placed) : Type 0 where
+  pub cycles : cycles f (cgOf p) ≡ p .column .group .records
+  pub width : recordBytes f (cgOf p) ≡ columnWidth s (p .column)
+  pub payload : joined f (fragmentsDue s size p) ≡ duePayload s (p .column)
+
+pub columns-read : {f : List ℕ} (s : List ℕ) (size : ℕ) (memo : List Copy) (all ps : List Placed)
+    → ((p : Placed) → In p ps → Good s size p)
+    → ((b : Block) → In b (structureBlocks s size memo all ps) → Stands f (b .at) (b .bytes))
+    → ((b : Block) → In b (dataBlocks s size ps) → Stands f (b .at) (b .bytes)) → (p : Placed) → In p ps → ColumnRead f s size p
+unfolding structureBlocks
+columns-read {f} s size memo all (q ∷ ps) good made filled p here =
+    let k : ColumnSound s size p = good p here .sound in
+    let list : (b : Block) → In b (dlBlocks s size p) → Stands f (b .at) (b .bytes) = λ b i. made b (in-list s size memo all p ps i) in
+    let blocks : (b : Block) → In b (blocksAt s size p) → Stands f (b .at) (b .bytes) = λ b i. filled b (in-payload s size p ps i) in
+    record {
+      cycles = due-cycles s size memo all p (nextDG ps) k (made _ here) (made _ (there here)) list blocks;
+      width = due-width s size memo all p (nextDG ps) k (made _ here) (made _ (there here)) list blocks;
+      payload = column-joined s size p k list blocks;
+    }
+columns-read s size memo all (q ∷ ps) good made filled p (there j) =
+    columns-read s size memo all ps (λ r i. good r (there i)) (λ b i. made b (in-later s size memo all q ps i))
+    (λ b i. filled b (in-data-later s size q ps i)) p j
 
 -- as many columns and blocks as the limits allow
 pub columns-many : (s : List ℕ) (size : ℕ) (ps : List Placed) → length (fileColumns s size ps) ≡ length ps

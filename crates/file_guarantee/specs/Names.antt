@@ -5,7 +5,7 @@ use mathlib.Core.Bool.{Bool, true, false}
 use mathlib.Core.Option.{Option, none, some}
 use mathlib.Core.Path.{_≡_, refl, sym, ap, subst, _∙_}
 use native.Mathlib.Omega.{arith}
-use lib.Dec.{eqb}
+use lib.Dec.{eqb, lit<}
 use lib.ListN.{length, drop, length-append}
 use lib.Seq.{drop-append-seam}
 use Rattle.base.specs.Choice.{pick, ifEq}
@@ -23,7 +23,8 @@ use Rattle.copies_laws.specs.Laid.{Laid, Within, laid-within}
 use Rattle.copies_laws.specs.AttachLaws.{LaidAt, ownCopies, laidAt-ends, AllAttached}
 use Rattle.copies_laws.specs.LengthLaws.{length-copied}
 use Rattle.copies_laws.specs.LayoutLaws.{LaidOut, history-laid, columns-laid, columns-after-history, attachments-laid}
-use Rattle.shown_laws.specs.Flat.{in-front, in-back}
+use Rattle.result.specs.Ordered.{Ordered}
+use Rattle.shown_laws.specs.Flat.{ordered-ends, in-front, in-back}
 use Rattle.shown_laws.specs.Header.{length-header}
 use Rattle.payload_laws.specs.Lists.{in-append}
 use Rattle.file_guarantee.specs.Passed.{name-none, name-fine}
@@ -154,3 +155,19 @@ names-fine {f} x cs l o stands a = go (new-led (memoOf l) a)
     go (toCopy c i) =
         let k = memo-copied x cs l o c i in
         copy-name (x .image) (l .past .chain) (memoOf l) (l .fh) c (k .whole) (stands _ (k .isIn))
+
+-- a link to metadata is a field of 8 bytes
+block-ends : {b : Block} (bs : List Block) (a e : ℕ) → Ordered a bs e → In b bs → b .at + length (b .bytes) ≤ e
+unfolding Ordered
+block-ends (b ∷ bs) a e o here = ordered-ends bs _ e (o .1)
+block-ends (c ∷ bs) a e o (there i) = block-ends bs (c .at + length (c .bytes)) e (o .1) i
+
+pub links-small : (x : Args) (cs : List Column) (l : Layout) → LaidOut (x .image) (x .blockSize) (length (x .text)) cs l
+    → Ordered 0 (blocksOf x l) (l .fileSize) → l .fileSize < 256 ^ 8 → (a : ℕ) → newLink (memoOf l) a < 256 ^ 8
+links-small x cs l o order h a = go (new-led (memoOf l) a)
+  where
+    go : {b : ℕ} → Led (memoOf l) b → b < 256 ^ 8
+    go nowhere = lit< tt
+    go (toCopy c i) =
+        let k = memo-copied x cs l o c i in
+        omega (arith, block-ends (blocksOf x l) 0 (l .fileSize) order (k .isIn))
