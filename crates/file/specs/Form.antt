@@ -100,8 +100,8 @@ oneKind s g fs = pick (allDT fs) true (holds (allDV fs ∷ eqb (invalBytes s g) 
 unfoldable pub formed : List ℕ → FileColumn → Bool
 formed s c =
     holds (
-      eqb (idSize s (c .dg)) 0
-      ∷ ifEq (linkAt s (c .dg) 2) 0 true (listFormed s (linkAt s (c .dg) 2) (c .fragments))
-      ∷ oneKind s (c .cg) (c .fragments)
-      ∷ eqb (sizeOf (c .fragments)) (cycles s (c .cg) * recordBytes s (c .cg))
-      ∷ [])
+    eqb (idSize s (c .dg)) 0
+    ∷ ifEq (linkAt s (c .dg) 2) 0 true (listFormed s (linkAt s (c .dg) 2) (c .fragments))
+    ∷ oneKind s (c .cg) (c .fragments)
+    ∷ eqb (sizeOf (c .fragments)) (cycles s (c .cg) * recordBytes s (c .cg))
+    ∷ [])

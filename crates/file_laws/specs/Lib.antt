@@ -1,5 +1,6 @@
 pub mod JoinedLaws
 pub mod OpenedLaws
+pub mod FormLaws
 pub mod RangeLaws
 pub mod Standing
 pub mod StandingLaws

@@ -129,6 +129,23 @@ module _ (s : List ℕ) (k first count : ℕ) (c : FileColumn) (h : Asked s k fi
   unfolding rangeOf
   range-length = length-part _ _ _ (rw (length-joined s (c .fragments) (h .column .ranges)) range-inside)
 
+-- ---- what is asked of a file that was opened
+module _ (s : List ℕ) (cs : List FileColumn) (e : opened s ≡ ok cs) (k first count : ℕ) where
+  pub ranged-ok : (c : FileColumn) → fileColumnAt k cs ≡ some c → first + count ≤ cycles s (c .cg)
+      → ranged s k first count ≡ ok (rangeOf s first count c)
+  unfolding ranged asked
+  ranged-ok c q h = rw (e, q, ← lt-no {r = ok c} (cycles s (c .cg)) (first + count) (refused 23 0) (ok c) h refl)
+
+  -- 22: the column number isn't below the number of columns
+  pub ranged-none : fileColumnAt k cs ≡ none → ranged s k first count ≡ refused 22 0
+  unfolding ranged asked
+  ranged-none q = rw (e, q)
+
+  -- 23: first plus count exceeds the records
+  pub ranged-past : (c : FileColumn) → fileColumnAt k cs ≡ some c → cycles s (c .cg) < first + count → ranged s k first count ≡ refused 23 0
+  unfolding ranged asked
+  ranged-past c q h = rw (e, q, ← lt-yes {r = refused 23 0} (cycles s (c .cg)) (first + count) (refused 23 0) (ok c) h refl)
+
 -- ---- the two calls
 
 -- what the first call does, by what the second answers: the same refusal; the part that is handed back is what is copied; a range that is
@@ -169,11 +186,12 @@ module _ (s : List ℕ) (k first count : ℕ) (buffer : List ℕ) (c : FileColum
       h = asked-back s k first count c e
 
       of : (n a m : ℕ) → m ≡ n → a + n ≤ length s → part a n s ≡ rangeOf s first count c → n ≡ bytesOf s c count → Agrees s k first count buffer (ok (at a m))
-      of n a m l i r z =
-          (omega (arith, l, i),
-          (λ b. read-fits s k first count buffer c e (b ∙ l ∙ z)
-              ∙ ap (λ (bs : List ℕ). record { answered = fine; buffer = bs }) (sym r ∙ ap (λ (j : ℕ). part a j s) (sym l))),
-          (λ b. read-other s k first count buffer c e (λ y. b (y ∙ sym z ∙ sym l))))
+      of n a m l i r z = (
+        omega (arith, l, i),
+        (λ b. read-fits s k first count buffer c e (b ∙ l ∙ z)
+            ∙ ap (λ (bs : List ℕ). record { answered = fine; buffer = bs }) (sym r ∙ ap (λ (j : ℕ). part a j s) (sym l))),
+        (λ b. read-other s k first count buffer c e (λ y. b (y ∙ sym z ∙ sym l))),
+      )
 
       -- no bytes
       none : bytesOf s c count ≡ 0 → Agrees s k first count buffer (ok (at 0 0))
@@ -186,10 +204,12 @@ module _ (s : List ℕ) (k first count : ℕ) (buffer : List ℕ) (c : FileColum
           let i = within-part s (c .fragments) (startOf s c first) (bytesOf s c count) a m (h .column .ranges) w in
           of (bytesOf s c count) a m (i .long) (i .inside) (i .same) refl
       some' z split w =
-          let l = range-length s k first count c h in
-          (rangeOf s first count c, omega (arith, l, positive (bytesOf s c count) z),
-          (λ b. read-fits s k first count buffer c e (b ∙ l)),
-          (λ b. read-other s k first count buffer c e (λ y. b (y ∙ sym l))))
+          let l = range-length s k first count c h in (
+            rangeOf s first count c,
+            omega (arith, l, positive (bytesOf s c count) z),
+            (λ b. read-fits s k first count buffer c e (b ∙ l)),
+            (λ b. read-other s k first count buffer c e (λ y. b (y ∙ sym l))),
+          )
 
       go : (t : Bool) → eqb (bytesOf s c count) 0 ≡ t → (p : Place) → placeIn (c .fragments) (startOf s c first) (bytesOf s c count) ≡ p
           → Agrees s k first count buffer (ok p)

@@ -174,7 +174,7 @@ columns-walk f (c ∷ cs) (suc t) a st k h b =
     let rest = columns-walk f cs t (suc (c .cn)) st' (omega arith) (h .2)
     (after f c (firstDG cs) d a (length cs) m st b (h .0) few (length (allFragments cs)) (omega arith)) in
     let items : st' .items ++ itemsOf (length (st' .fragments)) cs
-        ≡ st .items ++ (dg (c .dg) (length (st .fragments)) ∷ cg (c .cg) ∷ cn (c .cn) ∷ itemsOf (length (st .fragments) + length (c .fragments)) cs) =
+    ≡ st .items ++ (dg (c .dg) (length (st .fragments)) ∷ cg (c .cg) ∷ cn (c .cn) ∷ itemsOf (length (st .fragments) + length (c .fragments)) cs) =
     rw length-append (simp append-assoc) in
     let all : st' .fragments ++ allFragments cs ≡ st .fragments ++ (c .fragments ++ allFragments cs) = append-assoc (st .fragments) (c .fragments) (allFragments cs) in
     step ∙ ap (λ (x : ℕ). level levelDG (belowDG fileLimits f) t f x st') (d .dgNext) ∙ rest ∙ rw (items, all)
