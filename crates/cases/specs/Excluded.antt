@@ -26,7 +26,7 @@ use Rattle.result.specs.Fill as resultFill
 use Rattle.result.specs.Listing as resultListing
 use Rattle.result.specs.Payload as resultPayload
 use Rattle.result.specs.Result as resultResult
-use Rattle.result.specs.Guarantee as resultGuarantee
+use Rattle.result.specs.Links as resultLinks
 use Rattle.cases.specs.Starred.{image, args}
 
 -- of an answer: whether it is a refusal, its number and place
@@ -49,9 +49,14 @@ abbrev planIn : baseChecked.Checked resultResult.Decided → List ℕ
 planIn (baseChecked.ok d) = length (d .planned .columns) ∷ length (d .planned .omissions) ∷ []
 planIn (baseChecked.refused number place) = []
 
-abbrev payloadsIn : List resultGuarantee.Shown → List ℕ
+-- the bytes of a payload, none where its data chain is stopped
+abbrev bytesIn : baseChecked.Checked (List ℕ) → Option ℕ
+bytesIn (baseChecked.ok bs) = some (length bs)
+bytesIn (baseChecked.refused number place) = none
+
+abbrev payloadsIn : List resultLinks.Shown → List (Option ℕ)
 payloadsIn [] = []
-payloadsIn (c ∷ cs) = length (c .payload) ∷ payloadsIn cs
+payloadsIn (c ∷ cs) = bytesIn (c .payload) ∷ payloadsIn cs
 
 -- the recording with its first sample changed
 abbrev other : resultResult.Args
@@ -71,11 +76,11 @@ Excluded =
     -- one that omits each channel: there are two columns and no omission
     × (planIn (resultResult.decided args) ≡ 2 ∷ 0 ∷ [])
     -- the file shows two columns with 80 and 60 bytes of payload
-    × (payloadsIn (resultGuarantee.shown (fileIn args (resultResult.decided args)) 3) ≡ 80 ∷ 60 ∷ [])
+    × (payloadsIn (resultLinks.shown (fileIn args (resultResult.decided args)) 3) ≡ some 80 ∷ some 60 ∷ [])
     -- one that accepts and writes nothing: zeros show no column
-    × (payloadsIn (resultGuarantee.shown (replicate 1288 0) 3) ≡ [])
-    -- one that fills only the first column: the second column's payload is missing
-    × (payloadsIn (resultGuarantee.shown (take 1176 (fileIn args (resultResult.decided args)) ++ replicate 112 0) 3) ≡ 80 ∷ 0 ∷ [])
+    × (payloadsIn (resultLinks.shown (replicate 1288 0) 3) ≡ [])
+    -- one that fills only the first column: the second column's blocks are no blocks
+    × (payloadsIn (resultLinks.shown (take 1176 (fileIn args (resultResult.decided args)) ++ replicate 112 0) 3) ≡ some 80 ∷ none ∷ [])
     -- one that gives every recording one stock file: another sample is another byte of the file
     × (getD (fileIn args (resultResult.decided args)) 1072 0 ≡ 0)
     × (getD (fileIn other (resultResult.decided other)) 1072 0 ≡ 9)
@@ -115,8 +120,6 @@ unfolding
     resultListing.columnLines resultListing.omissionLines resultListing.planLines resultPayload.recordsOf resultPayload.cell resultPayload.cells
     resultPayload.payloads resultPayload.columnPayloads resultResult.hdBlock resultResult.blocksOf resultResult.flat resultResult.fileOf
     resultResult.sourceGroupsOf resultResult.timeColumns resultResult.blocksWritten resultResult.report resultResult.lentIn resultResult.decided
-    resultResult.answer resultResult.workIn resultResult.zeros resultResult.convert resultGuarantee.blockData resultGuarantee.linkedData
-    resultGuarantee.joinedPayload resultGuarantee.joinedSignal resultGuarantee.namedMaster resultGuarantee.shownAt resultGuarantee.shownFrom
-    resultGuarantee.shown resultGuarantee.duePayload resultGuarantee.due resultGuarantee.dueAll resultGuarantee.columnsOf resultGuarantee.omissionsOf
-    resultGuarantee.columnAt resultGuarantee.columnsPlaced
+    resultResult.answer resultResult.workIn resultResult.zeros resultResult.convert resultLinks.headAt resultLinks.groupFields
+    resultLinks.channelFields resultLinks.listAt resultLinks.listShown resultLinks.shownAt resultLinks.shownFrom resultLinks.shown
 excluded = (refl, refl, refl, refl, refl, refl, refl, refl, refl, refl, refl)

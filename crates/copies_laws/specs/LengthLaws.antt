@@ -28,7 +28,6 @@ use Rattle.result.specs.Fill.{
   cgBytes,
   cnData,
   cnBytes,
-  blockLinks,
   dlBytes,
   atBytes,
   hdData,
@@ -37,7 +36,7 @@ use Rattle.result.specs.Fill.{
 use Rattle.copies_laws.specs.AnswerLaws.{Whole}
 use Rattle.copies_laws.specs.AttachLaws.{Moved}
 pub use Rattle.base.specs.BlitLaws.{length-part}
-pub use Rattle.result.specs.FillLaws.{length-header}
+pub use Rattle.result.specs.FillLaws.{length-header, length-blockLinks}
 
 pub length-newLinks : (s : List ℕ) (memo : List Copy) (k p : ℕ) → length (newLinks s memo k p) ≡ 8 * k
 unfolding newLinks
@@ -122,11 +121,6 @@ pub length-cn : (s : List ℕ) (memo : List Copy) (p : Placed) → InImage s (p 
 unfolding cnBytes
 length-cn s memo p i =
     simp (length-append, length-header, length-le, length-cnData s (p .column .group .at) (p .column .channel) (i .channel))
-
-pub length-blockLinks : (payload n a : ℕ) → length (blockLinks payload n a) ≡ 8 * n
-unfolding blockLinks
-length-blockLinks payload zero a = refl
-length-blockLinks payload (suc n) a = simp (length-append, length-le, length-blockLinks payload n (a + (24 + payload))) (omega arith)
 
 pub length-dl : (s : List ℕ) (size : ℕ) (p : Placed) → (columnBlocks s size (p .column) ≡ 0 → ⊥)
     → length (dlBytes s size p) ≡ dlSize (columnBlocks s size (p .column))

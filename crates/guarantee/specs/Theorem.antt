@@ -17,19 +17,19 @@ use Rattle.result.specs.Ordered.{Ordered}
 use Rattle.result.specs.Payload.{columnPayloads, signalBytes}
 use Rattle.result.specs.Fill.{dataBlocks, columnPayload}
 use Rattle.result.specs.Result.{Args, Decided, answer, fileOf, blocksOf}
-use Rattle.result.specs.Guarantee.{In, Guaranteed, duePayload}
+use Rattle.result.specs.Due.{duePayload}
+use Rattle.result.specs.Guarantee.{In, Guaranteed}
 use Rattle.copies_laws.specs.LengthLaws.{InImage}
 use Rattle.copies_laws.specs.LayoutLaws.{LaidOut, laid-out, columns-placed, columns-within, metadataEnd-near, columns-ordered, blocks-ordered}
 use Rattle.copies_laws.specs.OrderLaws.{ordered-ends}
 use Rattle.payload_laws.specs.CountLaws.{member, counted}
 use Rattle.payload_laws.specs.ColumnLaws.{Ready, ready, column-joined, column-bytes, column-even}
-use Rattle.payload_laws.specs.BoundLaws.{data-small, records-small}
+use Rattle.payload_laws.specs.BoundLaws.{data-small, full-bound, records-small}
 use Rattle.payload_laws.specs.SignalLaws.{column-signal, data-ordered}
-use Rattle.plan_laws.specs.Decision.{Steps, Accepted, answer-accepted}
+use Rattle.plan_laws.specs.Decision.{Steps, Accepted, answer-accepted, blocks-few}
 use Rattle.plan_laws.specs.Known.{Known, answer-known}
 use Rattle.plan_laws.specs.PlanLaws.{signal-due}
 use Rattle.shown_laws.specs.ColumnShown.{ColumnSound}
-use Rattle.shown_laws.specs.ImageBytes.{column-sound}
 use Rattle.shown_laws.specs.Final.{file-apart, file-filled, file-shows}
 use Rattle.guarantee.specs.Places.{equal-even, flatten-together, data-inside, fragments-few, signal-small, Sized, DataWithin, data-within, in-column}
 
@@ -78,19 +78,19 @@ module _ (x : Args) (d : Decided) (k : Known x d) where
 
   -- ---- bounds
 
-  in-placed : (p : Placed) → In p (d .laidOut .placed)
+  pub in-placed : (p : Placed) → In p (d .laidOut .placed)
       → In p (placedFrom (x .image) (x .blockSize) (structurePlace (d .laidOut .metadata)) (d .laidOut .metadataEnd) (d .planned .columns))
   in-placed p i = subst (In p) (o .placed) i
 
-  column-in : (p : Placed) → In p (d .laidOut .placed) → In (p .column) (d .planned .columns)
+  pub column-in : (p : Placed) → In p (d .laidOut .placed) → In (p .column) (d .planned .columns)
   column-in p i = in-column (x .image) (x .blockSize) _ _ (d .planned .columns) p (in-placed p i)
 
   -- metadata ends below 2^45
-  metadata-small : d .laidOut .metadataEnd ≤ 18200000000000
+  pub metadata-small : d .laidOut .metadataEnd ≤ 18200000000000
   metadata-small = omega (arith, metadataEnd-near o (k .steps .blocksFine), k .fewColumns, k .steps .lent .textLength)
 
   -- and begins past the header
-  metadata-above : 0 < structurePlace (d .laidOut .metadata)
+  pub metadata-above : 0 < structurePlace (d .laidOut .metadata)
   metadata-above =
       omega (arith, ordered-ends (d .laidOut .fh + 56) (structurePlace (d .laidOut .metadata)) _ (columns-ordered o (d .laidOut .past .chain) [] 0))
 
@@ -102,7 +102,7 @@ module _ (x : Args) (d : Decided) (k : Known x d) where
   structure-above p i = omega arith
 
   module _ (bytes : AllBytes (x .image)) where
-    sound : (p : Placed) → In p (d .laidOut .placed) → ColumnSound (x .image) (x .blockSize) p
+    pub sound : (p : Placed) → In p (d .laidOut .placed) → ColumnSound (x .image) (x .blockSize) p
     sound p i =
         let c = p .column in
         let j = column-in p i in
@@ -113,16 +113,23 @@ module _ (x : Args) (d : Decided) (k : Known x d) where
         let n = column-bytes (x .image) (x .blockSize) c (z .ready) in
         let q = column-joined (x .image) (x .blockSize) c (z .ready) in
         let due : length (duePayload (x .image) c) ≡ payloadSize (x .image) c = ap length (sym q) ∙ n in
-        column-sound (x .image) bytes (x .blockSize) p
-        (in-image c j .group)
-        (records-small (c .group) (member (x .image) (dataGroups (k .steps .source)) (k .steps .counted) (c .group) (in-source c j)) (k .steps .imageLength) (z .few))
-        (equal-even _ _ (column-even (x .image) (x .blockSize) c (z .ready)))
-        (flatten-together (columnPayloads (x .image) (x .blockSize) c) ∙ q)
-        (omega (arith, w .begins, metadata-above))
-        (omega (arith, a, w .ends, metadata-small))
-        (omega (arith, due, t .below, metadata-small, k .fewColumns, data-small (x .image) (x .blockSize) c (z .ready) (k .steps .imageLength) (z .few)))
-        (omega (arith, t .sdAbove, w .begins, w .ends, metadata-above))
-        (omega (arith, t .sdBelow, metadata-small, k .fewColumns, signal-small (x .image) (c .signalOf) (z .signals) (k .steps .imageLength) (z .fewSignals)))
+        let small = data-small (x .image) (x .blockSize) c (z .ready) (k .steps .imageLength) (z .few) in
+        record {
+          image = bytes;
+          groupIn = in-image c j .group;
+          channelIn = in-image c j .channel;
+          records = records-small (c .group) (member (x .image) (dataGroups (k .steps .source)) (k .steps .counted) (c .group) (in-source c j)) (k .steps .imageLength) (z .few);
+          few = omega (arith, blocks-few (x .image) (x .blockSize) (d .planned .columns) (k .steps .blocksFine) c j);
+          short = omega (arith, small, full-bound (x .image) (x .blockSize) c);
+          equal = equal-even _ _ (column-even (x .image) (x .blockSize) c (z .ready));
+          whole = flatten-together (columnPayloads (x .image) (x .blockSize) c) ∙ q;
+          dgAbove = omega (arith, w .begins, metadata-above);
+          structureEnds = omega (arith, a, w .ends, metadata-small);
+          firstAbove = omega (arith, t .above, w .begins, w .ends, metadata-above);
+          payloadEnds = omega (arith, due, t .below, metadata-small, k .fewColumns, small);
+          sdAbove = omega (arith, t .sdAbove, w .begins, w .ends, metadata-above);
+          sdEnds = omega (arith, t .sdBelow, metadata-small, k .fewColumns, signal-small (x .image) (c .signalOf) (z .signals) (k .steps .imageLength) (z .fewSignals));
+        }
 
 every : (x : Args) (d : Decided) (k : Known x d) (st : Source) → walk (x .image) ≡ ok st → (a : ℕ) → In (cn a) (st .items) → (g : SrcGroup) × In g (d .groups) × In a (g .channels)
 every x d k st w a i =

@@ -21,7 +21,8 @@ use Rattle.plan.specs.Layout.{columnWidth, columnBlocks, payloadSize, blocksEnd
 use Rattle.result.specs.Payload.{recordsOf, cells, payloads, columnPayloads}
 use Rattle.result.specs.Fill.{words, blockLinks, columnPayload, payloadBlocks}
 use Rattle.result.specs.Ordered.{Ordered}
-use Rattle.result.specs.Guarantee.{In, duePayload}
+use Rattle.result.specs.Due.{duePayload}
+use Rattle.result.specs.Guarantee.{In}
 use Rattle.payload_laws.specs.Lists.{together}
 use Rattle.payload_laws.specs.CountLaws.{Read, column-read}
 use Rattle.payload_laws.specs.CellLaws.{both-true, length-cells}

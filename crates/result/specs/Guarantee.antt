@@ -1,128 +1,27 @@
 -- The archive's guarantee (demand 3, in the words of document 01, e): what holds of the final bytes of every accepted result.
-use Prim.Native.Nat.{ℕ, zero, suc, _+_, _*_, _-_, _≤_, _<_}
-use mathlib.Core.List.{List, [], _∷_, _++_}
+use Prim.Native.Nat.{ℕ, zero, suc, _+_, _≤_}
+use mathlib.Core.List.{List, [], _∷_}
 use mathlib.Core.Bool.{Bool, true, false}
 use mathlib.Core.Option.{Option, none, some}
 use mathlib.Core.Path.{_≡_}
 use lib.ListN.{length}
-use lib.Dec.{eqb}
-use Rattle.base.specs.Choice.{pick, ifLt, ifEq}
-use Rattle.base.specs.Field.{leAt}
+use Rattle.base.specs.Choice.{ifEq}
 use Rattle.base.specs.Blit.{part}
-use Rattle.mdf.specs.Block.{kindDG, kindCG, kindCN, kindDL, kindDT, kindDV, kindSD, kindAt, sizeAt, linksAt, linkAt, dataAt}
-use Rattle.mdf.specs.Group.{groupFlags, samples, invalBytes, isStorage}
-use Rattle.plan.specs.Channel.{bit, keepsInval, channelBytes}
+use Rattle.base.specs.Checked.{ok}
+use Rattle.mdf.specs.Block.{linkAt}
+use Rattle.mdf.specs.Chain.{Chain.signal, found, limits, chain}
+use Rattle.mdf.specs.Group.{isStorage}
 use Rattle.mdf.specs.Walk.{Source, walk}
 use Rattle.mdf.specs.Walk as walking
-use Rattle.base.specs.Checked.{ok}
-use Rattle.plan.specs.Columns.{SrcGroup, Column, Omission, TimeOf, time, untimed, differs, timeOf, masterOf, Signal, unsigned, signalData, ownMaster, decide, kept}
-use Rattle.mdf.specs.Chain.{Chain.signal, found, limits, chain}
 use Rattle.plan.specs.Channel.{channelType}
+use Rattle.plan.specs.Columns.{SrcGroup, Column, Omission, TimeOf, time, untimed, differs, timeOf, masterOf, Signal, unsigned, signalData, ownMaster, decide, kept}
 use Rattle.plan.specs.Data.{isNonempty}
-use Rattle.plan.specs.Layout.{Placed, cgOf, cnOf, columnBlocks}
-use Rattle.result.specs.Payload.{recordsOf, cells, signalBytes}
-use Rattle.result.specs.Fill.{Block, dgBytes, cgBytes, cnBytes, dlBytes, cgAt, nextDG}
-use Rattle.result.specs.Result.{Args, Decided, blocksOf, memoOf}
-
--- ---- reading a file by links alone
-
--- the data of the block at a: what follows its 24-byte header
-unfoldable pub blockData : List ℕ → ℕ → List ℕ
-blockData f a = part (a + 24) (sizeAt f a - 24) f
-
--- the data of the blocks to which so many links, from p on, lead, in link order
-unfoldable pub linkedData : List ℕ → ℕ → ℕ → List ℕ
-linkedData f zero p = []
-linkedData f (suc n) p = blockData f (leAt 8 f p) ++ linkedData f n (p + 8)
-
--- "Joined: block data in link order, nothing at link 0": by a DL's links past its first
-unfoldable pub joinedPayload : List ℕ → ℕ → List ℕ
-joinedPayload f dl = ifEq dl 0 [] (linkedData f (linksAt f dl - 1) (dl + 32))
-
-unfoldable pub joinedSignal : List ℕ → ℕ → List ℕ
-joinedSignal f sd = ifEq sd 0 [] (blockData f sd)
-
--- the CG that a CG names as its master, 0 for none: the seventh link under flag bit 3
-unfoldable pub namedMaster : List ℕ → ℕ → ℕ
-namedMaster f cg = ifEq (bit 3 (groupFlags f cg)) 1 (ifLt 6 (linksAt f cg) (linkAt f cg 6) 0) 0
-
--- a column that links show: its DG, its CG and the CG after that, its CN and the CN after that, the kinds of the three, its data
-pub record Shown : Type 0 where
-  pub dg : ℕ
-  pub cg : ℕ
-  pub nextCG : ℕ
-  pub cn : ℕ
-  pub nextCN : ℕ
-  pub kinds : List ℕ
-  pub idSize : ℕ
-  pub records : ℕ
-  pub dataBytes : ℕ
-  pub invalidation : ℕ
-  pub payload : List ℕ
-  pub signalData : List ℕ
-  pub master : ℕ
-
-unfoldable pub shownAt : List ℕ → ℕ → Shown
-shownAt f dg =
-    let cg = linkAt f dg 1 in
-    let cn = linkAt f cg 1 in
-    record {
-      dg = dg;
-      cg = cg;
-      nextCG = linkAt f cg 0;
-      cn = cn;
-      nextCN = linkAt f cn 0;
-      kinds = kindAt f dg ∷ kindAt f cg ∷ kindAt f cn ∷ [];
-      idSize = leAt 1 f (dataAt f dg);
-      records = leAt 8 f (dataAt f cg + 8);
-      dataBytes = samples f cg;
-      invalidation = invalBytes f cg;
-      payload = joinedPayload f (linkAt f dg 2);
-      signalData = joinedSignal f (linkAt f cn 5);
-      master = namedMaster f cg;
-    }
-
--- the DG chain from a on, at most so many
-unfoldable pub shownFrom : ℕ → List ℕ → ℕ → List Shown
-shownFrom zero f a = []
-shownFrom (suc k) f a = let more = shownAt f a ∷ shownFrom k f (linkAt f a 0) in ifEq a 0 [] more
-
--- "Shown: from HD": every DG of the file
-unfoldable pub shown : List ℕ → ℕ → List Shown
-shown f k = shownFrom k f (linkAt f 64 0)
-
--- ---- what is to be shown
-
--- the payload due to a column: the cells of its group's records, in order, if it is nonempty
-unfoldable pub duePayload : List ℕ → Column → List ℕ
-duePayload s c = pick (isNonempty s c) (cells s (c .group .at) (c .channel) (recordsOf s (c .group))) []
-
-abbrev pub dueMaster : List Placed → Option ℕ → ℕ
-dueMaster ps none = 0
-dueMaster ps (some m) = cgAt m ps
-
--- what links show of a planned column
-unfoldable pub due : List ℕ → List Placed → Placed → Shown
-due s ps p =
-    record {
-      dg = p .dg;
-      cg = cgOf p;
-      nextCG = 0;
-      cn = cnOf p;
-      nextCN = 0;
-      kinds = kindDG ∷ kindCG ∷ kindCN ∷ [];
-      idSize = 0;
-      records = p .column .group .records;
-      dataBytes = channelBytes s (p .column .channel);
-      invalidation = pick (keepsInval s (p .column .group .at) (p .column .channel)) 1 0;
-      payload = duePayload s (p .column);
-      signalData = signalBytes s (p .column .signalOf);
-      master = dueMaster ps (p .column .master);
-    }
-
-unfoldable pub dueAll : List ℕ → List Placed → List Placed → List Shown
-dueAll s all [] = []
-dueAll s all (p ∷ ps) = due s all p ∷ dueAll s all ps
+use Rattle.plan.specs.Layout.{Placed}
+use Rattle.result.specs.Payload.{recordsOf}
+use Rattle.result.specs.Fill.{Block}
+use Rattle.result.specs.Result.{Args, Decided, blocksOf}
+use Rattle.result.specs.Links.{shown}
+use Rattle.result.specs.Due.{dueAll}
 
 -- ---- blocks
 
@@ -200,7 +99,7 @@ pub record Guaranteed (x : Args) (d : Decided) (f : List ℕ) : Type 0 where
   -- the planned columns are those placed, in order
   pub planned : columnsPlaced (d .laidOut .placed) ≡ d .planned .columns
   -- followed from the header by links alone, the file shows exactly these, however far one looks; with their payloads, signal data and masters
-  pub shows : (k : ℕ) → length (d .laidOut .placed) ≤ k → shown f k ≡ dueAll (x .image) (d .laidOut .placed) (d .laidOut .placed)
+  pub shows : (k : ℕ) → length (d .laidOut .placed) ≤ k → shown f k ≡ dueAll (x .image) (x .blockSize) (d .laidOut .placed) (d .laidOut .placed)
   -- every block is written as planned, and no two share a byte
   pub filled : (b : Block) → In b (blocksOf x (d .laidOut)) → Stands f (b .at) (b .bytes)
   pub apart : AllApart (blocksOf x (d .laidOut))

@@ -5,4 +5,6 @@ pub mod Result
 pub mod Ordered
 pub mod OrderedLaws
 pub mod Listing
+pub mod Links
+pub mod Due
 pub mod Guarantee

@@ -14,11 +14,13 @@ use Rattle.result.specs.Payload.{columnPayloads}
 use Rattle.result.specs.Fill.{Block, hdData, nextDG, cgAt, dataKind, copiedBlocks, dlBlocks, structureBlocks, payloadBlocks, sdBlocks}
 use Rattle.result.specs.Fill.{dataBlocks, attachmentBlocks}
 use Rattle.result.specs.Result.{Args, memoOf, hdBlock, blocksOf}
-use Rattle.result.specs.Guarantee.{Stands, In, here, there, shownAt, shownFrom, shown, due, dueAll}
+use Rattle.result.specs.Links.{shownAt, shownFrom, shown}
+use Rattle.result.specs.Due.{due, dueAll}
+use Rattle.result.specs.Guarantee.{Stands, In, here, there}
 use Rattle.shown_laws.specs.Flat.{in-front, in-back}
 use Rattle.shown_laws.specs.Header.{block-link}
 use Rattle.shown_laws.specs.Shapes.{hdLinks, hd-shape}
-use Rattle.shown_laws.specs.ColumnShown.{ColumnSound, column-shown, dg-next}
+use Rattle.shown_laws.specs.ColumnShown.{ColumnSound, blocksAt, column-shown, dg-next}
 
 -- ---- what is known of a file with layout l: all that reading back rests on
 pub record Sound (x : Args) (l : Layout) (f : List ℕ) : Type 0 where
@@ -39,23 +41,18 @@ module _ {b : Block} (s : List ℕ) (size : ℕ) (memo : List Copy) (all : List 
   unfolding structureBlocks
   in-later i = there (there (there (in-back (dlBlocks s size p) i)))
 
--- the data blocks of a column
-abbrev pub payloadsOf : List ℕ → ℕ → Placed → List Block
-payloadsOf s size p =
-    payloadBlocks (dataKind (keepsInval s (p .column .group .at) (p .column .channel))) (p .first) (columnPayloads s size (p .column))
-
 module _ {b : Block} (s : List ℕ) (size : ℕ) (p : Placed) (ps : List Placed) where
-  pub in-payload : In b (payloadsOf s size p) → In b (dataBlocks s size (p ∷ ps))
+  pub in-payload : In b (blocksAt s size p) → In b (dataBlocks s size (p ∷ ps))
   unfolding dataBlocks
   in-payload i = in-front (sdBlocks s (p .column .signalOf) (p .sd) ++ dataBlocks s size ps) i
 
   pub in-signal : In b (sdBlocks s (p .column .signalOf) (p .sd)) → In b (dataBlocks s size (p ∷ ps))
   unfolding dataBlocks
-  in-signal i = in-back (payloadsOf s size p) (in-front (dataBlocks s size ps) i)
+  in-signal i = in-back (blocksAt s size p) (in-front (dataBlocks s size ps) i)
 
   pub in-data-later : In b (dataBlocks s size ps) → In b (dataBlocks s size (p ∷ ps))
   unfolding dataBlocks
-  in-data-later i = in-back (payloadsOf s size p) (in-back (sdBlocks s (p .column .signalOf) (p .sd)) i)
+  in-data-later i = in-back (blocksAt s size p) (in-back (sdBlocks s (p .column .signalOf) (p .sd)) i)
 
 -- of the file
 module _ (x : Args) (l : Layout) where
@@ -104,16 +101,15 @@ pub chain-shown : {f : List ℕ} (s : List ℕ) (size : ℕ) (memo : List Copy) 
     → ((p : Placed) → In p ps → ColumnSound s size p) → ((m : ℕ) → cgAt m all < 256 ^ 8)
     → ((b : Block) → In b (structureBlocks s size memo all ps) → Stands f (b .at) (b .bytes))
     → ((b : Block) → In b (dataBlocks s size ps) → Stands f (b .at) (b .bytes))
-    → shownFrom k f (nextDG ps) ≡ dueAll s all ps
+    → shownFrom k f (nextDG ps) ≡ dueAll s size all ps
 unfolding shownFrom dueAll structureBlocks dataBlocks
 chain-shown s size memo all [] zero h sound below made filled = refl
 chain-shown s size memo all [] (suc k) h sound below made filled = sym (eq-yes _ _ _ _ refl refl)
 chain-shown s size memo all (p ∷ ps) zero h sound below made filled = absurd (omega arith)
 chain-shown {f} s size memo all (p ∷ ps) (suc k) h sound below made filled =
     let c : ColumnSound s size p = sound p here in
-    let kind : ℕ = dataKind (keepsInval s (p .column .group .at) (p .column .channel)) in
-    let one : shownAt f (p .dg) ≡ due s all p =
-    column-shown s size kind memo all p (nextDG ps) c below (made _ here) (made _ (there here)) (made _ (there (there here)))
+    let one : shownAt f (p .dg) ≡ due s size all p =
+    column-shown s size memo all p (nextDG ps) c below (made _ here) (made _ (there here)) (made _ (there (there here)))
     (λ b i. made b (in-list s size memo all p ps i)) (λ b i. filled b (in-payload s size p ps i))
     (λ b i. filled b (in-signal s size p ps i)) in
     let next : linkAt f (p .dg) 0 ≡ nextDG ps =
@@ -133,7 +129,7 @@ hd-first {f} s l st h =
 -- "Shown: from HD, in planning's order .. one DG per planned column, each with one CG and its one CN":
 -- a sound file shows exactly what is due, however far one looks
 pub shows-due : {f : List ℕ} (x : Args) (l : Layout) → Sound x l f → (k : ℕ) → length (l .placed) ≤ k
-    → shown f k ≡ dueAll (x .image) (l .placed) (l .placed)
+    → shown f k ≡ dueAll (x .image) (x .blockSize) (l .placed) (l .placed)
 unfolding shown hdBlock
 shows-due {f} x l sound k h =
     let first : linkAt f 64 0 ≡ nextDG (l .placed) =

@@ -1,9 +1,9 @@
 pub mod Standing
 pub mod Flat
 pub mod Header
+pub mod ImageBytes
 pub mod Joined
 pub mod Shapes
 pub mod ColumnShown
 pub mod AllShown
-pub mod ImageBytes
 pub mod Final

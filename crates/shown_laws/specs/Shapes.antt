@@ -1,19 +1,23 @@
 -- HD, DG, CG and CN of the result as header, links and data, and the fields of the new CG's data.
-use mathlib.Core.Path.{_≡_}
+use mathlib.Core.Path.{_≡_, refl}
+use mathlib.Core.Bool.{Bool, true, false}
 use mathlib.Core.List.{List, [], _∷_, _++_, append-assoc, append-nil}
 use mathlib.Core.Option.{Option, none, some}
 use Prim.Native.Nat.{ℕ, _+_, _*_, _/_, _%_, _^_, _<_}
 use native.Mathlib.Omega.{arith}
+use lib.Dec.{lit<, eqb}
+use borrow.Author.Tests.{eqb-true}
 use lib.ListN.{length, length-append}
-use Rattle.base.specs.Choice.{ifEq}
+use Rattle.base.specs.Choice.{pick, ifEq}
 use Rattle.base.specs.Field.{leAt, le}
 use Rattle.base.specs.FieldLaws.{length-le}
 use Rattle.mdf.specs.Block.{kindHD, kindDG, kindCG, kindCN, linkAt}
-use Rattle.plan.specs.Channel.{bit}
+use Rattle.plan.specs.Channel.{bit, Treatment, treatment}
 use Rattle.plan.specs.Copies.{Copy}
 use Rattle.plan.specs.Layout.{Placed, cgOf, cnOf, dlOf, cgLinks, cgSize, columnBlocks}
 use Rattle.result.specs.Fill.{header, words, newLink, dgBytes, cgBytes, cnBytes, hdBytes, hdData, cgAt, cgFlags, masterLink, cgData, cnData}
-use Rattle.result.specs.Fill.{sdLink}
+use Rattle.result.specs.Fill.{sdLink, cnFlags, storedType}
+use Rattle.result.specs.Due.{groupFlagsDue, channelFlagsDue}
 use Rattle.result.specs.Guarantee.{Stands}
 use Rattle.shown_laws.specs.Standing.{stands-front, stands-at, read}
 
@@ -73,9 +77,13 @@ pub cn-shape : (s : List ℕ) (memo : List Copy) (p : Placed)
 unfolding cnBytes cnLinks words
 cn-shape s memo p = simp (append-assoc, append-nil)
 
--- ---- the data of a new CG: records r, flags g, data bytes n, invalidation bytes i
+-- ---- the data of a new CG: records r, flags g, path separator, data bytes n, invalidation bytes i
 module _ {f : List ℕ} {a : ℕ} (r g n i : ℕ) (two : List ℕ)
     (s : Stands f a (le 8 0 ++ le 8 r ++ le 2 g ++ two ++ le 4 0 ++ le 4 n ++ le 4 i)) where
+  pub read-id : leAt 8 f a ≡ 0
+  read-id =
+      read 8 0 (stands-front _ _ (stands-front _ _ (stands-front _ _ (stands-front _ _ (stands-front _ _ (stands-front _ _ s)))))) (lit< tt)
+
   pub read-records : r < 256 ^ 8 → leAt 8 f (a + 8) ≡ r
   read-records h =
       read 8 r (stands-at (le 8 0) (le 8 r) (stands-front _ _ (stands-front _ _ (stands-front _ _ (stands-front _ _ (stands-front _ _ s)))))
@@ -86,6 +94,10 @@ module _ {f : List ℕ} {a : ℕ} (r g n i : ℕ) (two : List ℕ)
       read 2 g (stands-at (le 8 0 ++ le 8 r) (le 2 g) (stands-front _ _ (stands-front _ _ (stands-front _ _ (stands-front _ _ s))))
       (simp (length-append, length-le))) h
 
+  pub separator-stands : Stands f (a + 18) two
+  separator-stands =
+      stands-at (le 8 0 ++ le 8 r ++ le 2 g) two (stands-front _ _ (stands-front _ _ (stands-front _ _ s))) (simp (length-append, length-le))
+
   pub read-bytes : length two ≡ 2 → n < 256 ^ 4 → leAt 4 f (a + 24) ≡ n
   read-bytes e h =
       read 4 n (stands-at (le 8 0 ++ le 8 r ++ le 2 g ++ two ++ le 4 0) (le 4 n) (stands-front _ _ s) (simp (length-append, length-le, e))) h
@@ -94,7 +106,51 @@ module _ {f : List ℕ} {a : ℕ} (r g n i : ℕ) (two : List ℕ)
   read-inval e h =
       read 4 i (stands-at (le 8 0 ++ le 8 r ++ le 2 g ++ two ++ le 4 0 ++ le 4 n) (le 4 i) s (simp (length-append, length-le, e))) h
 
--- ---- the flags of a new CG: bit 3 is set exactly with a master
+-- ---- the data of a new CN: type t, flags g, and what is copied
+module _ {f : List ℕ} {a : ℕ} (t g : ℕ) (three four two many : List ℕ) (l3 : length three ≡ 3) (l4 : length four ≡ 4) (l2 : length two ≡ 2)
+    (s : Stands f a (le 1 t ++ three ++ le 4 0 ++ four ++ le 4 g ++ le 4 0 ++ two ++ le 2 0 ++ many)) where
+  to-two : Stands f a (le 1 t ++ three ++ le 4 0 ++ four ++ le 4 g ++ le 4 0 ++ two)
+  to-two = stands-front _ _ (stands-front _ _ s)
+
+  to-four : Stands f a (le 1 t ++ three ++ le 4 0 ++ four)
+  to-four = stands-front _ _ (stands-front _ _ (stands-front _ _ to-two))
+
+  pub read-type : t < 256 → leAt 1 f a ≡ t
+  read-type h = read 1 t (stands-front _ _ (stands-front _ _ (stands-front _ _ to-four))) h
+
+  pub three-stands : Stands f (a + 1) three
+  three-stands = stands-at (le 1 t) three (stands-front _ _ (stands-front _ _ to-four)) (simp length-le)
+
+  pub read-offset : leAt 4 f (a + 4) ≡ 0
+  read-offset =
+      read 4 0 (stands-at {b = a + 4} (le 1 t ++ three) (le 4 0) (stands-front _ _ to-four) (simp (length-append, length-le, l3))) (lit< tt)
+
+  pub four-stands : Stands f (a + 8) four
+  four-stands = stands-at (le 1 t ++ three ++ le 4 0) four to-four (simp (length-append, length-le, l3))
+
+  pub read-channel-flags : g < 256 ^ 4 → leAt 4 f (a + 12) ≡ g
+  read-channel-flags h =
+      read 4 g (stands-at {b = a + 12} (le 1 t ++ three ++ le 4 0 ++ four) (le 4 g) (stands-front _ _ (stands-front _ _ to-two))
+      (simp (length-append, length-le, l3, l4))) h
+
+  pub read-position : leAt 4 f (a + 16) ≡ 0
+  read-position =
+      read 4 0 (stands-at {b = a + 16} (le 1 t ++ three ++ le 4 0 ++ four ++ le 4 g) (le 4 0) (stands-front _ _ to-two)
+      (simp (length-append, length-le, l3, l4))) (lit< tt)
+
+  pub two-stands : Stands f (a + 20) two
+  two-stands = stands-at (le 1 t ++ three ++ le 4 0 ++ four ++ le 4 g ++ le 4 0) two to-two (simp (length-append, length-le, l3, l4))
+
+  pub read-attachments : leAt 2 f (a + 22) ≡ 0
+  read-attachments =
+      read 2 0 (stands-at {b = a + 22} (le 1 t ++ three ++ le 4 0 ++ four ++ le 4 g ++ le 4 0 ++ two) (le 2 0) (stands-front _ _ s)
+      (simp (length-append, length-le, l3, l4, l2))) (lit< tt)
+
+  pub many-stands : Stands f (a + 24) many
+  many-stands =
+      stands-at (le 1 t ++ three ++ le 4 0 ++ four ++ le 4 g ++ le 4 0 ++ two ++ le 2 0) many s (simp (length-append, length-le, l3, l4, l2))
+
+-- ---- the flags of a new CG: bit 3 is set exactly with a master, bits 0 to 2 are clear, the others are kept
 pub flags-small : (g : ℕ) (m : Option ℕ) → g < 65536 → cgFlags g m < 65536
 flags-small g none h = omega arith
 flags-small g (some m) h = omega arith
@@ -110,3 +166,35 @@ flags-some g m = eight (g / 16)
   where
     eight : (x : ℕ) → (x * 16 + 8) / 8 % 2 ≡ 1
     eight x = omega arith
+
+pub group-flags : (g : ℕ) (m : Option ℕ) → cgFlags g m ≡ groupFlagsDue g m
+unfolding groupFlagsDue
+group-flags g none = omega arith
+group-flags g (some m) = omega arith
+
+-- ---- the flags of a new CN: bit 1 is set exactly where an invalidation byte is kept, bit 12 is clear, the others are kept
+pub channel-flags : (g : ℕ) (t : Bool) → (t ≡ true → bit 1 g ≡ 1) → cnFlags g t ≡ channelFlagsDue g (pick t 1 0)
+unfolding channelFlagsDue
+channel-flags g true h =
+    let k : g / 2 % 2 ≡ 1 = h refl in
+    let p : g / 2 / 2 ≡ g / 4 = omega arith in
+    let q : g / 4 / 1024 ≡ g / 4096 = omega arith in
+    let r : g / 4096 / 2 ≡ g / 8192 = omega arith in
+    omega arith
+channel-flags g false h =
+    let p : g / 2 / 2 ≡ g / 4 = omega arith in
+    let q : g / 4 / 1024 ≡ g / 4096 = omega arith in
+    let r : g / 4096 / 2 ≡ g / 8192 = omega arith in
+    omega arith
+
+-- ---- the type of a new CN: "5 becomes 0"
+pub stored-type : (t : ℕ) → storedType (treatment t) t ≡ ifEq t 5 0 t
+unfolding treatment ifEq
+stored-type t = go (eqb t 4) (eqb t 5) refl refl
+  where
+    go : (a b : Bool) → eqb t 4 ≡ a → eqb t 5 ≡ b
+        → storedType (pick a Treatment.omit (pick b Treatment.asFixed Treatment.keep)) t ≡ pick b 0 t
+    go true true e k = absurd (omega (arith, eqb-true t 4 e, eqb-true t 5 k))
+    go true false e k = refl
+    go false true e k = refl
+    go false false e k = refl

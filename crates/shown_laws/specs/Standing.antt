@@ -1,5 +1,5 @@
 -- Bytes that stand at an address of a file: their parts, and the fields read there.
-use mathlib.Core.Path.{_≡_, sym, ap, _∙_}
+use mathlib.Core.Path.{_≡_, refl, sym, ap, _∙_}
 use mathlib.Core.List.{List, [], _∷_, _++_}
 use Prim.Native.Nat.{ℕ, zero, suc, _+_, _-_, _/_, _%_, _^_, _≤_, _<_}
 use native.Mathlib.Nat.{add-zero, sub-zero, zero-sub, suc-sub-suc, pow-zero, pow-suc, div-lt-iff-lt-mul}
@@ -9,6 +9,7 @@ use lib.ListN.{length, take, drop, getD, length-append}
 use lib.Seq.{take-take, drop-drop, take-append-seam, drop-append-seam, drop-nil, take-nil, take-length, getD-drop, getD-take}
 use Rattle.base.specs.Field.{leAt, le}
 use Rattle.base.specs.Blit.{part}
+use Rattle.base.specs.BlitLaws.{length-part}
 use Rattle.result.specs.Guarantee.{Stands}
 
 -- ---- parts of what stands
@@ -66,3 +67,30 @@ read {l} {a} (suc n) x s h =
     let t : Stands l (a + 1) (le n (x / 256)) = stands-back (x % 256 ∷ []) (le n (x / 256)) s in
     let i = read n (x / 256) t q in
     rw (byte-at (x % 256) (le n (x / 256)) s, i) (omega arith)
+
+-- ---- what is copied from another list s
+
+-- byte number j of what stands
+pub byte-of : {l : List ℕ} {a : ℕ} (bs : List ℕ) → Stands l a bs → (j : ℕ) → j < length bs → getD l (a + j) 0 ≡ getD bs j 0
+unfolding part
+byte-of {l} {a} bs s j h =
+    let e : getD (take (length bs) (drop a l)) j 0 ≡ getD bs j 0 = rw (s .is) refl in
+    sym (getD-drop a l j 0) ∙ sym (getD-take (length bs) (drop a l) j 0 h) ∙ e
+
+-- a field of m bytes inside of a part of s that stands
+pub field-copied : {f : List ℕ} {a : ℕ} (m : ℕ) (s : List ℕ) (b n i : ℕ) → Stands f a (part b n s) → b + n ≤ length s → i + m ≤ n
+    → leAt m f (a + i) ≡ leAt m s (b + i)
+unfolding leAt part
+field-copied zero s b n i st inside h = refl
+field-copied {f} {a} (suc m) s b n i st inside h =
+    let one : getD f (a + i) 0 ≡ getD s (b + i) 0 =
+    byte-of (take n (drop b s)) st i (rw (length-part b n s inside) (omega arith)) ∙ getD-take n (drop b s) i 0 (omega arith) ∙ getD-drop b s i 0 in
+    let more : leAt m f (a + (i + 1)) ≡ leAt m s (b + (i + 1)) = field-copied m s b n (i + 1) st inside (omega arith) in
+    let p : a + i + 1 ≡ a + (i + 1) = omega arith in
+    let q : b + i + 1 ≡ b + (i + 1) = omega arith in
+    rw (p, q, one, more)
+
+-- at addresses that are known otherwise
+pub field-at : {f : List ℕ} {a : ℕ} (m : ℕ) (s : List ℕ) (b n i x y : ℕ) → Stands f a (part b n s) → b + n ≤ length s → i + m ≤ n
+    → a + i ≡ x → b + i ≡ y → leAt m f x ≡ leAt m s y
+field-at m s b n i x y st inside h p q = rw (← p, ← q) (field-copied m s b n i st inside h)

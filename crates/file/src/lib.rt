@@ -1,0 +1,1 @@
+// Definitions of reading ranges of a column file's records; no code.

@@ -1,0 +1,1 @@
+// Closed examples of reading ranges of a column file; no code.

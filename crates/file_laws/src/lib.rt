@@ -1,0 +1,1 @@
+// Laws of reading ranges of a column file; no code.
