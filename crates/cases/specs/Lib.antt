@@ -1,2 +1,3 @@
 pub mod Starred
 pub mod Excluded
+pub mod Refuted

@@ -1,0 +1,250 @@
+-- Wrong converters that document 01's c excludes, at the worked example: what each leaves does not have the guarantee, whatever the list.
+use Prim.Native.Nat.{ℕ, _+_}
+use mathlib.Core.Bool.{Bool, true, false}
+use mathlib.Core.List.{List, [], _∷_, _++_}
+use mathlib.Core.Path.{_≡_, refl, sym, ap, _∙_}
+use native.Mathlib.Omega.{arith}
+use lib.Dec.{eqb}
+use lib.ListN.{replicate, length, getD, take, set}
+use borrow.Author.Tests.{eqb-true, eqb-false}
+use Rattle.base.specs.ChoiceLaws.{eq-no}
+use Rattle.base.specs.Blit as baseBlit
+use Rattle.base.specs.Checked as baseChecked
+use Rattle.base.specs.Choice as baseChoice
+use Rattle.base.specs.Field as baseField
+use Rattle.mdf.specs.Block as mdfBlock
+use Rattle.mdf.specs.Chain as mdfChain
+use Rattle.mdf.specs.Count as mdfCount
+use Rattle.mdf.specs.Group as mdfGroup
+use Rattle.mdf.specs.Identification as mdfIdentification
+use Rattle.mdf.specs.Name as mdfName
+use Rattle.mdf.specs.Records as mdfRecords
+use Rattle.mdf.specs.Walk as mdfWalk
+use Rattle.plan.specs.Channel as planChannel
+use Rattle.plan.specs.Columns as planColumns
+use Rattle.plan.specs.Copies as planCopies
+use Rattle.plan.specs.Data as planData
+use Rattle.plan.specs.Geometry as planGeometry
+use Rattle.plan.specs.Layout as planLayout
+use Rattle.result.specs.Fill as resultFill
+use Rattle.result.specs.Payload as resultPayload
+use Rattle.result.specs.Result as resultResult
+use Rattle.result.specs.Member.{In, here, there}
+use Rattle.result.specs.Recording.{leadsTo, reasonFor, OmissionDue}
+use Rattle.result.specs.Guarantee.{Stands, omissionsOf, columnsOf, Guaranteed}
+use Rattle.cases.specs.Starred.{image, args}
+
+-- the recording with its first sample changed
+abbrev other : resultResult.Args
+other = record { image = set image 192 9; blockSize = args .blockSize; ident = args .ident; text = args .text; time = args .time }
+
+abbrev fileIn : resultResult.Args → baseChecked.Checked resultResult.Decided → List ℕ
+fileIn x (baseChecked.ok d) = resultResult.fileOf x (d .laidOut)
+fileIn x (baseChecked.refused number place) = []
+
+-- with what was decided, the bytes f do not have the guarantee
+abbrev pub Refuted : resultResult.Args → baseChecked.Checked resultResult.Decided → List ℕ → Type 0
+Refuted x (baseChecked.ok d) f = (l : List ℕ) → Guaranteed x d f l → ⊥
+Refuted x (baseChecked.refused number place) f = ⊥
+
+-- ---- "a converter that accepts and writes nothing": HD is missing
+pub writes-nothing : Refuted args (resultResult.decided args) (replicate 1288 0)
+unfolding
+    baseBlit.part baseBlit.blit baseChoice.ifLt baseChoice.ifLe baseChoice.ifEq baseField.leAt baseField.le mdfBlock.kindAt mdfBlock.sizeAt
+    mdfBlock.linksAt mdfBlock.linkAt mdfBlock.firstLink mdfBlock.dataAt mdfBlock.headerIn mdfBlock.lengthIn mdfBlock.wholeAt mdfBlock.wantedAt
+    mdfBlock.blockAt mdfChain.leafOf mdfChain.added mdfChain.fragmentAt mdfChain.listed mdfChain.isIn mdfChain.listIn mdfChain.chainFrom
+    mdfChain.chain mdfCount.sizeDT mdfCount.sizeDV mdfCount.quotient mdfCount.sortedCount mdfCount.countOne mdfCount.ofGroup mdfCount.tallies
+    mdfCount.countGroups mdfCount.countsFrom mdfCount.counts mdfGroup.addresses mdfGroup.channelsOf mdfGroup.groupsOf mdfGroup.upTo
+    mdfGroup.dataGroupsOf mdfGroup.dataGroups mdfGroup.recordId mdfGroup.groupFlags mdfGroup.samples mdfGroup.invalBytes mdfGroup.isStorage
+    mdfIdentification.dropWhile mdfIdentification.trimmed mdfIdentification.firstPart mdfIdentification.pastDot mdfIdentification.digitsFrom
+    mdfIdentification.digits mdfIdentification.number mdfIdentification.versionOf mdfIdentification.isAscii mdfIdentification.versionIn
+    mdfIdentification.identified mdfName.textIn mdfName.nameAt mdfRecords.rangesIn mdfRecords.joined mdfRecords.placeOf mdfRecords.anyDV
+    mdfRecords.inFront mdfRecords.runs mdfRecords.sizeOf mdfRecords.runWhole mdfRecords.runsWhole mdfRecords.pieces mdfRecords.withoutIds
+    mdfRecords.runRecords mdfRecords.sortedRecords mdfRecords.sortedIn mdfRecords.withId mdfRecords.ofBytes mdfRecords.frameOf mdfRecords.frameAt
+    mdfRecords.framesFrom mdfRecords.frames mdfRecords.isIdOf mdfRecords.equalIds mdfRecords.unsortedFrames mdfRecords.unsortedRecords mdfWalk.isMet
+    mdfWalk.tally mdfWalk.visit mdfWalk.entered mdfWalk.level mdfWalk.belowCN mdfWalk.belowCG mdfWalk.idSize mdfWalk.idSizeIn mdfWalk.belowDG
+    mdfWalk.walk planChannel.channelType planChannel.bitOffset planChannel.byteOffset planChannel.bitCount planChannel.channelFlags
+    planChannel.invalPosition planChannel.channelBytes planChannel.fits planChannel.isMasterType planChannel.keepsInval planChannel.width
+    planChannel.invalBit planChannel.treatment planColumns.withCounts planColumns.srcGroups planColumns.firstMaster planColumns.masterOf
+    planColumns.remoteLink planColumns.groupAt planColumns.remoteTime planColumns.timeOf planColumns.timeColumn planColumns.withTime
+    planColumns.decideSignal planColumns.decideComposition planColumns.decide planColumns.planChannels planColumns.planGroup planColumns.planGroups
+    planColumns.plan planColumns.omissionAddresses planColumns.omissionReasons planColumns.omissionWords planCopies.copyOf planCopies.placed
+    planCopies.isCopied planCopies.lostLinks planCopies.copyLinks planCopies.copyAt planCopies.copyRoot planCopies.copyRoots planCopies.historyFrom
+    planCopies.historyOf planCopies.columnCopies planCopies.isAttached planCopies.attachmentIn planCopies.attach planCopies.attachmentsFrom
+    planCopies.attachmentsOf planData.isNonempty planData.anyNonempty planData.signalsIn planData.dataIn planData.allDataIn planData.blocksIn
+    planGeometry.align8 planGeometry.powerIn planGeometry.stepOf planGeometry.perBlock planGeometry.fullPayload planGeometry.blockCount
+    planGeometry.perFull planGeometry.blockPayload planLayout.columnWidth planLayout.columnBlocks planLayout.dlSize planLayout.structureSize
+    planLayout.payloadSize planLayout.blocksEnd planLayout.placedFrom planLayout.structureEnd planLayout.dataEnd planLayout.mdSize
+    planLayout.mdPlace planLayout.fhPlace planLayout.structurePlace planLayout.layout resultFill.header resultFill.words resultFill.newLink
+    resultFill.newLinks resultFill.historyLink resultFill.copiedLinks resultFill.dataOf resultFill.copiedBytes resultFill.copiedBlocks
+    resultFill.mdBytes resultFill.fhBytes resultFill.dgBytes resultFill.cgAt resultFill.cgData resultFill.cgBytes resultFill.cnData
+    resultFill.cnBytes resultFill.blockLinks resultFill.columnPayload resultFill.dlBytes resultFill.dlBlocks resultFill.structureBlocks
+    resultFill.framed resultFill.payloadBlocks resultFill.dataBlocks resultFill.atBytes resultFill.attachmentBlocks resultFill.hdData
+    resultFill.hdBytes resultPayload.recordsOf resultPayload.cell resultPayload.cells resultPayload.payloads resultPayload.columnPayloads
+    resultResult.hdBlock resultResult.blocksOf resultResult.flat resultResult.fileOf resultResult.sourceGroupsOf resultResult.timeColumns
+    resultResult.blocksWritten resultResult.report resultResult.lentIn resultResult.decided resultResult.answer resultResult.workIn
+    resultResult.zeros resultResult.convert
+writes-nothing l g =
+    let z : _≡_ {A = ℕ} 0 35 = ap (λ (bs : List ℕ). getD bs 0 0) (g .filled _ (there here) .is) in
+    omega (arith, z)
+
+-- ---- "one that fills only the first column": the second column's first data block is missing
+pub fills-the-first : Refuted args (resultResult.decided args) (take 1176 (fileIn args (resultResult.decided args)) ++ replicate 112 0)
+unfolding
+    baseBlit.part baseBlit.blit baseChoice.ifLt baseChoice.ifLe baseChoice.ifEq baseField.leAt baseField.le mdfBlock.kindAt mdfBlock.sizeAt
+    mdfBlock.linksAt mdfBlock.linkAt mdfBlock.firstLink mdfBlock.dataAt mdfBlock.headerIn mdfBlock.lengthIn mdfBlock.wholeAt mdfBlock.wantedAt
+    mdfBlock.blockAt mdfChain.leafOf mdfChain.added mdfChain.fragmentAt mdfChain.listed mdfChain.isIn mdfChain.listIn mdfChain.chainFrom
+    mdfChain.chain mdfCount.sizeDT mdfCount.sizeDV mdfCount.quotient mdfCount.sortedCount mdfCount.countOne mdfCount.ofGroup mdfCount.tallies
+    mdfCount.countGroups mdfCount.countsFrom mdfCount.counts mdfGroup.addresses mdfGroup.channelsOf mdfGroup.groupsOf mdfGroup.upTo
+    mdfGroup.dataGroupsOf mdfGroup.dataGroups mdfGroup.recordId mdfGroup.groupFlags mdfGroup.samples mdfGroup.invalBytes mdfGroup.isStorage
+    mdfIdentification.dropWhile mdfIdentification.trimmed mdfIdentification.firstPart mdfIdentification.pastDot mdfIdentification.digitsFrom
+    mdfIdentification.digits mdfIdentification.number mdfIdentification.versionOf mdfIdentification.isAscii mdfIdentification.versionIn
+    mdfIdentification.identified mdfName.textIn mdfName.nameAt mdfRecords.rangesIn mdfRecords.joined mdfRecords.placeOf mdfRecords.anyDV
+    mdfRecords.inFront mdfRecords.runs mdfRecords.sizeOf mdfRecords.runWhole mdfRecords.runsWhole mdfRecords.pieces mdfRecords.withoutIds
+    mdfRecords.runRecords mdfRecords.sortedRecords mdfRecords.sortedIn mdfRecords.withId mdfRecords.ofBytes mdfRecords.frameOf mdfRecords.frameAt
+    mdfRecords.framesFrom mdfRecords.frames mdfRecords.isIdOf mdfRecords.equalIds mdfRecords.unsortedFrames mdfRecords.unsortedRecords mdfWalk.isMet
+    mdfWalk.tally mdfWalk.visit mdfWalk.entered mdfWalk.level mdfWalk.belowCN mdfWalk.belowCG mdfWalk.idSize mdfWalk.idSizeIn mdfWalk.belowDG
+    mdfWalk.walk planChannel.channelType planChannel.bitOffset planChannel.byteOffset planChannel.bitCount planChannel.channelFlags
+    planChannel.invalPosition planChannel.channelBytes planChannel.fits planChannel.isMasterType planChannel.keepsInval planChannel.width
+    planChannel.invalBit planChannel.treatment planColumns.withCounts planColumns.srcGroups planColumns.firstMaster planColumns.masterOf
+    planColumns.remoteLink planColumns.groupAt planColumns.remoteTime planColumns.timeOf planColumns.timeColumn planColumns.withTime
+    planColumns.decideSignal planColumns.decideComposition planColumns.decide planColumns.planChannels planColumns.planGroup planColumns.planGroups
+    planColumns.plan planColumns.omissionAddresses planColumns.omissionReasons planColumns.omissionWords planCopies.copyOf planCopies.placed
+    planCopies.isCopied planCopies.lostLinks planCopies.copyLinks planCopies.copyAt planCopies.copyRoot planCopies.copyRoots planCopies.historyFrom
+    planCopies.historyOf planCopies.columnCopies planCopies.isAttached planCopies.attachmentIn planCopies.attach planCopies.attachmentsFrom
+    planCopies.attachmentsOf planData.isNonempty planData.anyNonempty planData.signalsIn planData.dataIn planData.allDataIn planData.blocksIn
+    planGeometry.align8 planGeometry.powerIn planGeometry.stepOf planGeometry.perBlock planGeometry.fullPayload planGeometry.blockCount
+    planGeometry.perFull planGeometry.blockPayload planLayout.columnWidth planLayout.columnBlocks planLayout.dlSize planLayout.structureSize
+    planLayout.payloadSize planLayout.blocksEnd planLayout.placedFrom planLayout.structureEnd planLayout.dataEnd planLayout.mdSize
+    planLayout.mdPlace planLayout.fhPlace planLayout.structurePlace planLayout.layout resultFill.header resultFill.words resultFill.newLink
+    resultFill.newLinks resultFill.historyLink resultFill.copiedLinks resultFill.dataOf resultFill.copiedBytes resultFill.copiedBlocks
+    resultFill.mdBytes resultFill.fhBytes resultFill.dgBytes resultFill.cgAt resultFill.cgData resultFill.cgBytes resultFill.cnData
+    resultFill.cnBytes resultFill.blockLinks resultFill.columnPayload resultFill.dlBytes resultFill.dlBlocks resultFill.structureBlocks
+    resultFill.framed resultFill.payloadBlocks resultFill.dataBlocks resultFill.atBytes resultFill.attachmentBlocks resultFill.hdData
+    resultFill.hdBytes resultPayload.recordsOf resultPayload.cell resultPayload.cells resultPayload.payloads resultPayload.columnPayloads
+    resultResult.hdBlock resultResult.blocksOf resultResult.flat resultResult.fileOf resultResult.sourceGroupsOf resultResult.timeColumns
+    resultResult.blocksWritten resultResult.report resultResult.lentIn resultResult.decided resultResult.answer resultResult.workIn
+    resultResult.zeros resultResult.convert
+fills-the-first l g =
+    let i : In _ _ = there (there (there (there (there (there (there (there (there (there (there (there (there (there here))))))))))))) in
+    let z : _≡_ {A = ℕ} 0 35 = ap (λ (bs : List ℕ). getD bs 0 0) (g .filled _ i .is) in
+    omega (arith, z)
+
+-- ---- "one that gives every recording one stock file": the other recording's first sample is 9
+pub stock-file : Refuted other (resultResult.decided other) (fileIn args (resultResult.decided args))
+unfolding
+    baseBlit.part baseBlit.blit baseChoice.ifLt baseChoice.ifLe baseChoice.ifEq baseField.leAt baseField.le mdfBlock.kindAt mdfBlock.sizeAt
+    mdfBlock.linksAt mdfBlock.linkAt mdfBlock.firstLink mdfBlock.dataAt mdfBlock.headerIn mdfBlock.lengthIn mdfBlock.wholeAt mdfBlock.wantedAt
+    mdfBlock.blockAt mdfChain.leafOf mdfChain.added mdfChain.fragmentAt mdfChain.listed mdfChain.isIn mdfChain.listIn mdfChain.chainFrom
+    mdfChain.chain mdfCount.sizeDT mdfCount.sizeDV mdfCount.quotient mdfCount.sortedCount mdfCount.countOne mdfCount.ofGroup mdfCount.tallies
+    mdfCount.countGroups mdfCount.countsFrom mdfCount.counts mdfGroup.addresses mdfGroup.channelsOf mdfGroup.groupsOf mdfGroup.upTo
+    mdfGroup.dataGroupsOf mdfGroup.dataGroups mdfGroup.recordId mdfGroup.groupFlags mdfGroup.samples mdfGroup.invalBytes mdfGroup.isStorage
+    mdfIdentification.dropWhile mdfIdentification.trimmed mdfIdentification.firstPart mdfIdentification.pastDot mdfIdentification.digitsFrom
+    mdfIdentification.digits mdfIdentification.number mdfIdentification.versionOf mdfIdentification.isAscii mdfIdentification.versionIn
+    mdfIdentification.identified mdfName.textIn mdfName.nameAt mdfRecords.rangesIn mdfRecords.joined mdfRecords.placeOf mdfRecords.anyDV
+    mdfRecords.inFront mdfRecords.runs mdfRecords.sizeOf mdfRecords.runWhole mdfRecords.runsWhole mdfRecords.pieces mdfRecords.withoutIds
+    mdfRecords.runRecords mdfRecords.sortedRecords mdfRecords.sortedIn mdfRecords.withId mdfRecords.ofBytes mdfRecords.frameOf mdfRecords.frameAt
+    mdfRecords.framesFrom mdfRecords.frames mdfRecords.isIdOf mdfRecords.equalIds mdfRecords.unsortedFrames mdfRecords.unsortedRecords mdfWalk.isMet
+    mdfWalk.tally mdfWalk.visit mdfWalk.entered mdfWalk.level mdfWalk.belowCN mdfWalk.belowCG mdfWalk.idSize mdfWalk.idSizeIn mdfWalk.belowDG
+    mdfWalk.walk planChannel.channelType planChannel.bitOffset planChannel.byteOffset planChannel.bitCount planChannel.channelFlags
+    planChannel.invalPosition planChannel.channelBytes planChannel.fits planChannel.isMasterType planChannel.keepsInval planChannel.width
+    planChannel.invalBit planChannel.treatment planColumns.withCounts planColumns.srcGroups planColumns.firstMaster planColumns.masterOf
+    planColumns.remoteLink planColumns.groupAt planColumns.remoteTime planColumns.timeOf planColumns.timeColumn planColumns.withTime
+    planColumns.decideSignal planColumns.decideComposition planColumns.decide planColumns.planChannels planColumns.planGroup planColumns.planGroups
+    planColumns.plan planColumns.omissionAddresses planColumns.omissionReasons planColumns.omissionWords planCopies.copyOf planCopies.placed
+    planCopies.isCopied planCopies.lostLinks planCopies.copyLinks planCopies.copyAt planCopies.copyRoot planCopies.copyRoots planCopies.historyFrom
+    planCopies.historyOf planCopies.columnCopies planCopies.isAttached planCopies.attachmentIn planCopies.attach planCopies.attachmentsFrom
+    planCopies.attachmentsOf planData.isNonempty planData.anyNonempty planData.signalsIn planData.dataIn planData.allDataIn planData.blocksIn
+    planGeometry.align8 planGeometry.powerIn planGeometry.stepOf planGeometry.perBlock planGeometry.fullPayload planGeometry.blockCount
+    planGeometry.perFull planGeometry.blockPayload planLayout.columnWidth planLayout.columnBlocks planLayout.dlSize planLayout.structureSize
+    planLayout.payloadSize planLayout.blocksEnd planLayout.placedFrom planLayout.structureEnd planLayout.dataEnd planLayout.mdSize
+    planLayout.mdPlace planLayout.fhPlace planLayout.structurePlace planLayout.layout resultFill.header resultFill.words resultFill.newLink
+    resultFill.newLinks resultFill.historyLink resultFill.copiedLinks resultFill.dataOf resultFill.copiedBytes resultFill.copiedBlocks
+    resultFill.mdBytes resultFill.fhBytes resultFill.dgBytes resultFill.cgAt resultFill.cgData resultFill.cgBytes resultFill.cnData
+    resultFill.cnBytes resultFill.blockLinks resultFill.columnPayload resultFill.dlBytes resultFill.dlBlocks resultFill.structureBlocks
+    resultFill.framed resultFill.payloadBlocks resultFill.dataBlocks resultFill.atBytes resultFill.attachmentBlocks resultFill.hdData
+    resultFill.hdBytes resultPayload.recordsOf resultPayload.cell resultPayload.cells resultPayload.payloads resultPayload.columnPayloads
+    resultResult.hdBlock resultResult.blocksOf resultResult.flat resultResult.fileOf resultResult.sourceGroupsOf resultResult.timeColumns
+    resultResult.blocksWritten resultResult.report resultResult.lentIn resultResult.decided resultResult.answer resultResult.workIn
+    resultResult.zeros resultResult.convert
+stock-file l g =
+    let i : In _ _ = there (there (there (there (there (there (there (there (there (there (there (there here))))))))))) in
+    let z : _≡_ {A = ℕ} 0 9 = ap (λ (bs : List ℕ). getD bs 24 0) (g .filled _ i .is) in
+    omega (arith, z)
+
+-- ---- "one that omits each channel": the signal has no reason to be omitted, whatever is listed, placed and written
+
+-- an omission about c
+record About (c : ℕ) (os : List planColumns.Omission) : Type 0 where
+  omission : planColumns.Omission
+  isIn : In omission os
+  isAt : omission .at ≡ c
+
+about : (c : ℕ) (os : List planColumns.Omission) → omissionsOf c os ≡ 1 → About c os
+unfolding omissionsOf
+about c [] e = absurd (omega arith)
+about c (o ∷ os) e = go (about c os) (eqb (o .at) c) refl
+  where
+    go : (omissionsOf c os ≡ 1 → About c os) → (t : Bool) → eqb (o .at) c ≡ t → About c (o ∷ os)
+    go later true q = record { omission = o; isIn = here; isAt = eqb-true (o .at) c q }
+    go later false q =
+        let z : _≡_ {A = ℕ} 0 (baseChoice.ifEq (o .at) c 1 0) = eq-no _ _ _ _ (eqb-false (o .at) c q) refl in
+        let r = later (omega (arith, e, z)) in
+        record { omission = r .omission; isIn = there (r .isIn); isAt = r .isAt }
+
+-- the signal, at 336 in the group at 656, is omitted for no reason
+no-reason : (gs : List planColumns.SrcGroup) (o : planColumns.Omission) → ((h : planColumns.SrcGroup) → In h gs → h .at ≡ 656) → o .at ≡ 336
+    → reasonFor image 656 336 ≡ 0 → OmissionDue image gs o → ⊥
+no-reason gs o k a r (OmissionDue.ofChannel h i s c e z) = z (e ∙ ap (λ (x : ℕ). reasonFor image x (o .at)) (k h i) ∙ ap (reasonFor image 656) a ∙ r)
+no-reason gs o k a r (OmissionDue.ofGroup h i s q e d) = omega (arith, a, q, k h i)
+
+-- the only member
+one-at : (g h : planColumns.SrcGroup) → In h (g ∷ []) → h .at ≡ g .at
+one-at g h here = refl
+
+-- whatever omissions, places, bytes and list
+abbrev pub OmitsEach : baseChecked.Checked resultResult.Decided → Type 0
+OmitsEach (baseChecked.ok d) =
+    (os : List planColumns.Omission) (n : ℕ) (p : planLayout.Layout) (f l : List ℕ)
+    → Guaranteed args (record { groups = d .groups; planned = record { columns = []; omissions = os; fragments = n }; laidOut = p }) f l → ⊥
+OmitsEach (baseChecked.refused number place) = ⊥
+
+pub omits-each : OmitsEach (resultResult.decided args)
+unfolding
+    baseBlit.part baseBlit.blit baseChoice.ifLt baseChoice.ifLe baseChoice.ifEq baseField.leAt baseField.le mdfBlock.kindAt mdfBlock.sizeAt
+    mdfBlock.linksAt mdfBlock.linkAt mdfBlock.firstLink mdfBlock.dataAt mdfBlock.headerIn mdfBlock.lengthIn mdfBlock.wholeAt mdfBlock.wantedAt
+    mdfBlock.blockAt mdfChain.leafOf mdfChain.added mdfChain.fragmentAt mdfChain.listed mdfChain.isIn mdfChain.listIn mdfChain.chainFrom
+    mdfChain.chain mdfCount.sizeDT mdfCount.sizeDV mdfCount.quotient mdfCount.sortedCount mdfCount.countOne mdfCount.ofGroup mdfCount.tallies
+    mdfCount.countGroups mdfCount.countsFrom mdfCount.counts mdfGroup.addresses mdfGroup.channelsOf mdfGroup.groupsOf mdfGroup.upTo
+    mdfGroup.dataGroupsOf mdfGroup.dataGroups mdfGroup.recordId mdfGroup.groupFlags mdfGroup.samples mdfGroup.invalBytes mdfGroup.isStorage
+    mdfIdentification.dropWhile mdfIdentification.trimmed mdfIdentification.firstPart mdfIdentification.pastDot mdfIdentification.digitsFrom
+    mdfIdentification.digits mdfIdentification.number mdfIdentification.versionOf mdfIdentification.isAscii mdfIdentification.versionIn
+    mdfIdentification.identified mdfName.textIn mdfName.nameAt mdfRecords.rangesIn mdfRecords.joined mdfRecords.placeOf mdfRecords.anyDV
+    mdfRecords.inFront mdfRecords.runs mdfRecords.sizeOf mdfRecords.runWhole mdfRecords.runsWhole mdfRecords.pieces mdfRecords.withoutIds
+    mdfRecords.runRecords mdfRecords.sortedRecords mdfRecords.sortedIn mdfRecords.withId mdfRecords.ofBytes mdfRecords.frameOf mdfRecords.frameAt
+    mdfRecords.framesFrom mdfRecords.frames mdfRecords.isIdOf mdfRecords.equalIds mdfRecords.unsortedFrames mdfRecords.unsortedRecords mdfWalk.isMet
+    mdfWalk.tally mdfWalk.visit mdfWalk.entered mdfWalk.level mdfWalk.belowCN mdfWalk.belowCG mdfWalk.idSize mdfWalk.idSizeIn mdfWalk.belowDG
+    mdfWalk.walk planChannel.channelType planChannel.bitOffset planChannel.byteOffset planChannel.bitCount planChannel.channelFlags
+    planChannel.invalPosition planChannel.channelBytes planChannel.fits planChannel.isMasterType planChannel.keepsInval planChannel.width
+    planChannel.invalBit planChannel.treatment planColumns.withCounts planColumns.srcGroups planColumns.firstMaster planColumns.masterOf
+    planColumns.remoteLink planColumns.groupAt planColumns.remoteTime planColumns.timeOf planColumns.timeColumn planColumns.withTime
+    planColumns.decideSignal planColumns.decideComposition planColumns.decide planColumns.planChannels planColumns.planGroup planColumns.planGroups
+    planColumns.plan planColumns.omissionAddresses planColumns.omissionReasons planColumns.omissionWords planCopies.copyOf planCopies.placed
+    planCopies.isCopied planCopies.lostLinks planCopies.copyLinks planCopies.copyAt planCopies.copyRoot planCopies.copyRoots planCopies.historyFrom
+    planCopies.historyOf planCopies.columnCopies planCopies.isAttached planCopies.attachmentIn planCopies.attach planCopies.attachmentsFrom
+    planCopies.attachmentsOf planData.isNonempty planData.anyNonempty planData.signalsIn planData.dataIn planData.allDataIn planData.blocksIn
+    planGeometry.align8 planGeometry.powerIn planGeometry.stepOf planGeometry.perBlock planGeometry.fullPayload planGeometry.blockCount
+    planGeometry.perFull planGeometry.blockPayload planLayout.columnWidth planLayout.columnBlocks planLayout.dlSize planLayout.structureSize
+    planLayout.payloadSize planLayout.blocksEnd planLayout.placedFrom planLayout.structureEnd planLayout.dataEnd planLayout.mdSize
+    planLayout.mdPlace planLayout.fhPlace planLayout.structurePlace planLayout.layout resultFill.header resultFill.words resultFill.newLink
+    resultFill.newLinks resultFill.historyLink resultFill.copiedLinks resultFill.dataOf resultFill.copiedBytes resultFill.copiedBlocks
+    resultFill.mdBytes resultFill.fhBytes resultFill.dgBytes resultFill.cgAt resultFill.cgData resultFill.cgBytes resultFill.cnData
+    resultFill.cnBytes resultFill.blockLinks resultFill.columnPayload resultFill.dlBytes resultFill.dlBlocks resultFill.structureBlocks
+    resultFill.framed resultFill.payloadBlocks resultFill.dataBlocks resultFill.atBytes resultFill.attachmentBlocks resultFill.hdData
+    resultFill.hdBytes resultPayload.recordsOf resultPayload.cell resultPayload.cells resultPayload.payloads resultPayload.columnPayloads
+    resultResult.hdBlock resultResult.blocksOf resultResult.flat resultResult.fileOf resultResult.sourceGroupsOf resultResult.timeColumns
+    resultResult.blocksWritten resultResult.report resultResult.lentIn resultResult.decided resultResult.answer resultResult.workIn
+    resultResult.zeros resultResult.convert columnsOf leadsTo reasonFor
+omits-each os n p f l g =
+    let r = about 336 os (omega (arith, g .once _ here refl 336 (there here))) in
+    no-reason _ (r .omission) (λ h i. one-at _ h i) (r .isAt) refl (g .omitted (r .omission) (r .isIn))
