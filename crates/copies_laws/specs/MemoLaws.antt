@@ -1,23 +1,27 @@
 -- Which blocks are copied: whatever a link that is followed leads to, if it is of a copied kind, and nothing else.
 use Prim.Native.Nat.{ℕ, zero, suc, _+_, _*_, _-_, _≤_, _<_}
-use mathlib.Core.List.{List, [], _∷_, _++_}
+use mathlib.Core.List.{List, [], _∷_, _++_, append-nil}
 use mathlib.Core.Option.{Option, none, some}
 use mathlib.Core.Bool.{Bool, true, false, false≢true}
 use mathlib.Core.Path.{_≡_, refl, sym, ap, _∙_, subst}
 use mathlib.Core.Logic.{_⊎_, inl, inr}
 use native.Mathlib.Omega.{arith}
 use lib.Dec.{eqb}
-use lib.ListN.{length}
+use lib.ListN.{length, length-append}
+use lib.Seq.{append-snoc}
 use borrow.Author.Tests.{eq-eqb, eqb-true, eqb-false}
 use Rattle.base.specs.Choice.{pick, ifLt, ifEq}
-use Rattle.base.specs.ChoiceLaws.{lt-first, eq-yes, eq-no}
+use Rattle.base.specs.ChoiceLaws.{lt-yes, lt-first, eq-yes, eq-no}
 use Rattle.base.specs.Field.{leAt}
 use Rattle.base.specs.Checked.{Checked, ok, refused, andThen}
-use Rattle.mdf.specs.Block.{kindAt, sizeAt, linksAt, linkAt, firstLink, wholeAt, headerIn}
+use Rattle.mdf.specs.Block.{kindTX, kindMD, kindAt, sizeAt, linksAt, linkAt, firstLink, wholeAt, headerIn}
 use Rattle.mdf.specs.Chain.{isIn}
 use Rattle.plan.specs.Columns.{Column}
 use Rattle.plan.specs.Geometry.{align8}
 use Rattle.plan.specs.Copies.{
+  kindCC,
+  kindSI,
+  kindFH,
   kindAT,
   Copy,
   Copies,
@@ -47,6 +51,7 @@ use Rattle.plan.specs.Copies.{
   attachmentsFrom,
   attachmentsOf,
 }
+use Rattle.result.specs.Names.{CopiedKind, isTX, isMD, isCC, isSI, isFH, Leads, Ended, noCopy, again, many, ChainDue}
 use Rattle.result.specs.Guarantee.{In, here, there}
 use Rattle.copies_laws.specs.CopyLaws.{fresh}
 use Rattle.copies_laws.specs.AnswerLaws.{refused≢ok, ok-same, then-ok, eq-back, by-eq, by-pick, pick-second, Whole, whole-fits}
@@ -90,6 +95,28 @@ copy-last a t (c ∷ cs) = go (eqb (c .from) a) (copy-last a t cs)
         → (u : ℕ) × (pick b (some (c .to)) (copyOf a (cs ++ (record { from = a; to = t } ∷ []))) ≡ some u)
     go true h = (c .to, refl)
     go false h = h
+
+-- ---- copied kinds
+pub kind-copied : (k : ℕ) → CopiedKind k → isCopied k ≡ true
+unfolding isCopied
+kind-copied k (isTX e) = rw e
+kind-copied k (isMD e) = rw e
+kind-copied k (isCC e) = rw e
+kind-copied k (isSI e) = rw e
+kind-copied k (isFH e) = rw e
+
+pub copied-kind : (k : ℕ) → isCopied k ≡ true → CopiedKind k
+unfolding isCopied
+copied-kind k e = go (eqb k kindTX) (eqb k kindMD) (eqb k kindCC) (eqb k kindSI) (eqb k kindFH) refl refl refl refl refl e
+  where
+    go : (a b c d f : Bool) → eqb k kindTX ≡ a → eqb k kindMD ≡ b → eqb k kindCC ≡ c → eqb k kindSI ≡ d → eqb k kindFH ≡ f
+        → pick a true (pick b true (pick c true (pick d true f))) ≡ true → CopiedKind k
+    go true b c d f p q r t u h = isTX (eqb-true k kindTX p)
+    go false true c d f p q r t u h = isMD (eqb-true k kindMD q)
+    go false false true d f p q r t u h = isCC (eqb-true k kindCC r)
+    go false false false true f p q r t u h = isSI (eqb-true k kindSI t)
+    go false false false false true p q r t u h = isFH (eqb-true k kindFH u)
+    go false false false false false p q r t u h = absurd (false≢true h)
 
 -- ---- what is copied
 
@@ -162,6 +189,10 @@ on-zero {A} {P} {r} m n a b e f g = go (eqb m n) refl
     go : (t : Bool) → eqb m n ≡ t → P
     go true q = let z = eqb-true m n q in f z (eq-yes m n a b z refl ∙ e)
     go false q = let z = eqb-false m n q in g z (eq-no m n a b z refl ∙ e)
+
+on-pick : {A P : Type 0} {r : A} (t : Bool) (a b : A) → pick t a b ≡ r → (t ≡ true → a ≡ r → P) → (t ≡ false → b ≡ r → P) → P
+on-pick true a b e f g = f refl e
+on-pick false a b e f g = g refl e
 
 not-in : {A : Type 0} {a : A} → In a [] → ⊥
 not-in = elim [ ]
@@ -266,6 +297,60 @@ history-kept (suc turns) s a h h' e =
 pub past-kept : (s : List ℕ) (a : ℕ) (m : Copies) (h : History) → historyOf s a m ≡ ok h → Kept s (m .memo) (h .made .memo)
 unfolding historyOf
 past-kept s a m h e = history-kept (mostCopies + 1) s a (history [] m) h e
+
+-- the blocks of the chain, from a on
+pub record Listed (s : List ℕ) (h h' : History) (a : ℕ) : Type 0 where
+  pub more : List ℕ
+  pub chain : h' .chain ≡ h .chain ++ more
+  pub due : ChainDue s (h .chain) more a
+  pub followed : (b : ℕ) → In b more → Followed s (h' .made .memo) b
+  pub linked : (b : ℕ) → In b more → 0 < linksAt s b
+
+none-listed : (s : List ℕ) (a : ℕ) (h h' : History) → Ended s (h .chain) a → ok h ≡ ok h' → Listed s h h' a
+unfolding ChainDue
+none-listed s a h h' e q =
+    record {
+      more = [];
+      chain = ap (λ (x : History). x .chain) (sym (ok-same q)) ∙ sym (append-nil (h .chain));
+      due = e;
+      followed = λ b i. absurd (not-in i);
+      linked = λ b i. absurd (not-in i);
+    }
+
+one-listed : (s : List ℕ) (a : ℕ) (h h' : History) (m : Copies) → (a ≡ 0 → ⊥) → isCopied (kindAt s a) ≡ true → isIn a (h .chain) ≡ false
+    → (linksAt s a ≡ 0 → ⊥) → Followed s (h' .made .memo) a → Listed s (history (h .chain ++ (a ∷ [])) m) h' (firstLink s a) → Listed s h h' a
+unfolding ChainDue firstLink
+one-listed s a h h' m z k n l f r =
+    let first : firstLink s a ≡ linkAt s a 0 = sym (lt-yes _ _ _ _ (omega arith) refl) in
+    record {
+      more = a ∷ r .more;
+      chain = r .chain ∙ append-snoc (h .chain) a (r .more);
+      due = (refl, record { nonzero = z; kind = copied-kind (kindAt s a) k }, n, rw first at (r .due));
+      followed = in-each f (r .followed);
+      linked = in-each (positive (linksAt s a) l) (r .linked);
+    }
+  where
+    positive : (n : ℕ) → (n ≡ 0 → ⊥) → 0 < n
+    positive n q = omega arith
+
+history-listed : (turns : ℕ) (s : List ℕ) (a : ℕ) (h h' : History) → 2049 ≤ turns + length (h .chain) → historyFrom turns s a h ≡ ok h' → Listed s h h' a
+unfolding historyFrom
+history-listed zero s a h h' t e = none-listed s a h h' (many (omega arith)) e
+history-listed (suc turns) s a h h' t e =
+    on-zero a 0 _ _ e (λ z q. none-listed s a h h' (noCopy (λ l. l .nonzero z)) q) (λ z q.
+    on-pick (isIn a (h .chain)) _ _ q (λ i r. none-listed s a h h' (again i) r) (λ i r.
+    let w = then-ok (wholeAt s a) _ r in
+    on-pick (isCopied (kindAt s a)) _ _ (w .2) (λ k u.
+    on-zero (linksAt s a) 0 _ _ u (λ _ v. absurd (refused≢ok v)) (λ l v.
+    let m = then-ok (copyRoot s a (h .made)) _ v in
+    let more = history-listed turns s (firstLink s a) (history (h .chain ++ (a ∷ [])) (m .0)) h' (rw length-append (omega arith)) (m .2) in
+    one-listed s a h h' (m .0) z k i l
+    (followed-kept (history-kept turns s (firstLink s a) _ h' (m .2)) a (root-kept s a (h .made) (m .0) (m .1) .1)) more))
+    (λ k u. none-listed s a h h' (noCopy (λ l. false≢true (sym k ∙ kind-copied (kindAt s a) (l .kind)))) u)))
+
+pub past-listed : (s : List ℕ) (a : ℕ) (m : Copies) (h : History) → historyOf s a m ≡ ok h → Listed s (history [] m) h a
+unfolding historyOf
+past-listed s a m h e = history-listed (mostCopies + 1) s a (history [] m) h (omega arith) e
 
 -- ---- attachments
 attachments-kept : (turns : ℕ) (s : List ℕ) (a : ℕ) (t t' : Attached) → attachmentsFrom turns s a t ≡ ok t' → Kept s (t .made .memo) (t' .made .memo)

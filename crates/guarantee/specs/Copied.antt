@@ -12,18 +12,19 @@ use Rattle.plan.specs.Copies.{Copy, Attachment, columnLinks}
 use Rattle.plan.specs.Layout.{Layout, Placed, cgOf, cnOf}
 use Rattle.result.specs.Fill.{Block, block, copiedBytes, copiedBlocks, attachmentBlocks, dgBytes, cgBytes, cnBytes, structureBlocks, dlBlocks, dataBlocks, nextDG, newLink, mdBytes, fhBytes}
 use Rattle.result.specs.Ordered.{Ordered}
-use Rattle.result.specs.Result.{Args, memoOf, hdBlock, blocksOf}
-use Rattle.result.specs.Names.{LinkDue, NamesDue}
+use Rattle.result.specs.Result.{Args, memoOf, firstFH, hdBlock, blocksOf}
+use Rattle.result.specs.Names.{LinkDue, NamesDue, ChainDue, HistoryDue, NewHistory}
 use Rattle.result.specs.Guarantee.{Stands, In, here, there}
 use Rattle.copies_laws.specs.AttachLaws.{ownCopies}
 use Rattle.copies_laws.specs.LayoutLaws.{LaidOut, columns-after-history, attachments-laid}
-use Rattle.copies_laws.specs.MemoLaws.{Followed, Made, Kept, followed-kept, kept-then, root-kept, past-kept, columns-kept, attached-kept}
+use Rattle.copies_laws.specs.MemoLaws.{Followed, Made, Kept, followed-kept, kept-then, root-kept, past-kept, columns-kept, attached-kept, past-listed}
 use Rattle.plan_laws.specs.Lists.{in-none}
 use Rattle.shown_laws.specs.Flat.{in-front, in-back}
-use Rattle.shown_laws.specs.AllShown.{structure, afterHD, in-rest, in-later, in-structure, in-history, in-columns, in-attachments, rest-within}
+use Rattle.shown_laws.specs.AllShown.{structure, afterHD, in-rest, in-later, in-structure, in-md, in-fh, in-history, in-columns, in-attachments, rest-within}
 use Rattle.shown_laws.specs.Shapes.{hdLinks, dgLinks, cgWords, cnLinks}
 use Rattle.shown_laws.specs.ColumnShown.{ColumnSound, dg-link, cg-link, cn-link}
 use Rattle.guarantee.specs.Front.{hd-link}
+use Rattle.guarantee.specs.Past.{first-small, history-due, new-history}
 use Rattle.guarantee.specs.Named.{CopyStands, new-small, link-due}
 
 -- ---- which blocks of the file copies are
@@ -89,6 +90,12 @@ module _ (x : Args) (cs : List Column) (l : Layout) (o : LaidOut (x .image) (x .
       (kept-then (past-kept (x .image) _ _ _ (o .past)) (kept-then (columns-kept (x .image) cs _ _ (o .metadata) .0) columns-all)) .made
       (λ c i. absurd (in-none i))
 
+  pub chain-due : ChainDue (x .image) [] (l .past .chain) (linkAt (x .image) 64 1)
+  chain-due =
+      let m = past-listed (x .image) _ _ _ (o .past) in
+      let chained : l .past .chain ≡ m .more = m .chain in
+      rw chained (m .due)
+
   pub comment-followed : Followed (x .image) (memoOf l) (linkAt (x .image) 64 5)
   comment-followed =
       followed-kept (kept-then (past-kept (x .image) _ _ _ (o .past)) (kept-then (columns-kept (x .image) cs _ _ (o .metadata) .0) columns-all)) _
@@ -121,6 +128,25 @@ module _ (x : Args) (cs : List Column) (l : Layout) (o : LaidOut (x .image) (x .
     pub comment-due : (k : ℕ) → LinkDue k (x .image) f (l .past .chain) (linkAt (x .image) 64 5) (linkAt f 64 5)
     unfolding hdLinks
     comment-due k = rw (hd-link x l f filled 5 (lit< tt) (led-small _)) (link-led k _ comment-followed)
+
+    -- the history
+    pub past-due : HistoryDue (x .image) f (l .fh) (l .past .chain) (linkAt f 64 1)
+    unfolding hdLinks
+    past-due =
+        let s : List ℕ = x .image in
+        let m = past-listed s _ _ _ (o .past) in
+        let small : l .fh < 256 ^ 8 = omega (arith, rest-within x l order (in-fh x l) .1, small) in
+        let chained : l .past .chain ≡ m .more = m .chain in
+        let keeps = kept-then (columns-kept s cs _ _ (o .metadata) .0) columns-all in
+        let due : HistoryDue s f (l .fh) (l .past .chain) (firstFH (memoOf l) (l .past .chain) (l .fh)) =
+        history-due s f bytes (l .past .chain) (memoOf l) (l .fh) copy-stands small [] (l .past .chain) (linkAt s 64 1) refl (rw chained (m .due))
+        (λ b i. followed-kept keeps b (m .followed b (subst (In b) chained i))) (λ b i. m .linked b (subst (In b) chained i)) in
+        rw (hd-link x l f filled 1 (lit< tt)
+        (first-small s f bytes (l .past .chain) (memoOf l) (l .fh) copy-stands small (l .past .chain))) due
+
+    pub newest-due : NewHistory x f (l .fh)
+    newest-due =
+        new-history x l f (omega (arith, rest-within x l order (in-md x l) .1, small)) (filled _ (in-rest x l (in-md x l))) (filled _ (in-rest x l (in-fh x l)))
 
     -- "per column the copies of CG links 3, 4, 6, CN links 3, 4, 5, 7, 8, the DG comment"
     module _ (p : Placed) (i : In p (l .placed)) (c : In (p .column) cs) (sound : ColumnSound (x .image) (x .blockSize) p) where

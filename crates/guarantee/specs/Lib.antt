@@ -3,6 +3,7 @@ pub mod List
 pub mod Ends
 pub mod Named
 pub mod Front
+pub mod Past
 pub mod Copied
 pub mod Theorem
 pub mod Untouched

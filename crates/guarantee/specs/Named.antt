@@ -21,31 +21,9 @@ use Rattle.result.specs.Links.{Head, headAt}
 use Rattle.result.specs.Names.{CopiedKind, isTX, isMD, isCC, isSI, isFH, Leads, SameBlock, Follows, later, first, LinkDue}
 use Rattle.result.specs.Guarantee.{Stands, In, here, there}
 use Rattle.copies_laws.specs.LengthLaws.{length-dataOf}
-use Rattle.copies_laws.specs.MemoLaws.{none≢some, copy-in, Followed, Made}
+use Rattle.copies_laws.specs.MemoLaws.{none≢some, kind-copied, copied-kind, copy-in, Followed, Made}
 use Rattle.shown_laws.specs.Header.{block-kind, block-size, block-links, block-link, block-data}
 use Rattle.shown_laws.specs.ImageBytes.{kind-below, size-below, links-below}
-
--- ---- copied kinds
-pub kind-copied : (k : ℕ) → CopiedKind k → isCopied k ≡ true
-unfolding isCopied
-kind-copied k (isTX e) = rw e
-kind-copied k (isMD e) = rw e
-kind-copied k (isCC e) = rw e
-kind-copied k (isSI e) = rw e
-kind-copied k (isFH e) = rw e
-
-pub copied-kind : (k : ℕ) → isCopied k ≡ true → CopiedKind k
-unfolding isCopied
-copied-kind k e = go (eqb k kindTX) (eqb k kindMD) (eqb k kindCC) (eqb k kindSI) (eqb k kindFH) refl refl refl refl refl e
-  where
-    go : (a b c d f : Bool) → eqb k kindTX ≡ a → eqb k kindMD ≡ b → eqb k kindCC ≡ c → eqb k kindSI ≡ d → eqb k kindFH ≡ f
-        → pick a true (pick b true (pick c true (pick d true f))) ≡ true → CopiedKind k
-    go true b c d f p q r t u h = isTX (eqb-true k kindTX p)
-    go false true c d f p q r t u h = isMD (eqb-true k kindMD q)
-    go false false true d f p q r t u h = isCC (eqb-true k kindCC r)
-    go false false false true f p q r t u h = isSI (eqb-true k kindSI t)
-    go false false false false true p q r t u h = isFH (eqb-true k kindFH u)
-    go false false false false false p q r t u h = absurd (false≢true h)
 
 -- ---- the links of a copied block as words
 unfoldable linkWords : List ℕ → List Copy → ℕ → ℕ → List ℕ
@@ -109,6 +87,12 @@ word-copied s chain memo fh a (suc k) zero h (first z e) =
 word-copied s chain memo fh a (suc k) (suc i) h later =
     word-link s memo k (a + 32) i (omega arith) ∙ ap (λ (q : ℕ). newLink memo (leAt 8 s q)) (omega arith)
 
+word-first : (s chain : List ℕ) (memo : List Copy) (fh a k : ℕ) → 0 < k
+    → getD (copiedWords s chain memo fh a k) 0 0 ≡ firstNew s memo a (historyLink a chain memo fh)
+unfolding copiedWords
+word-first s chain memo fh a zero h = absurd (omega arith)
+word-first s chain memo fh a (suc k) h = refl
+
 -- such a link is not the one that an FH loses
 lost : (s : List ℕ) (chain : List ℕ) (a i : ℕ) → Follows s chain a i → lostLinks s a ≤ i
 unfolding lostLinks ifEq
@@ -170,7 +154,7 @@ module _ (s f : List ℕ) (bytes : (i : ℕ) → getD s i 0 < 256) (chain : List
     copy-data : Stands f (dataAt f t) (dataOf s a)
     copy-data = block-data (kindAt s a) (sizeAt s a) ws (dataOf s a) shaped (rw few (links-below s bytes a))
 
-    same-block : SameBlock s f a t
+    pub same-block : SameBlock s f a t
     unfolding headAt dataOf
     same-block =
         record {
@@ -184,6 +168,14 @@ module _ (s f : List ℕ) (bytes : (i : ℕ) → getD s i 0 < 256) (chain : List
     copy-link i h w =
         let v = word-copied s chain memo fh a (linksAt s a) i h w in
         block-link (kindAt s a) (sizeAt s a) ws (dataOf s a) shaped i (rw few h) (rw v (new-small (linkAt s a i))) ∙ v
+
+    -- its first link, whatever that is
+    pub copy-first : 0 < linksAt s a → firstNew s memo a (historyLink a chain memo fh) < 256 ^ 8
+        → linkAt f t 0 ≡ firstNew s memo a (historyLink a chain memo fh)
+    unfolding ws
+    copy-first h b =
+        let v = word-first s chain memo fh a (linksAt s a) h in
+        block-link (kindAt s a) (sizeAt s a) ws (dataOf s a) shaped 0 (rw few h) (rw v b) ∙ v
 
     -- what it links to is copied too
     copy-follows : (i : ℕ) → i < linksAt s a → Follows s chain a i → Followed s memo (linkAt s a i)

@@ -2,14 +2,17 @@
 -- placement).
 use Prim.{Unit}
 use Prim.Native.Nat.{ℕ, zero, suc, _+_, _*_, _-_, _<_}
-use mathlib.Core.List.{List}
-use mathlib.Core.Bool.{false}
+use mathlib.Core.List.{List, [], _∷_, _++_}
+use mathlib.Core.Bool.{true, false}
 use mathlib.Core.Path.{_≡_}
+use lib.ListN.{length}
+use Rattle.base.specs.Field.{le}
 use Rattle.base.specs.Blit.{part}
 use Rattle.mdf.specs.Block.{kindTX, kindMD, kindAt, sizeAt, linksAt, linkAt, dataAt}
 use Rattle.mdf.specs.Chain.{isIn}
 use Rattle.plan.specs.Copies.{kindCC, kindSI, kindFH}
 use Rattle.plan.specs.Layout.{Placed, cgOf, cnOf}
+use Rattle.result.specs.Result.{Args}
 use Rattle.result.specs.Links.{Head, headAt}
 
 -- "Kinds other than TX, MD, CC, SI, FH become link 0."
@@ -56,3 +59,30 @@ pub record NamesDue (k : ℕ) (s f past : List ℕ) (p : Placed) : Type 0 where
   pub unit : LinkDue k s f past (linkAt s (p .column .channel) 6) (linkAt f (cnOf p) 6)
   pub comment : LinkDue k s f past (linkAt s (p .column .channel) 7) (linkAt f (cnOf p) 7)
   pub dataComment : LinkDue k s f past (linkAt s (p .column .group .dataGroup .at) 3) (linkAt f (p .dg) 3)
+
+-- ---- the history
+
+-- why the history chain ends before a, with these blocks before: "History .. chains that return to an earlier block end quietly, also a history chain
+-- at a kind not copied"; more than 2,048 blocks are refused (19)
+pub data Ended (s before : List ℕ) (a : ℕ) : Type 0 where
+  noCopy : (Leads s a → ⊥) → Ended s before a
+  again : isIn a before ≡ true → Ended s before a
+  many : 2048 < length before → Ended s before a
+
+-- these are the blocks of the recording's history chain from a on, after those before: each leads by its first link to the next
+unfoldable pub ChainDue : List ℕ → List ℕ → List ℕ → ℕ → Type 0
+ChainDue s before [] a = Ended s before a
+ChainDue s before (b ∷ bs) a = (b ≡ a) × Leads s a × (isIn a before ≡ false) × ChainDue s (before ++ (a ∷ [])) bs (linkAt s a 0)
+
+-- from b on the result's history: the copies of these blocks in order, each leading by its first link to the next, the last to the new FH
+unfoldable pub HistoryDue : List ℕ → List ℕ → ℕ → List ℕ → ℕ → Type 0
+HistoryDue s f fh [] b = b ≡ fh
+HistoryDue s f fh (a ∷ as') b = SameBlock s f a b × HistoryDue s f fh as' (linkAt f b 0)
+
+-- "MD with the lent history text ..; a new FH with the lent time": the last of the history
+pub record NewHistory (x : Args) (f : List ℕ) (fh : ℕ) : Type 0 where
+  pub head : headAt f fh ≡ record { kind = kindFH; size = 56; links = 2 }
+  pub next : linkAt f fh 0 ≡ 0
+  pub comment : kindAt f (linkAt f fh 1) ≡ kindMD
+  pub text : part (linkAt f fh 1 + 24) (length (x .text)) f ≡ x .text
+  pub time : part (fh + 40) 8 f ≡ le 8 (x .time)

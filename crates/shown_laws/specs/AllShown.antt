@@ -90,6 +90,12 @@ module _ (x : Args) (l : Layout) where
   pub in-history : {b : Block} → In b historyCopies → In b afterHD
   in-history i = in-front _ i
 
+  pub in-md : In (block (l .md) (mdBytes (x .text))) afterHD
+  in-md = in-back historyCopies here
+
+  pub in-fh : In (block (l .fh) (fhBytes (l .md) (x .time))) afterHD
+  in-fh = in-back historyCopies (there here)
+
   pub in-columns : {b : Block} → In b columnCopies → In b afterHD
   in-columns i = in-back historyCopies (there (there (in-front _ i)))
 
