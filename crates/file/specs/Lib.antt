@@ -1,3 +1,4 @@
 pub mod Form
 pub mod Opened
 pub mod Range
+pub mod Examples

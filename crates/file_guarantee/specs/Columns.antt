@@ -107,7 +107,7 @@ module _ {f : List ℕ} (s : List ℕ) (size : ℕ) (memo : List Copy) (all : Li
         cnNext = cn-next s size memo all p next k cn;
         cgName = rw cg-name (named _);
         cnName = rw cn-name (named _);
-        data' = λ n m. rw (dg-dl s size memo all p next k dg) (column-chain s size p k list blocks n (omega (arith, fragments-many s size p)));
+        chained = λ n m. rw (dg-dl s size memo all p next k dg) (column-chain s size p k list blocks n (omega (arith, fragments-many s size p)));
         ranges = due-ranges s size memo all p next k dg cg list blocks;
         form = due-formed s size memo all p next k dg cg list blocks (g .long);
       }

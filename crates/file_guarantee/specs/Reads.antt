@@ -29,7 +29,7 @@ pub record Reads (s : List ℕ) (cs : List Column) (f : List ℕ) : Type 0 where
       → ranged f k first count
       ≡ ok (part (first * width s (c .group .at) (c .channel)) (count * width s (c .group .at) (c .channel)) (duePayload s c))
   -- one of them: the channel's bytes of the group's record of that number, and its invalidation bit where it is kept
-  pub record' : (k r : ℕ) (c : Column) → columnAt k cs ≡ some c → isNonempty s c ≡ true → r < c .group .records
+  pub each : (k r : ℕ) (c : Column) → columnAt k cs ≡ some c → isNonempty s c ≡ true → r < c .group .records
       → ranged f k r 1 ≡ ok (cell s (c .group .at) (c .channel) (getD (recordsOf s (c .group)) r []))
   -- 22 and 23 exactly outside
   pub noColumn : (k first count : ℕ) → length cs ≤ k → ranged f k first count ≡ refused 22 0

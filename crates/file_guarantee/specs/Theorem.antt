@@ -144,8 +144,8 @@ module _ (x : Args) (d : Decided) (k : Known x d) (out : List ℕ) (room : d .la
   made : (b : Block) → In b (structureBlocks (x .image) (x .blockSize) (memoOf l) (l .placed) (l .placed)) → Stands f (b .at) (b .bytes)
   made b i = filled b (in-structure x l i)
 
-  data' : (b : Block) → In b (dataBlocks (x .image) (x .blockSize) (l .placed)) → Stands f (b .at) (b .bytes)
-  data' b i = filled b (in-data x l i)
+  dataIn : (b : Block) → In b (dataBlocks (x .image) (x .blockSize) (l .placed)) → Stands f (b .at) (b .bytes)
+  dataIn b i = filled b (in-data x l i)
 
   all-stand : AllStand f 0 cols
   all-stand =
@@ -158,7 +158,7 @@ module _ (x : Args) (d : Decided) (k : Known x d) (out : List ℕ) (room : d .la
       (d .planned .columns) (structurePlace (l .metadata)) (l .metadataEnd)
       (λ p i. good p (subst (In p) (sym e) i))
       (λ b i. made b (subst (λ (ps : List Placed). In b (structureBlocks (x .image) (x .blockSize) (memoOf l) (l .placed) ps)) (sym e) i))
-      (λ b i. data' b (subst (λ (ps : List Placed). In b (dataBlocks (x .image) (x .blockSize) ps)) (sym e) i))))
+      (λ b i. dataIn b (subst (λ (ps : List Placed). In b (dataBlocks (x .image) (x .blockSize) ps)) (sym e) i))))
 
   ident-in : In (block 0 (x .ident)) (blocksOf x l)
   unfolding blocksOf
@@ -199,7 +199,7 @@ module _ (x : Args) (d : Decided) (k : Known x d) (out : List ℕ) (room : d .la
   at n c e = placed-at (x .image) (x .blockSize) (l .placed) n c (rw (columns-placed (o x d k)) e)
 
   read : (p : Placed) → In p (l .placed) → ColumnRead f (x .image) (x .blockSize) p
-  read = columns-read (x .image) (x .blockSize) (memoOf l) (l .placed) (l .placed) good made data'
+  read = columns-read (x .image) (x .blockSize) (memoOf l) (l .placed) (l .placed) good made dataIn
 
   range-is : (p : Placed) → In p (l .placed) → (first count : ℕ) → rangeOf f first count (fileColumn (x .image) (x .blockSize) p)
       ≡ part (first * columnWidth (x .image) (p .column)) (count * columnWidth (x .image) (p .column)) (duePayload (x .image) (p .column))
@@ -248,7 +248,7 @@ module _ (x : Args) (d : Decided) (k : Known x d) (out : List ℕ) (room : d .la
         opens = opens;
         asMany = cols-many;
         reads = reads;
-        record' = λ n r c e i h. reads n r 1 c e (omega arith) ∙ ap ok (one-record c (planned-in n c e) i r h);
+        each = λ n r c e i h. reads n r 1 c e (omega arith) ∙ ap ok (one-record c (planned-in n c e) i r h);
         noColumn = λ n first count h. ranged-none f cols opens n first count (past-none n cols (omega (arith, cols-many)));
         noRecords = no-records;
       }

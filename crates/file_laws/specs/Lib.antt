@@ -4,3 +4,4 @@ pub mod FormLaws
 pub mod RangeLaws
 pub mod Standing
 pub mod StandingLaws
+pub mod LimitLaws

@@ -33,7 +33,7 @@ pub record ColumnStands (f : List ℕ) (c : FileColumn) (next : ℕ) : Type 0 wh
   pub cgName : nameAt f (linkAt f (c .cg) 2) ≡ fine
   pub cnName : nameAt f (linkAt f (c .cn) 2) ≡ fine
   -- data: whatever was found before, within the limit
-  pub data' : (n : ℕ) → n + length (c .fragments) ≤ fileLimits .fragments
+  pub chained : (n : ℕ) → n + length (c .fragments) ≤ fileLimits .fragments
       → chain records fileLimits f n (linkAt f (c .dg) 2) ≡ found (c .fragments)
   pub ranges : rangesIn f (c .fragments) ≡ fine
   pub form : formed f c ≡ true

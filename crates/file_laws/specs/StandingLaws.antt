@@ -137,7 +137,7 @@ module _ (f : List ℕ) (c : FileColumn) (next : ℕ) (h : ColumnStands f c next
 
     below-column : belowDG fileLimits f (c .dg) (entered levelDG (c .dg) st) ≡ ok (source items3 blocks)
     unfolding belowDG entered
-    below-column = rw (h .data' (length (st .fragments)) (omega (arith, b .fewBlocks)), id-fine, h .dgGroup) cg-level
+    below-column = rw (h .chained (length (st .fragments)) (omega (arith, b .fewBlocks)), id-fine, h .dgGroup) cg-level
 
     dg-fine : visit levelDG f st (c .dg) ≡ fine
     dg-fine = visit-fine levelDG f st (c .dg) (below-unmet a (c .dg) (st .items) (b .met) l) (h .dgBlock) (omega (arith, b .fewDG))
