@@ -8,9 +8,10 @@ ghost use Rattle.result.specs.Result as result;
 ghost use Rattle.placing.specs.Decision.{untimed, four};
 ghost use Rattle.writing.specs.Answer.{args, Promised};
 ghost use Rattle.listing.specs.Listed.{Listed};
-ghost use Rattle.sitaungo.specs.Answer.{left};
+ghost use Rattle.sitaungo.specs.Answer.{left, exported};
 
-// Whether the recording was accepted; document 01's refusal with number and place where it was not; the report's seven counts where it was.
+// Whether the recording was accepted; document 01's refusal with number and place where it was not, else 0; the report's seven counts where
+// it was, else 0.
 #[repr(C)]
 pub struct Outcome {
     pub accepted: bool,
@@ -42,8 +43,8 @@ pub extern "C" fn sitaungo_convert(
 ) -> Outcome
     ensures done { λ r. ⌜ left r (now (out .exit)) (now (list .exit))
         (four (now (source .exit)) (now (fragments .exit)) (now (columns .exit)) (now (copies .exit)))
-        ≡ result.convert (args (now (image .entry)) size (now (ident .entry)) (now (text .entry)) time) (now (out .entry)) (now (list .entry))
-        (four (now (source .entry)) (now (fragments .entry)) (now (columns .entry)) (now (copies .entry))) ⌝ }
+        ≡ exported (result.convert (args (now (image .entry)) size (now (ident .entry)) (now (text .entry)) time) (now (out .entry)) (now (list .entry))
+        (four (now (source .entry)) (now (fragments .entry)) (now (columns .entry)) (now (copies .entry)))) ⌝ }
     ensures promised { λ _. ⌜ Promised (args (now (image .entry)) size (now (ident .entry)) (now (text .entry)) time)
         (length (now (out .entry))) (length (now (list .entry)))
         (four (now (source .entry)) (now (fragments .entry)) (now (columns .entry)) (now (copies .entry))) (now (out .exit)) (now (list .exit)) ⌝ }

@@ -1,5 +1,5 @@
 -- A refusal's numbers, or the report's.
-use Rattle.sitaungo.specs.AnswerLaws.{left-as}
+use Rattle.sitaungo.specs.AnswerLaws.{exported-as}
 use native.Mathlib.Omega.{arith}
 use lib.ListN.{length, length-set}
 use borrow.Author.Needs.{needs}
@@ -47,7 +47,7 @@ same-length-6 c = search needs
 
 -- src/lib.rt:28:1
 returns : tie.Need-returns
-returns c = (left-as _ _ _ _ _
+returns c = (exported-as _ _ _ _ _
     (c .before .before .before .before .before .before .before .before .before .before .before .before .before .before .before .convert .ensures .0)
     (c .before .answer .given .1),
     c .before .before .before .before .before .before .before .before .before .before .before .before .before .before .before .convert .ensures .1)
@@ -78,7 +78,7 @@ same-length-12 c = search needs
 
 -- src/lib.rt:28:1
 returns-2 : tie.Need-returns-2
-returns-2 c = (left-as _ _ _ _ _
+returns-2 c = (exported-as _ _ _ _ _
     (c .before .before .before .before .before .before .before .before .before .before .before .before .before .before .before .convert .ensures .0)
     (c .before .answer2 .given .1),
     c .before .before .before .before .before .before .before .before .before .before .before .before .before .before .before .convert .ensures .1)
