@@ -8,6 +8,7 @@
  * - Each slice is a pointer and its true length in elements. A uint64_t slice lies at a multiple of 8. A slice of length 0 may have any pointer.
  * - A slice that is written (work slices, out, list, lines) shares no byte with another slice of the same call.
  * - Nobody else changes a slice during the call, a mapped file included.
+ * - What a work slice, out, list or lines holds at entry doesn't matter: anything may stand there.
  * - Length times element size is below 2^63.
  * - The calling thread has 128 KiB of stack left: 94,104 bytes were measured, for metadata linked 64 deep.
  */
@@ -21,6 +22,9 @@
 #ifdef __cplusplus
 extern "C" {
 #endif
+
+/* Of library and command. The command writes it into the history entry of each result. */
+#define SITAUNGO_VERSION "1.1.0"
 
 /* ---- lengths of the slices */
 

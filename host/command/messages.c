@@ -2,14 +2,18 @@
 #include "messages.h"
 
 #include <errno.h>
-#include <inttypes.h>
 #include <stdarg.h>
 #include <stdio.h>
 #include <stdlib.h>
+#include <string.h>
 #include <unistd.h>
 
-#include "result.h"
+#include "signals.h"
 #include "sitaungo.h"
+#include "temporary.h"
+#include "text.h"
+
+enum { LINE = 16384 };
 
 static bool quiet;
 
@@ -49,36 +53,46 @@ static const char *const reasons[] = {
     [SITAUNGO_OMITTED_STORAGE] = "the channel's values of variable length lie in a group of their own",
 };
 
-bool write_all(int descriptor, const char *bytes, size_t length)
+const char *words_of_refusal(uint64_t number)
 {
+    return number < sizeof refusals / sizeof *refusals && refusals[number] ? refusals[number] : "unknown refusal";
+}
+
+const char *words_of_reason(uint64_t reason)
+{
+    return reason < sizeof reasons / sizeof *reasons && reasons[reason] ? reasons[reason] : "unknown reason";
+}
+
+bool write_all(int descriptor, const void *bytes, size_t length)
+{
+    const char *at = bytes;
     while (length > 0) {
-        ssize_t n = write(descriptor, bytes, length);
+        ssize_t n = write(descriptor, at, length);
         if (n < 0 && errno != EINTR)
             return false;
         if (n > 0) {
-            bytes += n;
+            at += n;
             length -= (size_t)n;
         }
     }
     return true;
 }
 
-void make_plain(char *bytes, size_t length)
+/* Formats to the end of a line, and cuts it there. */
+static size_t add(char *line, size_t used, const char *format, va_list arguments)
 {
-    for (size_t i = 0; i < length; i++)
-        if ((unsigned char)bytes[i] < 32 || bytes[i] == 127)
-            bytes[i] = '?';
+    size_t room = LINE - 1 - used;
+    int n = vsnprintf(line + used, room, format, arguments);
+    return used + (n < 0 ? 0 : (size_t)n < room ? (size_t)n : room - 1);
 }
 
-static void say_line(const char *format, va_list arguments)
+static bool say_line(const char *format, va_list arguments)
 {
-    char line[16384] = "mdf-columns: ";
-    size_t front = 13, room = sizeof line - front - 1;
-    int n = vsnprintf(line + front, room, format, arguments);
-    size_t end = front + (n < 0 ? 0 : (size_t)n < room ? (size_t)n : room - 1);
+    char line[LINE] = "mdf-columns: ";
+    size_t end = add(line, strlen(line), format, arguments);
     make_plain(line, end);
     line[end] = '\n';
-    (void)!write_all(STDERR_FILENO, line, end + 1);
+    return write_all(STDERR_FILENO, line, end + 1);
 }
 
 void keep_quiet(void)
@@ -92,38 +106,27 @@ void say_phase(const char *format, ...)
         return;
     va_list arguments;
     va_start(arguments, format);
-    say_line(format, arguments);
+    (void)say_line(format, arguments);
     va_end(arguments);
 }
 
-void say(const char *format, ...)
+bool say(const char *format, ...)
 {
     va_list arguments;
     va_start(arguments, format);
-    say_line(format, arguments);
+    bool said = say_line(format, arguments);
     va_end(arguments);
+    return said;
 }
 
 void fail(const char *format, ...)
 {
     va_list arguments;
     va_start(arguments, format);
-    say_line(format, arguments);
+    (void)say_line(format, arguments);
     va_end(arguments);
-    drop_temporary();
-    exit(STATUS_FAILED);
-}
-
-void refuse(const char *recording, uint64_t number, uint64_t place)
-{
-    const char *words = number < sizeof refusals / sizeof *refusals && refusals[number] ? refusals[number] : "unknown refusal";
-    say("%s: refused %" PRIu64 " place %" PRIu64 ": %s", recording, number, place, words);
-    drop_temporary();
-    exit(STATUS_REFUSED);
-}
-
-void say_omission(uint64_t address, uint64_t reason)
-{
-    const char *words = reason < sizeof reasons / sizeof *reasons && reasons[reason] ? reasons[reason] : "unknown reason";
-    say("omitted at %" PRIu64 ": %s (reason %" PRIu64 ")", address, words, reason);
+    if (standing_status() == STATUS_STANDING)
+        (void)say("%s", standing_words());
+    drop_temporaries();
+    exit(standing_status());
 }

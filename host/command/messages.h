@@ -6,30 +6,32 @@
 #include <stddef.h>
 #include <stdint.h>
 
-enum { STATUS_FAILED = 1, STATUS_REFUSED = 2 };
+enum {
+    STATUS_DONE = 0,
+    STATUS_FAILED = 1,     /* nothing was made: RESULT is as it was */
+    STATUS_REFUSED = 2,    /* the recording is refused: RESULT is as it was */
+    STATUS_STANDING = 3,   /* RESULT is there and whole, but something after that failed */
+    STATUS_INCOMPLETE = 4, /* channels would be left out, with --complete: RESULT is as it was */
+    STATUS_DIFFERENT = 5,  /* what was read back is not the conversion */
+};
 
-/* With --quiet no phase is said. */
+/* With --quiet, or for several recordings, no phase is said. */
 void keep_quiet(void);
 
 /* A phase, on standard error. */
 __attribute__((format(printf, 1, 2))) void say_phase(const char *format, ...);
 
-/* Something to know, on standard error, also with --quiet. */
-__attribute__((format(printf, 1, 2))) void say(const char *format, ...);
+/* Something to know, on standard error, also with --quiet. False where it can't be written. */
+__attribute__((format(printf, 1, 2))) bool say(const char *format, ...);
 
-/* The message; the temporary file is removed; status 1. */
+/* The message; temporary files are removed; status 1, or 3 with the word that RESULT stands. */
 __attribute__((format(printf, 1, 2), noreturn)) void fail(const char *format, ...);
 
-/* A refusal of the recording in words, with number and place; the temporary file is removed; status 2. */
-__attribute__((noreturn)) void refuse(const char *recording, uint64_t number, uint64_t place);
-
-/* A channel left out, with address and reason in words. */
-void say_omission(uint64_t address, uint64_t reason);
-
-/* Control characters become `?`. */
-void make_plain(char *bytes, size_t length);
+/* Document 01's refusals and reasons in plain words. */
+const char *words_of_refusal(uint64_t number);
+const char *words_of_reason(uint64_t reason);
 
 /* Writes it all to a descriptor; false where that fails, with errno. */
-bool write_all(int descriptor, const char *bytes, size_t length);
+bool write_all(int descriptor, const void *bytes, size_t length);
 
 #endif

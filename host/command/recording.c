@@ -5,13 +5,11 @@
 #include <fcntl.h>
 #include <string.h>
 #include <sys/mman.h>
+#include <time.h>
 
 #include "messages.h"
+#include "signals.h"
 #include "sitaungo.h"
-
-/* for the handler of SIGBUS */
-static const uint8_t *mapped;
-static size_t mapped_length;
 
 static const char *kind_of(mode_t mode)
 {
@@ -29,12 +27,40 @@ static size_t length_to_map(off_t size)
     return (uint64_t)size < most ? (size_t)size : (size_t)most;
 }
 
+static int64_t nanoseconds(struct timespec t)
+{
+    return (int64_t)t.tv_sec * 1000000000 + t.tv_nsec;
+}
+
+/* Nanoseconds until a further change would have another time: times of change go by ticks, on some file systems by seconds. */
+static int64_t until_settled(const struct stat *found)
+{
+    struct timespec now;
+    int64_t tick = found->st_ctim.tv_nsec == 0 && found->st_mtim.tv_nsec == 0 ? 2000000000 : 20000000;
+    if (clock_gettime(CLOCK_REALTIME, &now) != 0)
+        return 0;
+    int64_t age = nanoseconds(now) - nanoseconds(found->st_ctim);
+    return age >= 0 && age < tick ? tick - age : 0;
+}
+
+/* Its state once a change after this call can be told by its time. */
+static bool look(struct recording *r)
+{
+    int64_t wait;
+    if (fstat(r->descriptor, &r->found) != 0)
+        return false;
+    if (!S_ISREG(r->found.st_mode) || (wait = until_settled(&r->found)) == 0)
+        return true;
+    nanosleep(&(struct timespec){.tv_sec = wait / 1000000000, .tv_nsec = wait % 1000000000}, NULL);
+    return fstat(r->descriptor, &r->found) == 0;
+}
+
 struct recording open_recording(const char *path)
 {
     struct recording r = {.path = path};
     /* without O_NONBLOCK a pipe that nobody writes to would be waited for */
     r.descriptor = open(path, O_RDONLY | O_CLOEXEC | O_NONBLOCK | O_NOCTTY);
-    if (r.descriptor < 0 || fstat(r.descriptor, &r.found) != 0)
+    if (r.descriptor < 0 || !look(&r))
         fail("can't open the recording %s: %s", path, strerror(errno));
     if (!S_ISREG(r.found.st_mode))
         fail("the recording %s is %s; a file is needed", path, kind_of(r.found.st_mode));
@@ -44,27 +70,29 @@ struct recording open_recording(const char *path)
     void *bytes = mmap(NULL, r.length, PROT_READ, MAP_SHARED, r.descriptor, 0);
     if (bytes == MAP_FAILED)
         fail("can't map the recording %s: %s", path, strerror(errno));
-    r.bytes = mapped = bytes;
-    mapped_length = r.length;
+    r.bytes = bytes;
+    watch_mapping(MAPPED_RECORDING, bytes, r.length, "the recording %s can't be read to its end: it was cut off meanwhile, or its disk failed", path);
     return r;
 }
 
-static bool same_time(struct timespec a, struct timespec b)
+bool same_file(const struct stat *a, const struct stat *b)
 {
-    return a.tv_sec == b.tv_sec && a.tv_nsec == b.tv_nsec;
+    return a->st_dev == b->st_dev && a->st_ino == b->st_ino;
+}
+
+bool same_state(const struct stat *a, const struct stat *b)
+{
+    return same_file(a, b) && a->st_size == b->st_size && nanoseconds(a->st_mtim) == nanoseconds(b->st_mtim) &&
+        nanoseconds(a->st_ctim) == nanoseconds(b->st_ctim);
 }
 
 void check_unchanged(const struct recording *r)
 {
-    struct stat now;
-    if (fstat(r->descriptor, &now) != 0)
-        fail("can't read the recording %s: %s", r->path, strerror(errno));
-    if (now.st_size != r->found.st_size || !same_time(now.st_mtim, r->found.st_mtim))
+    struct stat opened, named;
+    if (fstat(r->descriptor, &opened) != 0)
+        fail("can't look at the recording %s: %s", r->path, strerror(errno));
+    if (stat(r->path, &named) != 0)
+        fail("the recording %s was moved or removed while it was read: %s", r->path, strerror(errno));
+    if (!same_state(&opened, &r->found) || !same_state(&named, &r->found))
         fail("the recording %s was changed while it was read; convert it when it is finished", r->path);
-}
-
-bool in_recording(const void *address)
-{
-    uintptr_t a = (uintptr_t)address, start = (uintptr_t)mapped;
-    return a >= start && a - start < mapped_length;
 }

@@ -18,10 +18,11 @@ struct recording {
 /* Opens and maps it, or fails. */
 struct recording open_recording(const char *path);
 
-/* Fails if the file was written to or cut off since it was opened. */
+/* Fails if the file was written to, cut off or given another name since it was opened, or if its path leads to another one. */
 void check_unchanged(const struct recording *recording);
 
-/* Whether an address lies in the mapped recording. */
-bool in_recording(const void *address);
+/* One file, by device and file number; one file that was not changed, by size and times of change. */
+bool same_file(const struct stat *a, const struct stat *b);
+bool same_state(const struct stat *a, const struct stat *b);
 
 #endif

@@ -15,25 +15,38 @@ static uint8_t lines[SITAUNGO_LISTING_BYTES];
 static const uint8_t ident[SITAUNGO_IDENT_BYTES] = "MDF     4.20    sitaungo\0\0\0\0\xa4\x01";
 static const uint8_t text[] = "convert";
 
-enum { BLOCK_SIZE = 64, TIME = 0, TEXT_LENGTH = sizeof text - 1 };
+enum { BLOCK_SIZE = 4194304, TIME = 0, TEXT_LENGTH = sizeof text - 1 };
 
 struct bytes {
     uint8_t *at;
     size_t length;
 };
 
+static void fail(const char *path)
+{
+    perror(path);
+    exit(1);
+}
+
 static struct bytes read_file(const char *path)
 {
-    struct bytes b = {0};
     FILE *file = fopen(path, "rb");
     if (!file || fseek(file, 0, SEEK_END) != 0)
-        return b;
+        fail(path);
     long length = ftell(file);
     rewind(file);
-    b.at = malloc((size_t)length + 1);
-    b.length = b.at ? fread(b.at, 1, (size_t)length, file) : 0;
+    struct bytes b = {.at = length < 0 ? NULL : malloc((size_t)length + 1), .length = (size_t)length};
+    if (!b.at || fread(b.at, 1, b.length, file) != b.length)
+        fail(path);
     fclose(file);
     return b;
+}
+
+static void write_file(const char *path, struct bytes b)
+{
+    FILE *file = fopen(path, "wb");
+    if (!file || fwrite(b.at, 1, b.length, file) != b.length || fclose(file) != 0)
+        fail(path);
 }
 
 static struct sitaungo_outcome convert(struct bytes image, struct bytes out)
@@ -56,8 +69,10 @@ static int refused(struct sitaungo_outcome answer)
 
 int main(int count, char **arguments)
 {
-    if (count < 2)
+    if (count < 2) {
+        fprintf(stderr, "usage: convert RECORDING [RESULT]\n");
         return 1;
+    }
     struct bytes image = read_file(arguments[1]);
     /* an empty output: refusal 20 has the bytes needed as its place */
     struct sitaungo_outcome answer = convert(image, (struct bytes){0});
@@ -65,14 +80,13 @@ int main(int count, char **arguments)
         return refused(answer);
     struct bytes out = {.at = malloc(answer.place), .length = answer.place};
     if (!out.at)
-        return 1;
+        fail(arguments[1]);
     answer = convert(image, out);
     if (!answer.accepted)
         return refused(answer);
     fwrite(lines, 1, list(image, answer.file_size), stdout);
     printf("metadata %" PRIu64 " bytes %" PRIu64 "\n", answer.metadata_size, answer.file_size);
-    FILE *file = count > 2 ? fopen(arguments[2], "wb") : NULL;
-    if (count > 2 && (!file || fwrite(out.at, 1, out.length, file) != out.length || fclose(file) != 0))
-        return 1;
+    if (count > 2)
+        write_file(arguments[2], out);
     return 0;
 }

@@ -7,6 +7,7 @@ const WORK_WORDS: usize = 8192;
 const LIST_WORDS: usize = 2049;
 const LISTING_BYTES: usize = 119354;
 const REFUSED_OUTPUT: u64 = 20;
+const BLOCK_SIZE: u64 = 4194304;
 
 #[repr(C)]
 struct Outcome {
@@ -75,11 +76,15 @@ fn listing(image: &[u8], lent: &mut Lent, out: u64) -> Vec<u8> {
 
 fn main() -> std::io::Result<()> {
     let arguments: Vec<String> = std::env::args().collect();
+    if arguments.len() < 2 {
+        eprintln!("usage: convert RECORDING [RESULT]");
+        std::process::exit(1);
+    }
     let image = std::fs::read(&arguments[1])?;
     let mut ident = [0; 64];
     ident[..24].copy_from_slice(b"MDF     4.20    sitaungo");
     ident[28..30].copy_from_slice(&420u16.to_le_bytes());
-    let mut lent = Lent { size: 64, ident, text: b"convert", time: 0, work: std::array::from_fn(|_| vec![0; WORK_WORDS]) };
+    let mut lent = Lent { size: BLOCK_SIZE, ident, text: b"convert", time: 0, work: std::array::from_fn(|_| vec![0; WORK_WORDS]) };
     let mut omissions = vec![0; LIST_WORDS];
     // an empty output: refusal 20 has the bytes needed as its place
     let mut answer = convert(&image, &mut lent, &mut [], &mut omissions);

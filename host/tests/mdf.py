@@ -107,6 +107,21 @@ def history_of(data):
 
 
 def without_time(data):
-    """A result with the conversion's time as zeros."""
-    at = history_of(data)[1]
-    return data[:at] + bytes(8) + data[at + 8 :]
+    """A result with the conversion's time as zeros, in the history entry and in its text."""
+    f = File(data)
+    fh = list(f.chain(f.links(64)[1]))[-1]
+    text = f.links(fh)[1]
+    for at, length in ((fh + 40, 8), (text + 24, f.size(text) - 24)):
+        data = data[:at] + bytes(length) + data[at + length :]
+    return data
+
+
+def blocks_of(data):
+    """Offset, kind and length of every block of a result, as they lie."""
+    f, at = File(data), 64
+    while at < len(data):
+        if data[at] == 0:
+            at += 1
+            continue
+        yield at, f.kind(at), f.size(at)
+        at += f.size(at)

@@ -1,0 +1,53 @@
+/* The proved conversion and its listing, with what they are lent. */
+#ifndef CONVERSION_H
+#define CONVERSION_H
+
+#include <stdbool.h>
+#include <stddef.h>
+#include <stdint.h>
+
+#include "recording.h"
+#include "sitaungo.h"
+
+/* What a result depends on besides the recording. */
+struct lent {
+    uint64_t block_size;
+    uint64_t time; /* of the history entry, nanoseconds since 1970 */
+    char text[SITAUNGO_TEXT_BYTES];
+    size_t text_length;
+};
+
+enum { UNIT = 8, WHEN = 40, VERSION_KEPT = 32 };
+
+/* The history text of a conversion by this version of the command (or another) at this time. The text has version and time a second time, so
+ * that damage to either shows. */
+struct lent lend(uint64_t block_size, const char *version, uint64_t time);
+
+/* A time as 2026-11-16T01:35:00.123456789Z. */
+void write_time(char to[WHEN], uint64_t time);
+
+/* The clock's, nanoseconds since 1970. */
+uint64_t present_time(void);
+
+/* Version and time of the history entry that a result has from this command, by links; false where there is none. */
+bool read_lent(const uint8_t *result, size_t length, char version[VERSION_KEPT], uint64_t *time);
+
+/* Room for an output, of this file or, where it is -1, of memory; NULL with errno. */
+uint8_t *map_output(int file, uint64_t size);
+
+struct sitaungo_outcome convert(const struct recording *r, const struct lent *l, uint8_t *out, size_t length);
+
+/* Without an output: refusal 20 has the bytes needed as its place, any other refuses the recording. */
+struct sitaungo_outcome measure(const struct recording *r, const struct lent *l);
+
+/* The listing of a conversion with an output of so many bytes; it stays until the next. */
+const char *list_columns(const struct recording *r, const struct lent *l, uint64_t size);
+
+/* The channels that the last conversion or listing left out: address (for reason 1 the group's) and reason. */
+struct omission {
+    uint64_t address, reason;
+};
+uint64_t omission_count(void);
+struct omission omission_at(uint64_t number);
+
+#endif

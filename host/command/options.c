@@ -1,0 +1,119 @@
+#define _GNU_SOURCE
+#include "options.h"
+
+#include <getopt.h>
+#include <stdlib.h>
+#include <string.h>
+#include <unistd.h>
+
+#include "messages.h"
+#include "report.h"
+#include "sitaungo.h"
+
+#define DEFAULT_BLOCK_SIZE 4194304
+
+static const char usage[] =
+    "usage: mdf-columns RECORDING RESULT [OPTION]...\n"
+    "       mdf-columns -d FOLDER RECORDING... [OPTION]...\n"
+    "       mdf-columns --check RECORDING RESULT [OPTION]...\n"
+    "\n"
+    "Converts the row-oriented MDF 4 file RECORDING into the column-oriented MDF 4.20 file RESULT, or each RECORDING into\n"
+    "a file of its name in FOLDER; or holds RESULT to its RECORDING.\n"
+    "\n"
+    "  --block-size BYTES  payload of a data block, about; 4194304 if not given\n"
+    "  --check             convert nothing: read RESULT back and hold it to the conversion of RECORDING made anew\n"
+    "  --complete          refuse a recording of which a channel would be left out (status 4)\n"
+    "  -d FOLDER           several recordings, each into a file of its name in FOLDER\n"
+    "  --force             replace RESULT if it exists\n"
+    "  --json FILE         write what was done, a line of JSON for each recording; - is standard output\n"
+    "  --listing           print a line for each column and each channel left out\n"
+    "  --quiet             print neither phases nor the line of success\n"
+    "  --resume            pass over a RESULT that is there and is the conversion of RECORDING\n"
+    "  --sha256            print the digest of the stored bytes, read back, as sha256sum does\n"
+    "  --verify            check before RESULT gets its name\n"
+    "  --help, --version   print this, or the version\n"
+    "\n"
+    "Status: 0 done; 1 failed; 2 the recording is refused; 3 RESULT is there and whole, but something after that failed;\n"
+    "4 channels would be left out; 5 what was read back is not the conversion. With 1, 2 and 4 RESULT is as it was.\n";
+
+__attribute__((noreturn)) static void misused(const char *why)
+{
+    if (why)
+        (void)say("%s", why);
+    (void)!write_all(STDERR_FILENO, usage, sizeof usage - 1);
+    exit(STATUS_FAILED);
+}
+
+/* Decimal digits only. 0 is left to the conversion, which refuses it. */
+static uint64_t parse_block_size(const char *text)
+{
+    uint64_t size = 0;
+    if (*text == '\0')
+        misused("--block-size needs a number of bytes");
+    for (; *text; text++) {
+        uint64_t digit = (uint64_t)(*text - '0');
+        if (*text < '0' || *text > '9' || size > (UINT64_MAX - digit) / 10)
+            misused("--block-size needs a number of bytes, in digits, below 2^64");
+        size = 10 * size + digit;
+    }
+    return size;
+}
+
+enum { WORD = 1, BLOCK_SIZE = 256, CHECK, COMPLETE, FORCE, JSON, LISTING, QUIET, RESUME, SHA256, VERIFY, HELP, VERSION };
+
+static const struct option known[] = {
+    {"block-size", required_argument, NULL, BLOCK_SIZE}, {"check", no_argument, NULL, CHECK}, {"complete", no_argument, NULL, COMPLETE},
+    {"folder", required_argument, NULL, 'd'}, {"force", no_argument, NULL, FORCE}, {"json", required_argument, NULL, JSON},
+    {"listing", no_argument, NULL, LISTING}, {"quiet", no_argument, NULL, QUIET}, {"resume", no_argument, NULL, RESUME},
+    {"sha256", no_argument, NULL, SHA256}, {"verify", no_argument, NULL, VERIFY}, {"help", no_argument, NULL, HELP},
+    {"version", no_argument, NULL, VERSION}, {NULL, 0, NULL, 0},
+};
+
+static void take(struct options *o, int option)
+{
+    switch (option) {
+    case WORD: o->recordings[o->count++] = optarg; break;
+    case 'd': o->folder = optarg; break;
+    case BLOCK_SIZE: o->block_size = parse_block_size(optarg); break;
+    case CHECK: o->check = true; break;
+    case COMPLETE: o->complete = true; break;
+    case FORCE: o->force = true; break;
+    case JSON: o->json = optarg; break;
+    case LISTING: o->listing = true; break;
+    case QUIET: o->quiet = true; break;
+    case RESUME: o->resume = true; break;
+    case SHA256: o->digest = true; break;
+    case VERIFY: o->verify = true; break;
+    case HELP: print(usage, sizeof usage - 1); exit(0);
+    case VERSION: print_line("mdf-columns %s", SITAUNGO_VERSION); exit(0);
+    default: misused(NULL);
+    }
+}
+
+static void check_options(const struct options *o)
+{
+    if (o->check && (o->force || o->resume || o->verify))
+        misused("--check converts nothing: --force, --resume and --verify don't go with it");
+    if (o->listing && o->json && strcmp(o->json, "-") == 0)
+        misused("--listing and --json - both need standard output");
+    if (o->folder && o->count == 0)
+        misused("a RECORDING is needed");
+    if (!o->folder && o->count != 2)
+        misused("a RECORDING and a RESULT are needed");
+}
+
+/* A leading - takes the words in their order, whether or not POSIXLY_CORRECT is set. */
+struct options parse(int count, char **words)
+{
+    struct options o = {.block_size = DEFAULT_BLOCK_SIZE, .recordings = calloc((size_t)count + 1, sizeof *words)};
+    if (!o.recordings)
+        fail("no memory for the words");
+    for (int c; (c = getopt_long(count, words, "-d:", known, NULL)) != -1;)
+        take(&o, c);
+    for (; optind < count; optind++)
+        o.recordings[o.count++] = words[optind];
+    check_options(&o);
+    if (!o.folder)
+        o.result = o.recordings[--o.count];
+    return o;
+}

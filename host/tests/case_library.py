@@ -1,0 +1,78 @@
+"""The library by its header and by both examples."""
+import os
+import shutil
+import subprocess
+
+from common import EXAMPLE, LIBRARY, LISTED, ROOT, NotTried, any_user, cc, expect, place, read, run, test, write
+from mdf import columns_of
+
+MET = set()  # refusals met, here and by the command
+
+
+def converts_example(program):
+    printed = subprocess.run([program, EXAMPLE, program + ".mf4"], check=True, stdout=subprocess.PIPE).stdout.decode()
+    expect(printed == LISTED + "metadata 1032 bytes 1224\n", printed)
+    data = read(program + ".mf4")
+    expect(len(data) == 1224 and data[1032:1036] == b"##DV", "another result")
+    check_example(data)
+
+
+def says_what_is_wrong(program):
+    """A file that is missing is no refusal, and without words there is a usage."""
+    for words, said in (([program, "missing.mf4"], "No such file"), ([program], "usage: convert RECORDING")):
+        r = subprocess.run(words, stdout=subprocess.PIPE, stderr=subprocess.PIPE)
+        expect(r.returncode == 1 and r.stdout == b"" and said in r.stderr.decode(), words, r.returncode, r.stdout, r.stderr)
+
+
+def check_example(data):
+    source = bytes(range(140))
+    time_, signal_ = columns_of(data)
+    expect([c for c, _ in time_.cells()] == [source[7 * r : 7 * r + 4] for r in range(20)], "the time column")
+    expect(signal_.cells() == [(source[7 * r + 4 : 7 * r + 6], bytes([source[7 * r + 6] & 1])) for r in range(20)], "the signal column")
+    expect(time_.master is None and signal_.master == 0, "the masters")
+
+
+@test
+def example_in_c():
+    program = place("convert-c")
+    cc(os.path.join(ROOT, "host", "examples", "convert.c"), LIBRARY, "-o", program)
+    converts_example(program)
+    says_what_is_wrong(program)
+
+
+@test
+def example_in_rust():
+    program = place("convert-rust")
+    words = ["-O", "--edition", "2021", "-L", os.path.dirname(LIBRARY), os.path.join(ROOT, "host", "examples", "convert.rs"), "-o", program]
+    subprocess.run(["rustc", *words], check=True)
+    converts_example(program)
+    says_what_is_wrong(program)
+    expect(read("convert-rust.mf4") == read("convert-c.mf4"), "another result than in C")
+
+
+@test
+def library_and_header():
+    """Refusals 1, 2, 20 and 21 and every length of the header, from both sides."""
+    program = place("library")
+    cc(os.path.join(ROOT, "host", "tests", "library.c"), LIBRARY, "-o", program)
+    r = subprocess.run([program, EXAMPLE], stdout=subprocess.PIPE)
+    expect(r.returncode == 0 and r.stdout.endswith(b" checks, 0 wrong\n"), r.stdout.decode())
+    MET.update((1, 2, 20, 21))
+
+
+@test
+def header_in_cplusplus():
+    compiler = shutil.which("c++")
+    if not compiler:
+        raise NotTried("there is no c++")
+    source = write("header.cpp", b'#include "sitaungo.h"\nint main() { return sitaungo_outcome().accepted; }\n')
+    subprocess.run([compiler, "-fsyntax-only", "-Wall", "-Wextra", "-I" + os.path.join(ROOT, "include"), source], check=True, cwd=place())
+
+
+@any_user
+def version_in_header_and_command():
+    """One place has it: the header."""
+    with open(os.path.join(ROOT, "include", "sitaungo.h")) as f:
+        (line,) = [x for x in f if x.startswith("#define SITAUNGO_VERSION ")]
+    r = run("--version")
+    expect(r.returncode == 0 and r.printed == "mdf-columns %s\n" % line.split('"')[1] and r.said == "", r.printed, r.said)
