@@ -39,6 +39,18 @@ skip m (f ∷ fs) =
     let later = skip (m - f .size) fs in
     ifLe m (f .size) (onto (record { offset = f .offset + m; size = f .size - m; kind = f .kind } ∷ fs)) later
 
+-- the same by numbers: the index of the words of the fragments that follow, a position of the image, and the bytes left of its fragment.
+-- `at` is the index of the words of the fragments past the first
+pub data Spot : Type 0 where
+  nowhere : Spot
+  spot : ℕ → ℕ → ℕ → Spot
+
+unfoldable pub spotPast : ℕ → List Fragment → ℕ → Spot
+spotPast m [] at = nowhere
+spotPast m (f ∷ fs) at =
+    let later = spotPast (m - f .size) fs (at + 3) in
+    ifLe m (f .size) (spot at (f .offset + m) (f .size - m)) later
+
 -- a step: the number of the record's group, its bytes past the id, and what is ahead past it
 pub data Stepped : Type 0 where
   stepped : ℕ → ℕ → List Fragment → Stepped
@@ -55,3 +67,19 @@ onFrame (framed r) n fs = past (skip (r .size) fs) (r .group) (r .size - n)
 -- the record that the fragments begin with; its id has n bytes
 unfoldable pub stepAt : List ℕ → ℕ → List ℕ → List Fragment → Stepped
 stepAt s n gs fs = onFrame (frameAt s n gs (joined s fs)) n fs
+
+-- the same by numbers: the index, position and bytes left past the record
+pub data Reached : Type 0 where
+  reached : ℕ → ℕ → ℕ → ℕ → ℕ → Reached
+  halted : Reached
+
+abbrev pub upTo : Spot → ℕ → ℕ → Reached
+upTo nowhere g m = halted
+upTo (spot at position left) g m = reached g m at position left
+
+abbrev pub onFramedTo : Framed → ℕ → List Fragment → ℕ → Reached
+onFramedTo broken n fs at = halted
+onFramedTo (framed r) n fs at = upTo (spotPast (r .size) fs at) (r .group) (r .size - n)
+
+unfoldable pub stepTo : List ℕ → ℕ → List ℕ → List Fragment → ℕ → Reached
+stepTo s n gs fs at = onFramedTo (frameAt s n gs (joined s fs)) n fs at

@@ -12,7 +12,7 @@ use Rattle.base.specs.Blit.{part}
 use Rattle.base.specs.Checked.{fine}
 use Rattle.mdf.specs.Chain.{dt, Fragment}
 use Rattle.mdf.specs.Records.{rangesIn, joined, placeOf}
-use Rattle.records.specs.Ahead.{fragmentsFrom, clipped, ahead, Skipped, short, onto, skip}
+use Rattle.records.specs.Ahead.{fragmentsFrom, clipped, ahead, Skipped, short, onto, skip, Spot, nowhere, spot, spotPast}
 use Rattle.records.specs.FragmentLaws.{lt-or-le, from-more, from-none, ranges-head, ranges-tail}
 
 pub le-or-lt : (m n : ℕ) → (m ≤ n) ⊎ (n < m)
@@ -254,3 +254,103 @@ ahead-counts s ws at p l =
       few = λ m e. ahead-few s ws at p l m e;
       drops = λ m e. skip-joined s (f ∷ fragmentsFrom ws at) m e;
     }
+
+-- ---- by numbers
+nowhere≢spot : {a p l : ℕ} → nowhere ≡ spot a p l → ⊥
+nowhere≢spot e = let z : _≡_ {A = ℕ} 0 1 = cc in omega arith
+
+spot-at : {a b p q l m : ℕ} → spot a p l ≡ spot b q m → a ≡ b
+spot-at e = cc
+
+spot-position : {a b p q l m : ℕ} → spot a p l ≡ spot b q m → p ≡ q
+spot-position e = cc
+
+spot-left : {a b p q l m : ℕ} → spot a p l ≡ spot b q m → l ≡ m
+spot-left e = cc
+
+none≢some : {f : Fragment} {fs : List Fragment} → [] ≡ f ∷ fs → ⊥
+none≢some e = let z = ap length e in omega arith
+
+same-tail : {f g : Fragment} {fs gs : List Fragment} → f ∷ fs ≡ g ∷ gs → fs ≡ gs
+same-tail e = cc
+
+module _ (s ws : List ℕ) (at p l m : ℕ) {here : ℕ} (is : here ≡ length (part p l s)) where
+  pub spot-stay : m ≤ here → spot at (p + m) (here - m) ≡ spotPast m (ahead s ws at p l) at
+  unfolding ahead spotPast
+  spot-stay h = rw is (le-yes _ _ _ _ (rw is at h) refl)
+
+  pub spot-move : {v : Spot} {o z : ℕ} → spotPast m (ahead s ws at p l) at ≡ v → here < m → at + 3 ≤ length ws → o ≡ getD ws at 0
+      → z ≡ getD ws (at + 1) 0
+      → spotPast (m - here) (ahead s ws (at + 3) o z) (at + 3) ≡ v
+  unfolding ahead spotPast clipped
+  spot-move r h i x y = rw (is, x, y) (le-no _ _ _ _ (rw is at h) refl ∙ (rw (from-more ws at i) at r))
+
+  pub spot-over : {v : Spot} → spotPast m (ahead s ws at p l) at ≡ v → here < m → length ws < at + 3 → nowhere ≡ v
+  unfolding ahead spotPast clipped
+  spot-over r h i = le-no _ _ _ _ (rw is at h) refl ∙ (rw (from-none ws at i) at r)
+
+-- what is ahead at a spot n bytes further on
+pub record Landed (s ws : List ℕ) (at p l n a q z : ℕ) : Type 0 where
+  pub skips : skip n (ahead s ws at p l) ≡ onto (ahead s ws a q z)
+  pub on : (m : ℕ) → spotPast m (ahead s ws a q z) a ≡ spotPast (n + m) (ahead s ws at p l) at
+
+module _ (s ws : List ℕ) where
+  -- in the same fragment
+  stay-on : (at p l n : ℕ) → n ≤ length (part p l s) → (m : ℕ)
+      → spotPast m (ahead s ws at (p + n) (length (part p l s) - n)) at ≡ spotPast (n + m) (ahead s ws at p l) at
+  unfolding ahead spotPast
+  stay-on at p l n h m =
+      let k = part-high p l s in
+      let e : length (part (p + n) (length (part p l s) - n) s) ≡ length (part p l s) - n = part-all (p + n) (length (part p l s) - n) s
+      (omega arith) in
+      rw e (⊎-elim
+      (λ g. let a : p + n + m ≡ p + (n + m) = omega arith in let b : length (part p l s) - n - m ≡ length (part p l s) - (n + m) = omega arith in
+      sym (le-yes _ _ _ _ g refl) ∙ rw (a, b) (le-yes _ _ _ _ (omega arith) refl))
+      (λ g. let a : m - (length (part p l s) - n) ≡ n + m - length (part p l s) = omega arith in
+      sym (le-no _ _ _ _ g refl) ∙ rw a (le-no _ _ _ _ (omega arith) refl))
+      (le-or-lt m (length (part p l s) - n)))
+
+  land-stay : (at p l n : ℕ) → n ≤ length (part p l s) → Landed s ws at p l n at (p + n) (length (part p l s) - n)
+  land-stay at p l n h = record { skips = sym (skip-stay s ws at p l n refl h); on = stay-on at p l n h }
+
+  -- in a later one
+  land-move : (at p l n : ℕ) {a q z : ℕ} → length (part p l s) < n → at + 3 ≤ length ws
+      → Landed s ws (at + 3) (getD ws at 0) (getD ws (at + 1) 0) (n - length (part p l s)) a q z → Landed s ws at p l n a q z
+  land-move at p l n h i t = record {
+    skips = sym (skip-move s ws at p l n refl refl h i refl refl) ∙ t .skips;
+    on = λ m.
+        let e : n - length (part p l s) + m ≡ n + m - length (part p l s) = omega arith in
+        (rw e at (t .on m)) ∙ spot-move s ws at p l (n + m) refl refl (omega arith) i refl refl;
+  }
+
+  stay-landed : (at p l n : ℕ) {a q z : ℕ} → spotPast n (ahead s ws at p l) at ≡ spot a q z → n ≤ length (part p l s)
+      → Landed s ws at p l n a q z
+  stay-landed at p l n {a} {q} {z} r h =
+      let v : spot at (p + n) (length (part p l s) - n) ≡ spot a q z = spot-stay s ws at p l n refl h ∙ r in
+      rw (← spot-at v, ← spot-position v, ← spot-left v) (land-stay at p l n h)
+
+  land : (fs : List Fragment) (at p l n : ℕ) {a q z : ℕ} → fragmentsFrom ws at ≡ fs → spotPast n (ahead s ws at p l) at ≡ spot a q z
+      → Landed s ws at p l n a q z
+  land [] at p l n e r =
+      ⊎-elim (λ h. stay-landed at p l n r h)
+      (λ h. ⊎-elim (λ i. absurd (none≢some (sym e ∙ from-more ws at i)))
+      (λ i. absurd (nowhere≢spot (spot-over s ws at p l n refl r h i))) (le-or-lt (at + 3) (length ws)))
+      (le-or-lt n (length (part p l s)))
+  land (f ∷ fs) at p l n e r =
+      ⊎-elim (λ h. stay-landed at p l n r h)
+      (λ h. ⊎-elim (λ i. land-move at p l n h i
+      (land fs (at + 3) _ _ _ (same-tail (sym (from-more ws at i) ∙ e)) (spot-move s ws at p l n refl r h i refl refl)))
+      (λ i. absurd (nowhere≢spot (spot-over s ws at p l n refl r h i))) (le-or-lt (at + 3) (length ws)))
+      (le-or-lt n (length (part p l s)))
+
+pub landed : (s ws : List ℕ) (at p l n : ℕ) {a q z : ℕ} → spotPast n (ahead s ws at p l) at ≡ spot a q z → Landed s ws at p l n a q z
+landed s ws at p l n r = land s ws (fragmentsFrom ws at) at p l n refl r
+
+pub nowhere-short : (fs : List Fragment) (m at : ℕ) → spotPast m fs at ≡ nowhere → skip m fs ≡ short
+unfolding spotPast skip
+nowhere-short [] m at e = refl
+nowhere-short (f ∷ fs) m at e =
+    ⊎-elim
+    (λ h. absurd (nowhere≢spot (sym (le-yes _ _ _ _ h refl ∙ e))))
+    (λ h. sym (le-no _ _ _ _ h refl) ∙ nowhere-short fs (m - f .size) (at + 3) (le-no _ _ _ _ h refl ∙ e))
+    (le-or-lt m (f .size))

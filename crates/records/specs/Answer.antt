@@ -3,7 +3,7 @@ use Prim.Native.Nat.{ℕ}
 use mathlib.Core.List.{List, [], _∷_}
 use Rattle.base.specs.Checked.{Checked, ok, refused}
 use Rattle.mdf.specs.Records.{Known, known, unknown}
-use Rattle.records.specs.Ahead.{ahead, Skipped, short, onto, Stepped, stuck, stepped}
+use Rattle.records.specs.Ahead.{Spot, nowhere, spot, Reached, halted, reached}
 use Rattle.records.specs.Framing.{Numeral, none, value}
 use Rattle.records.specs.declared.framing.Step.{Step}
 use Rattle.records.specs.declared.framing.Step.the-variants.{Broken, Record}
@@ -20,10 +20,9 @@ abbrev pub countedOf : Counted → Checked (List ℕ)
 countedOf (Refused number place) = refused number place
 countedOf (Count n) = ok (n ∷ [])
 
--- where it moved to: what is ahead there
-abbrev pub movedOf : List ℕ → List ℕ → Moved → Skipped
-movedOf s ws Past = short
-movedOf s ws (To at position left) = onto (ahead s ws at position left)
+abbrev pub movedOf : Moved → Spot
+movedOf Past = nowhere
+movedOf (To at position left) = spot at position left
 
 abbrev pub numberOf : Number → Numeral
 numberOf Missing = none
@@ -33,6 +32,6 @@ abbrev pub foundOf : Found → Known
 foundOf Unknown = unknown
 foundOf (Group number cg) = known number cg
 
-abbrev pub steppedOf : List ℕ → List ℕ → Step → Stepped
-steppedOf s ws Broken = stuck
-steppedOf s ws (Record group bytes next position left) = stepped group bytes (ahead s ws (next .at) position left)
+abbrev pub reachedOf : Step → Reached
+reachedOf Broken = halted
+reachedOf (Record group bytes next position left) = reached group bytes (next .at) position left

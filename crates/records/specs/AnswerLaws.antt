@@ -3,9 +3,11 @@ use Prim.Native.Nat.{ℕ}
 use mathlib.Core.List.{List}
 use mathlib.Core.Path.{_≡_, sym, _∙_}
 use Rattle.mdf.specs.Records.{Known, known, unknown}
-use Rattle.records.specs.Ahead.{ahead, Skipped, short, onto, Stepped, stuck, stepped}
+use Rattle.records.specs.Ahead.{ahead, short, onto, skip, Spot, nowhere, spot, spotPast, stuck, stepped, stepAt, stepTo}
 use Rattle.records.specs.Framing.{Numeral, none, value}
-use Rattle.records.specs.Answer.{movedOf, numberOf, foundOf, steppedOf}
+use Rattle.records.specs.Answer.{movedOf, numberOf, foundOf, reachedOf}
+use Rattle.records.specs.AheadLaws.{landed, nowhere-short}
+use Rattle.records.specs.FrameLaws.{halted-stuck, reached-stepped}
 use Rattle.records.specs.declared.framing.Framing.{Framing}
 use Rattle.records.specs.declared.framing.Step.{Step}
 use Rattle.records.specs.declared.framing.Step.the-variants.{Broken, Record}
@@ -16,12 +18,19 @@ use Rattle.records.specs.declared.framing.Number.the-variants.{Missing, 
 use Rattle.records.specs.declared.framing.Found.{Found}
 use Rattle.records.specs.declared.framing.Found.the-variants.{Unknown, Group}
 
-module _ (s ws : List ℕ) {o : Moved} {v : Skipped} (e : movedOf s ws o ≡ v) where
-  pub so-past : o ≡ Past → v ≡ short
-  so-past q = sym e ∙ rw q
+module _ {o : Moved} {v : Spot} (e : movedOf o ≡ v) where
+  pub so-nowhere : o ≡ Past → v ≡ nowhere
+  so-nowhere q = sym e ∙ rw q
 
-  pub so-to : {at p l : ℕ} → o ≡ To at p l → v ≡ onto (ahead s ws at p l)
-  so-to q = sym e ∙ rw q
+  pub so-spot : {at p l : ℕ} → o ≡ To at p l → v ≡ spot at p l
+  so-spot q = sym e ∙ rw q
+
+module _ (s ws : List ℕ) (at p l m : ℕ) {o : Moved} (e : movedOf o ≡ spotPast m (ahead s ws at p l) at) where
+  pub so-past : o ≡ Past → skip m (ahead s ws at p l) ≡ short
+  so-past q = nowhere-short _ _ _ (sym e ∙ rw q)
+
+  pub so-to : {a x z : ℕ} → o ≡ To a x z → skip m (ahead s ws at p l) ≡ onto (ahead s ws a x z)
+  so-to {a} {x} {z} q = let v : spotPast m (ahead s ws at p l) at ≡ spot a x z = sym e ∙ rw q in landed s ws at p l m v .skips
 
 module _ {o : Number} {v : Numeral} (e : numberOf o ≡ v) where
   pub so-missing : o ≡ Missing → v ≡ none
@@ -37,9 +46,9 @@ module _ {o : Found} {v : Known} (e : foundOf o ≡ v) where
   pub so-group : {k g : ℕ} → o ≡ Group k g → v ≡ known k g
   so-group q = sym e ∙ rw q
 
-module _ (s ws : List ℕ) {o : Step} {v : Stepped} (e : steppedOf s ws o ≡ v) where
-  pub so-broken : o ≡ Broken → v ≡ stuck
-  so-broken q = sym e ∙ rw q
+module _ (s : List ℕ) (n : ℕ) (gs ws : List ℕ) (at p l : ℕ) {o : Step} (e : reachedOf o ≡ stepTo s n gs (ahead s ws at p l) at) where
+  pub so-broken : o ≡ Broken → stepAt s n gs (ahead s ws at p l) ≡ stuck
+  so-broken q = halted-stuck s n gs _ at (sym e ∙ rw q)
 
-  pub so-record : {k m p l : ℕ} {f : Framing} → o ≡ Record k m f p l → v ≡ stepped k m (ahead s ws (f .at) p l)
-  so-record q = sym e ∙ rw q
+  pub so-record : {k m x z : ℕ} {f : Framing} → o ≡ Record k m f x z → stepAt s n gs (ahead s ws at p l) ≡ stepped k m (ahead s ws (f .at) x z)
+  so-record q = reached-stepped s n gs ws at p l (sym e ∙ rw q)

@@ -16,10 +16,10 @@ use Rattle.base.specs.Field.{leAt}
 use Rattle.mdf.specs.Block.{dataAt}
 use Rattle.mdf.specs.Chain.{Fragment}
 use Rattle.mdf.specs.Group.{recordId, samples, invalBytes, isStorage}
-use Rattle.mdf.specs.Records.{most64, joined, Known, known, unknown, onKnown, withId, framed, broken, ofBytes, frameOf, frameAt}
-use Rattle.records.specs.Ahead.{Skipped, short, onto, skip, Stepped, stepped, stuck, past, onFrame, stepAt}
-use Rattle.records.specs.Framing.{none, value, numeral, bodyOf, onNumeral, bodyStep}
-use Rattle.records.specs.AheadLaws.{Counts, le-or-lt, skip-skip}
+use Rattle.mdf.specs.Records.{most64, joined, Known, known, unknown, onKnown, withId, Framed, framed, broken, ofBytes, frameOf, frameAt}
+use Rattle.records.specs.Ahead.{ahead, short, onto, skip, Spot, nowhere, spot, spotPast, stepped, stuck, past, onFrame, stepAt, Reached, reached, halted, upTo, onFramedTo, stepTo}
+use Rattle.records.specs.Framing.{none, value, numeral, bodyOf, onNumeral, bodyTo}
+use Rattle.records.specs.AheadLaws.{Counts, ahead-counts, le-or-lt, Landed, landed, nowhere-short}
 
 -- ---- the group with an id
 ids-more : (s : List ℕ) (id k : ℕ) (gs : List ℕ) (i : ℕ) → i < length gs
@@ -139,18 +139,17 @@ module _ (s : List ℕ) (g : ℕ) where
   unfolding bodyOf
   body-length fs t e q k m = rw (← e, q, m) (le-yes _ _ _ _ (t .long 4 k) refl)
 
-module _ (s : List ℕ) (k g : ℕ) (fs : List Fragment) where
-  pub record-none : bodyOf s (joined s fs) g ≡ none → stuck ≡ bodyStep s k g fs
-  unfolding bodyStep
+module _ (s : List ℕ) (k g : ℕ) (fs : List Fragment) (at : ℕ) where
+  pub record-none : bodyOf s (joined s fs) g ≡ none → halted ≡ bodyTo s k g fs at
+  unfolding bodyTo
   record-none e = rw e
 
-  pub record-short : {m : ℕ} → bodyOf s (joined s fs) g ≡ value m → skip m fs ≡ short → stuck ≡ bodyStep s k g fs
-  unfolding bodyStep
+  pub record-short : {m : ℕ} → bodyOf s (joined s fs) g ≡ value m → spotPast m fs at ≡ nowhere → halted ≡ bodyTo s k g fs at
+  unfolding bodyTo
   record-short e q = rw (e, q)
 
-  pub record-onto : {m : ℕ} {hs : List Fragment} → bodyOf s (joined s fs) g ≡ value m → skip m fs ≡ onto hs
-      → stepped k m hs ≡ bodyStep s k g fs
-  unfolding bodyStep
+  pub record-onto : {m a p l : ℕ} → bodyOf s (joined s fs) g ≡ value m → spotPast m fs at ≡ spot a p l → reached k m a p l ≡ bodyTo s k g fs at
+  unfolding bodyTo
   record-onto e q = rw (e, q)
 
 -- ---- the step
@@ -159,41 +158,55 @@ unfolding leAt
 le-drop zero n d at = refl
 le-drop (suc m) n d at = rw (getD-drop n d at 0, le-drop m n d (at + 1)) (let e : n + (at + 1) ≡ n + at + 1 = omega arith in rw e)
 
-module _ (s : List ℕ) (n : ℕ) (gs : List ℕ) (fs : List Fragment) (t : Counts s fs) where
-  pub step-short : skip n fs ≡ short → stuck ≡ stepAt s n gs fs
-  unfolding stepAt frameAt
+module _ (s : List ℕ) (n : ℕ) (gs ws : List ℕ) (at p l : ℕ) where
+  abbrev fs : List Fragment
+  fs = ahead s ws at p l
+
+  t : Counts s fs
+  t = ahead-counts s ws at p l
+
+  pub step-short : spotPast n fs at ≡ nowhere → halted ≡ stepTo s n gs fs at
+  unfolding stepTo frameAt
   step-short e = rw (← le-no n (length (joined s fs))
-      (onKnown (withId s (leAt n (joined s fs) 0) 0 gs) (λ k g. frameOf s (joined s fs) n k g)) broken (t .few n e) refl)
+      (onKnown (withId s (leAt n (joined s fs) 0) 0 gs) (λ k g. frameOf s (joined s fs) n k g)) broken
+      (t .few n (nowhere-short fs n at e)) refl)
 
-  module _ {hs : List Fragment} (e : skip n fs ≡ onto hs) where
-    opened : stepAt s n gs fs ≡ onFrame (onKnown (withId s (leAt n (joined s fs) 0) 0 gs) (λ k g. frameOf s (joined s fs) n k g)) n fs
-    unfolding stepAt frameAt
+  module _ {a q z : ℕ} (e : spotPast n fs at ≡ spot a q z) where
+    abbrev hs : List Fragment
+    hs = ahead s ws a q z
+
+    land : Landed s ws at p l n a q z
+    land = landed s ws at p l n e
+
+    opened : stepTo s n gs fs at
+        ≡ onFramedTo (onKnown (withId s (leAt n (joined s fs) 0) 0 gs) (λ k g. frameOf s (joined s fs) n k g)) n fs at
+    unfolding stepTo frameAt
     opened = rw (← le-yes n (length (joined s fs)) (onKnown (withId s (leAt n (joined s fs) 0) 0 gs)
-        (λ k g. frameOf s (joined s fs) n k g)) broken (t .long n e) refl)
+        (λ k g. frameOf s (joined s fs) n k g)) broken (t .long n (land .skips)) refl)
 
-    pub step-big : ((i : ℕ) → getD s i 0 < 256) → numeral (leAt n (joined s fs) 0) ≡ none → stuck ≡ stepAt s n gs fs
-    step-big b q = rw (opened, id-unknown s b (leAt n (joined s fs) 0) 0 gs (numeral-none _ q))
+    pub step-big : ((i : ℕ) → getD s i 0 < 256) → numeral (leAt n (joined s fs) 0) ≡ none → halted ≡ stepTo s n gs fs at
+    step-big b u = rw (opened, id-unknown s b (leAt n (joined s fs) 0) 0 gs (numeral-none _ u))
 
-    pub step-unknown : {x : ℕ} → numeral (leAt n (joined s fs) 0) ≡ value x → withId s x 0 gs ≡ unknown → stuck ≡ stepAt s n gs fs
-    step-unknown q u = rw (opened, numeral-value _ q, u)
+    pub step-unknown : {x : ℕ} → numeral (leAt n (joined s fs) 0) ≡ value x → withId s x 0 gs ≡ unknown → halted ≡ stepTo s n gs fs at
+    step-unknown u k = rw (opened, numeral-value _ u, k)
 
     -- a record of m bytes past the id, if there are so many
-    sized : (k m : ℕ) → past (skip m hs) k m ≡ onFrame (ofBytes (joined s fs) n k m) n fs
+    sized : (k m : ℕ) → upTo (spotPast m hs a) k m ≡ onFramedTo (ofBytes (joined s fs) n k m) n fs at
     unfolding ofBytes
-    sized k m = rw (skip-skip fs n m e) (go (skip (n + m) fs) refl)
+    sized k m = rw (land .on m) (go (spotPast (n + m) fs at) refl)
       where
-        go : (v : Skipped) → skip (n + m) fs ≡ v → past (skip (n + m) fs) k m ≡ onFrame (ofBytes (joined s fs) n k m) n fs
-        go short q = rw (q, ← le-no (n + m) (length (joined s fs)) (framed _) broken (t .few (n + m) q) refl)
-        go (onto is) q =
-            let z : n + m - n ≡ m = omega arith in
-            rw (← le-yes (n + m) (length (joined s fs)) (framed _) broken (t .long (n + m) q) refl, z)
+        go : (v : Spot) → spotPast (n + m) fs at ≡ v → upTo (spotPast (n + m) fs at) k m ≡ onFramedTo (ofBytes (joined s fs) n k m) n fs at
+        go nowhere u = rw (u, ← le-no (n + m) (length (joined s fs)) (framed _) broken (t .few (n + m) (nowhere-short fs (n + m) at u)) refl)
+        go (spot b x y) u =
+            let i : n + m - n ≡ m = omega arith in
+            rw (← le-yes (n + m) (length (joined s fs)) (framed _) broken (t .long (n + m) (landed s ws at p l (n + m) u .skips)) refl, i)
 
-    stored : (k : ℕ) → onNumeral (ifLe 4 (length (joined s hs)) (value (4 + leAt 4 (joined s hs) 0)) none) (λ m. past (skip m hs) k m)
-        ≡ onFrame (ifLe (n + 4) (length (joined s fs)) (ofBytes (joined s fs) n k (4 + leAt 4 (joined s fs) n)) broken) n fs
+    stored : (k : ℕ) → onNumeral (ifLe 4 (length (joined s hs)) (value (4 + leAt 4 (joined s hs) 0)) none) (λ m. upTo (spotPast m hs a) k m)
+        ≡ onFramedTo (ifLe (n + 4) (length (joined s fs)) (ofBytes (joined s fs) n k (4 + leAt 4 (joined s fs) n)) broken) n fs at
     stored k =
-        let d : joined s hs ≡ drop n (joined s fs) = t .drops n e in
-        let l : length (joined s hs) ≡ length (joined s fs) - n = ap length d ∙ length-drop n (joined s fs) in
-        let h = t .long n e in
+        let d : joined s hs ≡ drop n (joined s fs) = t .drops n (land .skips) in
+        let i : length (joined s hs) ≡ length (joined s fs) - n = ap length d ∙ length-drop n (joined s fs) in
+        let h = t .long n (land .skips) in
         let f : leAt 4 (joined s hs) 0 ≡ leAt 4 (joined s fs) n = rw d (le-drop 4 n (joined s fs) 0 ∙ rw add-zero) in
         ⊎-elim
         (λ b. rw (
@@ -210,14 +223,52 @@ module _ (s : List ℕ) (n : ℕ) (gs : List ℕ) (fs : List Fragment) (t : Coun
 
     by-kind : (k g : ℕ) (b : Bool)
         → onNumeral (pick b (ifLe 4 (length (joined s hs)) (value (4 + leAt 4 (joined s hs) 0)) none)
-        (value (samples s g + invalBytes s g))) (λ m. past (skip m hs) k m)
-        ≡ onFrame (pick b (ifLe (n + 4) (length (joined s fs)) (ofBytes (joined s fs) n k (4 + leAt 4 (joined s fs) n)) broken)
-        (ofBytes (joined s fs) n k (samples s g + invalBytes s g))) n fs
+        (value (samples s g + invalBytes s g))) (λ m. upTo (spotPast m hs a) k m)
+        ≡ onFramedTo (pick b (ifLe (n + 4) (length (joined s fs)) (ofBytes (joined s fs) n k (4 + leAt 4 (joined s fs) n)) broken)
+        (ofBytes (joined s fs) n k (samples s g + invalBytes s g))) n fs at
     by-kind k g true = stored k
     by-kind k g false = sized k (samples s g + invalBytes s g)
 
-    pub step-body : {x k g : ℕ} {r : Stepped} → numeral (leAt n (joined s fs) 0) ≡ value x → withId s x 0 gs ≡ known k g
-        → r ≡ bodyStep s k g hs
-        → r ≡ stepAt s n gs fs
-    unfolding bodyStep bodyOf frameOf
-    step-body {x} {k} {g} q u j = rw (opened, numeral-value _ q, u) (j ∙ by-kind k g (isStorage s g))
+    pub step-body : {x k g : ℕ} {r : Reached} → numeral (leAt n (joined s fs) 0) ≡ value x → withId s x 0 gs ≡ known k g
+        → r ≡ bodyTo s k g hs a
+        → r ≡ stepTo s n gs fs at
+    unfolding bodyTo bodyOf frameOf
+    step-body {x} {k} {g} u v j = rw (opened, numeral-value _ u, v) (j ∙ by-kind k g (isStorage s g))
+
+-- ---- a step by numbers is a step
+halted≢reached : {k m a q z : ℕ} → halted ≡ reached k m a q z → ⊥
+halted≢reached e = let z : _≡_ {A = ℕ} 0 1 = cc in omega arith
+
+spot-of : {g m k i a q z b x y : ℕ} → reached g m b x y ≡ reached k i a q z → spot b x y ≡ spot a q z
+spot-of e = cc
+
+group-of : {g m k i a q z b x y : ℕ} → reached g m b x y ≡ reached k i a q z → g ≡ k
+group-of e = cc
+
+bytes-of : {g m k i a q z b x y : ℕ} → reached g m b x y ≡ reached k i a q z → m ≡ i
+bytes-of e = cc
+
+pub halted-stuck : (s : List ℕ) (n : ℕ) (gs : List ℕ) (fs : List Fragment) (at : ℕ) → stepTo s n gs fs at ≡ halted → stepAt s n gs fs ≡ stuck
+unfolding stepTo stepAt
+halted-stuck s n gs fs at e = go (frameAt s n gs (joined s fs)) e
+  where
+    by-spot : (v : Spot) (m g i : ℕ) → spotPast m fs at ≡ v → upTo v g i ≡ halted → skip m fs ≡ short
+    by-spot nowhere m g i q u = nowhere-short fs m at q
+    by-spot (spot a x z) m g i q u = absurd (halted≢reached (sym u))
+    go : (v : Framed) → onFramedTo v n fs at ≡ halted → onFrame v n fs ≡ stuck
+    go broken u = refl
+    go (framed r) u = rw (by-spot (spotPast (r .size) fs at) (r .size) (r .group) (r .size - n) refl u)
+
+pub reached-stepped : (s : List ℕ) (n : ℕ) (gs ws : List ℕ) (at p l : ℕ) {k m a q z : ℕ}
+    → stepTo s n gs (ahead s ws at p l) at ≡ reached k m a q z → stepAt s n gs (ahead s ws at p l) ≡ stepped k m (ahead s ws a q z)
+unfolding stepTo stepAt
+reached-stepped s n gs ws at p l {k} {m} {a} {q} {z} e = go (frameAt s n gs (joined s (ahead s ws at p l))) e
+  where
+    by-spot : (v : Spot) (i g j : ℕ) → spotPast i (ahead s ws at p l) at ≡ v → upTo v g j ≡ reached k m a q z
+        → past (skip i (ahead s ws at p l)) g j ≡ stepped k m (ahead s ws a q z)
+    by-spot nowhere i g j w u = absurd (halted≢reached u)
+    by-spot (spot b x y) i g j w u = rw (landed s ws at p l i (w ∙ spot-of u) .skips, group-of u, bytes-of u)
+    go : (v : Framed) → onFramedTo v n (ahead s ws at p l) at ≡ reached k m a q z
+        → onFrame v n (ahead s ws at p l) ≡ stepped k m (ahead s ws a q z)
+    go broken u = absurd (halted≢reached u)
+    go (framed r) u = by-spot (spotPast (r .size) (ahead s ws at p l) at) (r .size) (r .group) (r .size - n) refl u

@@ -7,7 +7,7 @@ use Rattle.base.specs.Field.{leAt}
 use Rattle.mdf.specs.Chain.{Fragment}
 use Rattle.mdf.specs.Group.{samples, invalBytes, isStorage}
 use Rattle.mdf.specs.Records.{most64, joined}
-use Rattle.records.specs.Ahead.{skip, Stepped, stuck, past}
+use Rattle.records.specs.Ahead.{spotPast, Reached, halted, upTo}
 
 -- a number, or none
 pub data Numeral : Type 0 where
@@ -24,10 +24,10 @@ unfoldable pub bodyOf : List ℕ → List ℕ → ℕ → Numeral
 bodyOf s d g =
     pick (isStorage s g) (ifLe 4 (length d) (value (4 + leAt 4 d 0)) none) (value (samples s g + invalBytes s g))
 
-abbrev pub onNumeral : Numeral → (ℕ → Stepped) → Stepped
-onNumeral none f = stuck
+abbrev pub onNumeral : Numeral → (ℕ → Reached) → Reached
+onNumeral none f = halted
 onNumeral (value n) f = f n
 
 -- a record of group number k, whose CG is at g, past its id
-unfoldable pub bodyStep : List ℕ → ℕ → ℕ → List Fragment → Stepped
-bodyStep s k g fs = onNumeral (bodyOf s (joined s fs) g) (λ m. past (skip m fs) k m)
+unfoldable pub bodyTo : List ℕ → ℕ → ℕ → List Fragment → ℕ → Reached
+bodyTo s k g fs at = onNumeral (bodyOf s (joined s fs) g) (λ m. upTo (spotPast m fs at) k m)

@@ -4,6 +4,7 @@ pub mod Counted
 pub mod Ahead
 pub mod Framing
 pub mod Several
+pub mod Table
 pub mod Answer
 pub mod AnswerLaws
 pub mod GroupLaws
@@ -13,4 +14,5 @@ pub mod CountLaws
 pub mod AheadLaws
 pub mod FrameLaws
 pub mod SeveralLaws
+pub mod TableLaws
 pub mod ReadingLaws

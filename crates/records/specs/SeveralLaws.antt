@@ -147,7 +147,7 @@ unfolding blit
 getD-before [] j i w h = refl
 getD-before (x ∷ xs) j i w h = getD-before xs (suc j) i (set w j x) (omega arith) ∙ getD-set-other w j i x 0 (λ e. omega arith)
 
-getD-blit : (xs : List ℕ) (j i : ℕ) (w : List ℕ) → i < length xs → j + i < length w → getD (blit j xs w) (j + i) 0 ≡ getD xs i 0
+pub getD-blit : (xs : List ℕ) (j i : ℕ) (w : List ℕ) → i < length xs → j + i < length w → getD (blit j xs w) (j + i) 0 ≡ getD xs i 0
 unfolding blit
 getD-blit [] j i w h k = absurd (omega arith)
 getD-blit (x ∷ xs) j zero w h k =

@@ -12,9 +12,9 @@ ghost use Rattle.base.specs.Blit.{part};
 ghost use Rattle.base.specs.Field.{leAt};
 ghost use Rattle.mdf.specs.Records.{joined, withId};
 ghost use Rattle.records.specs.Bounded.{Bounded};
-ghost use Rattle.records.specs.Ahead.{ahead, skip, stepAt};
-ghost use Rattle.records.specs.Framing.{numeral, bodyOf, bodyStep};
-ghost use Rattle.records.specs.Answer.{movedOf, numberOf, foundOf, steppedOf};
+ghost use Rattle.records.specs.Ahead.{ahead, spotPast, stepTo};
+ghost use Rattle.records.specs.Framing.{numeral, bodyOf, bodyTo};
+ghost use Rattle.records.specs.Answer.{movedOf, numberOf, foundOf, reachedOf};
 
 // What is ahead past the position: the fragments whose words begin at this index.
 pub struct Framing {
@@ -67,8 +67,7 @@ pub fn inside(image: &[u8], position: u64, left: u64) -> u64
 
 // The place m bytes further on.
 pub fn skip_on(image: &[u8], fragments: &[u64], at: u64, position: u64, left: u64, m: u64) -> Moved
-    ensures { λ r. ⌜ movedOf (now (image .entry)) (now (fragments .entry)) r
-        ≡ skip m (ahead (now (image .entry)) (now (fragments .entry)) at position left) ⌝ }
+    ensures { λ r. ⌜ movedOf r ≡ spotPast m (ahead (now (image .entry)) (now (fragments .entry)) at position left) at ⌝ }
 {
     let n = fragments.len() as u64;
     let mut i = at;
@@ -210,8 +209,8 @@ fn body_step(
     k: u64,
     g: u64,
 ) -> Step
-    ensures { λ r. ⌜ steppedOf (now (image .entry)) (now (fragments .entry)) r
-        ≡ bodyStep (now (image .entry)) k g (ahead (now (image .entry)) (now (fragments .entry)) at position left) ⌝ }
+    ensures { λ r. ⌜ reachedOf r
+        ≡ bodyTo (now (image .entry)) k g (ahead (now (image .entry)) (now (fragments .entry)) at position left) at ⌝ }
 {
     let size = body_of(image, fragments, at, position, left, g);
     match size {
@@ -249,8 +248,9 @@ impl Framing {
         position: u64,
         left: u64,
     ) -> Step
-        ensures { λ r. ⌜ steppedOf (now (image .entry)) (now (fragments .entry)) r
-            ≡ stepAt (now (image .entry)) n (now (groups .entry)) (ahead (now (image .entry)) (now (fragments .entry)) (self .at) position left) ⌝ }
+        ensures { λ r. ⌜ reachedOf r
+            ≡ stepTo (now (image .entry)) n (now (groups .entry)) (ahead (now (image .entry)) (now (fragments .entry)) (self .at) position left)
+            (self .at) ⌝ }
     {
         let to = skip_on(image, fragments, self.at, position, left, n);
         match to {

@@ -4,3 +4,4 @@ pub mod framing;
 pub mod group;
 pub mod several;
 pub mod sorted;
+pub mod table;

@@ -22,10 +22,11 @@ use Rattle.payload_laws.specs.FramedLaws.{AllKnown, unsorted-several}
 use Rattle.records.specs.declared.framing.Step.{Step}
 use Rattle.records.specs.declared.framing.Step.the-variants.{Broken, Record}
 use Rattle.records.specs.declared.framing.Framing.{Framing}
-use Rattle.records.specs.Ahead.{fragmentsFrom, Skipped, short, onto, skip, stepped, stuck, stepAt}
+use Rattle.records.specs.Ahead.{fragmentsFrom, Skipped, short, onto, skip, stepped, stuck, stepAt, stepTo}
 use Rattle.records.specs.Ahead as records
 use Rattle.records.specs.AheadLaws.{joined-ahead, ahead-counts}
-use Rattle.records.specs.Answer.{steppedOf}
+use Rattle.records.specs.Answer.{reachedOf}
+use Rattle.records.specs.AnswerLaws.{so-broken, so-record}
 use Rattle.records.specs.ReadingLaws.{stuck-broken}
 use Rattle.writing.specs.declared.cursor.Cursor.{Cursor}
 use Rattle.writing.specs.declared.rows.Sizes.{Sizes}
@@ -319,20 +320,20 @@ same-step e = (cc, cc)
 
 module _ (s : List ℕ) (n : ℕ) (gs ws : List ℕ) (k : Cursor) {v : Frame} (r : Step)
     (f : frameAt s n gs (joined s (ahead ws k)) ≡ framed v)
-    (e : steppedOf s ws r ≡ stepAt s n gs (records.ahead s ws (k .at) (k .position) (k .left))) where
+    (e : reachedOf r ≡ stepTo s n gs (records.ahead s ws (k .at) (k .position) (k .left)) (k .at)) where
   same-frame : frameAt s n gs (joined s (records.ahead s ws (k .at) (k .position) (k .left))) ≡ framed v
   same-frame = rw (same-bytes s ws k) f
 
   step-framed : r ≡ Broken → ⊥
   step-framed q =
-      let z : stepAt s n gs (records.ahead s ws (k .at) (k .position) (k .left)) ≡ stuck = sym e ∙ ap (steppedOf s ws) q in
+      let z : stepAt s n gs (records.ahead s ws (k .at) (k .position) (k .left)) ≡ stuck = so-broken s n gs ws _ _ _ e q in
       broken≢framed (sym (stuck-broken s n gs _ (ahead-counts s ws (k .at) (k .position) (k .left)) z) ∙ same-frame)
 
   step-is : {j m : ℕ} {x : Framing} {p l : ℕ} → r ≡ Record j m x p l → (v .group ≡ j) × (v .size - n ≡ m)
   unfolding stepAt
   step-is {j} {m} {x} {p} {l} q =
       let y : stepped j m (records.ahead s ws (x .at) p l) ≡ stepAt s n gs (records.ahead s ws (k .at) (k .position) (k .left)) =
-      sym (ap (steppedOf s ws) q) ∙ e in
+      sym (so-record s n gs ws _ _ _ e q) in
       go (skip (v .size) (records.ahead s ws (k .at) (k .position) (k .left))) (rw same-frame at y)
     where
       go : (o : Skipped) → stepped j m (records.ahead s ws (x .at) p l) ≡ records.past o (v .group) (v .size - n)
@@ -367,9 +368,10 @@ module _ {s : List ℕ} {d : ℕ} {gs ws : List ℕ} {k : Cursor} (f : Flowing s
         },
       )
 
-  module _ (n : ℕ) (id : n ≡ idSize s d) (r : Step) (e : steppedOf s ws r ≡ stepAt s n gs (records.ahead s ws (k .at) (k .position) (k .left))) where
-    own-step : steppedOf s ws r ≡ stepAt s (idSize s d) gs (records.ahead s ws (k .at) (k .position) (k .left))
-    own-step = e ∙ ap (λ (i : ℕ). stepAt s i gs (records.ahead s ws (k .at) (k .position) (k .left))) id
+  module _ (n : ℕ) (id : n ≡ idSize s d) (r : Step)
+      (e : reachedOf r ≡ stepTo s n gs (records.ahead s ws (k .at) (k .position) (k .left)) (k .at)) where
+    own-step : reachedOf r ≡ stepTo s (idSize s d) gs (records.ahead s ws (k .at) (k .position) (k .left)) (k .at)
+    own-step = e ∙ ap (λ (i : ℕ). stepTo s i gs (records.ahead s ws (k .at) (k .position) (k .left)) (k .at)) id
 
     pub among-framed : r ≡ Broken → ⊥
     among-framed q = step-framed s (idSize s d) gs ws k r (frame-here .is) own-step q

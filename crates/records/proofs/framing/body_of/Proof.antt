@@ -18,7 +18,7 @@ enum-told c = search needs
 returns : tie.Need-returns
 returns c =
     body-short _ _ _ (ahead-counts _ _ _ _ _) (c .before .before .before .before .is-storage .ensures)
-    (c .before .before .before .if1 .taken) (so-past _ _ (c .before .before .skip-on .ensures) (c .enum-told .given .1))
+    (c .before .before .before .if1 .taken) (so-past _ _ _ _ _ _ (c .before .before .skip-on .ensures) (c .enum-told .given .1))
 
 enum-told-2 : tie.Need-enum-told-2
 enum-told-2 c = search needs
@@ -33,7 +33,7 @@ returns-2 : tie.Need-returns-2
 returns-2 c =
     body-length _ _ _ (ahead-counts _ _ _ _ _) (c .before .before .before .before .before .is-storage .ensures)
     (c .before .before .before .before .if1 .taken)
-    (so-to _ _ (c .before .before .before .skip-on .ensures) (c .before .enum-told2 .given .1)) (c .length-at .ensures .is)
+    (so-to _ _ _ _ _ _ (c .before .before .before .skip-on .ensures) (c .before .enum-told2 .given .1)) (c .length-at .ensures .is)
 
 samples-of-requires : tie.Need-samples-of-requires
 samples-of-requires c κs = search needs

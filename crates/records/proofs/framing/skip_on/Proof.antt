@@ -1,6 +1,6 @@
 -- What is left to skip of what is then ahead gives what the whole gives.
-use Rattle.records.specs.AheadLaws.{part-high, skip-stay, skip-move, skip-over}
-use Rattle.records.specs.Ahead.{ahead, skip}
+use Rattle.records.specs.AheadLaws.{part-high, spot-stay, spot-move, spot-over}
+use Rattle.records.specs.Ahead.{ahead, spotPast}
 use mathlib.Core.Path.{_≡_, refl, _∙_}
 use Prim.Native.Nat.{_-_, _≤_}
 use borrow.Author.Needs.{needs}
@@ -11,7 +11,7 @@ use Rattle.records.proofs.framing.skip_on.Tie as tie
 
 abbrev Inv-loop : tie.InvT-loop
 Inv-loop image fragments at position left m n i₀ p₀ l₀ more₀ i p l more =
-    (p ≤ 18446744073709551615) × (skip more (ahead image fragments i p l) ≡ skip more₀ (ahead image fragments i₀ p₀ l₀))
+    (p ≤ 18446744073709551615) × (spotPast more (ahead image fragments i p l) i ≡ spotPast more₀ (ahead image fragments i₀ p₀ l₀) i₀)
 
 abbrev μ-loop : tie.MeasureT-loop
 μ-loop image fragments at position left m n i₀ p₀ l₀ more₀ i p l more = length fragments - i
@@ -28,16 +28,16 @@ add-t15 c =
     (c .before .before .before .before .before .args .image .now) in let e = c .before .inside .ensures in omega arith
 
 returns : tie.Need-returns Inv-loop μ-loop
-returns c = skip-stay _ _ _ _ _ _ (c .before .inside .ensures) (c .if1 .taken) ∙ c .before .before .loop .inv .1
+returns c = spot-stay _ _ _ _ _ _ (c .before .inside .ensures) (c .if1 .taken) ∙ c .before .before .loop .inv .1
 
 returns-2 : tie.Need-returns-2 Inv-loop μ-loop
 returns-2 c =
-    skip-over _ _ _ _ _ _ (c .before .before .inside .ensures) (c .before .before .before .loop .inv .1) (c .before .if1 .left)
+    spot-over _ _ _ _ _ _ (c .before .before .inside .ensures) (c .before .before .before .loop .inv .1) (c .before .if1 .left)
     (omega arith)
 
 returns-3 : tie.Need-returns-3 Inv-loop μ-loop
 returns-3 c =
-    skip-over _ _ _ _ _ _ (c .before .before .before .inside .ensures) (c .before .before .before .before .loop .inv .1)
+    spot-over _ _ _ _ _ _ (c .before .before .before .inside .ensures) (c .before .before .before .before .loop .inv .1)
     (c .before .before .if1 .left) (omega arith)
 
 sub-more : tie.Need-sub-more Inv-loop μ-loop
@@ -61,7 +61,7 @@ loop-less c = search needs
 loop-again : tie.Need-loop-again Inv-loop μ-loop
 loop-again c = (
   omega arith,
-  skip-move _ _ _ _ _ _ (c .before .before .before .before .before .inside .ensures)
+  spot-move _ _ _ _ _ _ (c .before .before .before .before .before .inside .ensures)
       (c .before .before .before .before .before .before .loop .inv .1) (c .before .before .before .before .if1 .left) (omega
           arith)
       (c .before .word-at .ensures) (c .word-at2 .ensures),

@@ -91,14 +91,14 @@ count-up-requires : tie.Need-count-up-requires Inv-records μ-records
 count-up-requires c κs =
     record-low _ _ _ _ _ _ _ _ _ (c .before .before .before .before .before .before .before .records .inv) _ _ _
     (c .before .before .before .before .before .before .before .before .before .before .before .before .before .before .before .before .pre
-    .0) (so-record _ _ (c .before .before .before .before .step .ensures) (c .before .before .step2 .given .1))
+    .0) (so-record _ _ _ _ _ _ _ (c .before .before .before .before .step .ensures) (c .before .before .step2 .given .1))
 
 records-less-2 : tie.Need-records-less-2 Inv-records μ-records
 records-less-2 c =
     record-less _ _ _ _ _ _ _ _ _
         (c .before .before .before .before .before .before .before .before .before .before .records .inv) _ _ _
     (c .before .before .before .before .before .before .before .before .before .before .before .before .before .before .before .before
-    .before .before .before .pre .0) (so-record _ _ (c .before .before .before .before .before .before .before .step .ensures)
+    .before .before .before .pre .0) (so-record _ _ _ _ _ _ _ (c .before .before .before .before .before .before .before .step .ensures)
     (c .before .before .before .before .before .step2 .given .1))
 
 records-again-2 : tie.Need-records-again-2 Inv-records μ-records
@@ -106,7 +106,7 @@ records-again-2 c =
     read-record _ _ _ _ _ _ _ _ _
         (c .before .before .before .before .before .before .before .before .before .before .records .inv) _ _ _
     (c .before .before .before .before .before .before .before .before .before .before .before .before .before .before .before .before
-    .before .before .before .pre .0) (so-record _ _ (c .before .before .before .before .before .before .before .step .ensures)
+    .before .before .before .pre .0) (so-record _ _ _ _ _ _ _ (c .before .before .before .before .before .before .before .step .ensures)
     (c .before .before .before .before .before .step2 .given .1)) (c .before .before .count-up .ensures)
 
 same-length : tie.Need-same-length Inv-records μ-records
@@ -164,7 +164,7 @@ returns-3 c =
     (c .before .before .before .before .before .before .before .before .before .before .before .before .clear .ensures)
     (c .before .before .before .before .before .before .before .before .inside .ensures)
     (c .before .before .before .before .before .before .before .if1 .left)
-    (so-broken _ _ (c .before .before .before .before .before .before .step .ensures)
+    (so-broken _ _ _ _ _ _ _ (c .before .before .before .before .before .before .step .ensures)
     (c .before .before .before .before .enum-told .given .1)) (c .before .before .clear2 .ensures)
 
 pub count-frames-spec : {M : Type 1} → statement M

@@ -19,7 +19,7 @@ put-ahead-requires c κs = search needs
 
 returns : tie.Need-returns
 returns c =
-    record-past _ _ _ _ _ _ _ _ _ (so-past _ _ (c .before .before .skip-on .ensures) (c .enum-told .given .1))
+    record-past _ _ _ _ _ _ _ _ _ (so-past _ _ _ _ _ _ (c .before .before .skip-on .ensures) (c .enum-told .given .1))
     (c .before .before .before .before .before .before .pre)
 
 same-length : tie.Need-same-length
@@ -27,7 +27,7 @@ same-length c = search needs
 
 returns-2 : tie.Need-returns-2
 returns-2 c =
-    record-on _ _ _ _ _ _ _ _ _ _ _ _ (so-to _ _ (c .before .before .before .before .before .before .before .skip-on .ensures)
+    record-on _ _ _ _ _ _ _ _ _ _ _ _ (so-to _ _ _ _ _ _ (c .before .before .before .before .before .before .before .skip-on .ensures)
     (c .before .before .before .before .before .body .given .1)) (c .before .before .put-ahead .ensures)
 
 pub put-record-spec : {M : Type 1} → statement M

@@ -78,7 +78,7 @@ returns-3 c =
         (c .before .before .before .before .inside .ensures)
     (c .before .before .before .before .before .before .before .before .before .before .pre .1)
         (c .before .before .before .if1 .left)
-    (so-broken _ _ (c .before .before .step .ensures) (c .enum-told .given .1)))
+    (so-broken _ _ _ _ _ _ _ (c .before .before .step .ensures) (c .enum-told .given .1)))
 
 enum-known-step : tie.Need-enum-known-step Inv-records μ-records
 enum-known-step c = search needs
@@ -90,27 +90,27 @@ records-less-2 : tie.Need-records-less-2 Inv-records μ-records
 records-less-2 c =
     record-less (c .before .before .before .before .before .before .before .before .before .before .before .records .inv) _ _ _
     (c .before .before .before .before .before .before .before .before .before .before .before .before .before .before .before .before .pre
-    .0) (so-record _ _ (c .before .before .before .before .before .before .before .before .step .ensures)
+    .0) (so-record _ _ _ _ _ _ _ (c .before .before .before .before .before .before .before .before .step .ensures)
     (c .before .before .before .before .before .before .step2 .given .1))
 
 records-again-2 : tie.Need-records-again-2 Inv-records μ-records
 records-again-2 c =
     take-own (c .before .before .before .before .before .before .before .before .before .before .before .records .inv) _ _ _
     (c .before .before .before .before .before .before .before .before .before .before .before .before .before .before .before .before .pre
-    .0) (so-record _ _ (c .before .before .before .before .before .before .before .before .step .ensures)
+    .0) (so-record _ _ _ _ _ _ _ (c .before .before .before .before .before .before .before .before .step .ensures)
     (c .before .before .before .before .before .before .step2 .given .1)) (c .before .before .before .before .if4 .taken)
     (c .before .before .put-record .ensures)
 
 records-less-3 : tie.Need-records-less-3 Inv-records μ-records
 records-less-3 c =
     record-less (c .before .before .before .before .before .before .before .records .inv) _ _ _
-    (c .before .before .before .before .before .before .before .before .before .before .before .before .pre .0) (so-record _ _
+    (c .before .before .before .before .before .before .before .before .before .before .before .before .pre .0) (so-record _ _ _ _ _ _ _
     (c .before .before .before .before .step .ensures) (c .before .before .step2 .given .1))
 
 records-again-3 : tie.Need-records-again-3 Inv-records μ-records
 records-again-3 c =
     take-other (c .before .before .before .before .before .before .before .records .inv) _ _ _
-    (c .before .before .before .before .before .before .before .before .before .before .before .before .pre .0) (so-record _ _
+    (c .before .before .before .before .before .before .before .before .before .before .before .before .pre .0) (so-record _ _ _ _ _ _ _
     (c .before .before .before .before .step .ensures) (c .before .before .step2 .given .1)) (c .if4 .left)
 
 pub put-several-spec : {M : Type 1} → statement M

@@ -1,7 +1,6 @@
 -- The id, its group, the record past the id; each that fails breaks the framing.
 use Rattle.records.specs.FrameLaws.{step-short, step-big, step-unknown, step-body}
-use Rattle.records.specs.AnswerLaws.{so-past, so-to, so-missing, so-value, so-unknown, so-group}
-use Rattle.records.specs.AheadLaws.{ahead-counts}
+use Rattle.records.specs.AnswerLaws.{so-nowhere, so-spot, so-missing, so-value, so-unknown, so-group}
 use native.Mathlib.Omega.{arith}
 use borrow.Author.Needs.{needs}
 use Rattle.records.proofs.framing.Framing.step.Statement.{statement}
@@ -38,12 +37,12 @@ body-step-requires : tie.Need-body-step-requires
 body-step-requires c κs = search needs
 
 returns : tie.Need-returns
-returns c = step-short _ _ _ _ (ahead-counts _ _ _ _ _) (so-past _ _ (c .before .before .skip-on .ensures)
+returns c = step-short _ _ _ _ _ _ _ (so-nowhere (c .before .before .skip-on .ensures)
     (c .enum-told .given .1))
 
 returns-2 : tie.Need-returns-2
 returns-2 c =
-    step-big _ _ _ _ (ahead-counts _ _ _ _ _) (so-to _ _ (c .before .before .before .before .before .before .skip-on .ensures)
+    step-big _ _ _ _ _ _ _ (so-spot (c .before .before .before .before .before .before .skip-on .ensures)
     (c .before .before .before .before .to .given .1))
     (λ i. let h = c .before .before .before .before .before .before .before .before .before .shared-slice-known .given i in omega
         arith)
@@ -51,7 +50,7 @@ returns-2 c =
 
 returns-3 : tie.Need-returns-3
 returns-3 c =
-    step-unknown _ _ _ _ (ahead-counts _ _ _ _ _) (so-to _ _
+    step-unknown _ _ _ _ _ _ _ (so-spot
     (c .before .before .before .before .before .before .before .before .before .before .skip-on .ensures)
     (c .before .before .before .before .before .before .before .before .to .given .1))
     (so-value (c .before .before .before .before .before .before .number-at .ensures)
@@ -60,7 +59,7 @@ returns-3 c =
 
 returns-4 : tie.Need-returns-4
 returns-4 c =
-    step-body _ _ _ _ (ahead-counts _ _ _ _ _) (so-to _ _
+    step-body _ _ _ _ _ _ _ (so-spot
     (c .before .before .before .before .before .before .before .before .before .before .before .before .skip-on .ensures)
     (c .before .before .before .before .before .before .before .before .before .before .to .given .1))
     (so-value (c .before .before .before .before .before .before .before .before .number-at .ensures)
