@@ -27,6 +27,7 @@ use Rattle.result.specs.Listing as resultListing
 use Rattle.result.specs.Payload as resultPayload
 use Rattle.result.specs.Result as resultResult
 use Rattle.result.specs.Links as resultLinks
+use Rattle.result.specs.Due as resultDue
 use Rattle.cases.specs.Starred.{image, args}
 
 -- of an answer: whether it is a refusal, its number and place
@@ -58,6 +59,11 @@ abbrev payloadsIn : List resultLinks.Shown → List (Option ℕ)
 payloadsIn [] = []
 payloadsIn (c ∷ cs) = bytesIn (c .payload) ∷ payloadsIn cs
 
+-- what links are to show
+abbrev dueIn : resultResult.Args → baseChecked.Checked resultResult.Decided → List resultLinks.Shown
+dueIn x (baseChecked.ok d) = resultDue.dueAll (x .image) (x .blockSize) (d .laidOut .placed) (d .laidOut .placed)
+dueIn x (baseChecked.refused number place) = []
+
 -- the recording with its first sample changed
 abbrev other : resultResult.Args
 other = record { image = set image 192 9; blockSize = args .blockSize; ident = args .ident; text = args .text; time = args .time }
@@ -75,7 +81,9 @@ Excluded =
     × (reportIn args (resultResult.decided args) ≡ 1 ∷ 1 ∷ 1 ∷ 0 ∷ 4 ∷ 1048 ∷ 1288 ∷ [])
     -- one that omits each channel: there are two columns and no omission
     × (planIn (resultResult.decided args) ≡ 2 ∷ 0 ∷ [])
-    -- the file shows two columns with 80 and 60 bytes of payload
+    -- the file shows just what is due
+    × (resultLinks.shown (fileIn args (resultResult.decided args)) 3 ≡ dueIn args (resultResult.decided args))
+    -- that is two columns with 80 and 60 bytes of payload
     × (payloadsIn (resultLinks.shown (fileIn args (resultResult.decided args)) 3) ≡ some 80 ∷ some 60 ∷ [])
     -- one that accepts and writes nothing: zeros show no column
     × (payloadsIn (resultLinks.shown (replicate 1288 0) 3) ≡ [])
@@ -122,4 +130,6 @@ unfolding
     resultResult.sourceGroupsOf resultResult.timeColumns resultResult.blocksWritten resultResult.report resultResult.lentIn resultResult.decided
     resultResult.answer resultResult.workIn resultResult.zeros resultResult.convert resultLinks.headAt resultLinks.groupFields
     resultLinks.channelFields resultLinks.listAt resultLinks.listShown resultLinks.shownAt resultLinks.shownFrom resultLinks.shown
-excluded = (refl, refl, refl, refl, refl, refl, refl, refl, refl, refl, refl)
+    resultDue.duePayload resultDue.evenBlocks resultDue.blocksDue resultDue.equalDue resultDue.fragmentsDue resultDue.listDue resultDue.placedCGs
+    resultDue.groupFlagsDue resultDue.channelFlagsDue resultDue.keptByte resultDue.groupDue resultDue.channelDue resultDue.due resultDue.dueAll
+excluded = (refl, refl, refl, refl, refl, refl, refl, refl, refl, refl, refl, refl)

@@ -50,7 +50,7 @@ copied-grown s k none m m' new f e = f e
 copied-grown s k (some a) m m' new f e = grown-same s k (ok-same e)
 
 -- what becomes of a block that was not copied before, by what becomes of its links
-abbrev fresh : List ℕ → List ℕ → ℕ → Copies → Checked Copies → Checked Copies
+abbrev pub fresh : List ℕ → List ℕ → ℕ → Copies → Checked Copies → Checked Copies
 fresh s way a m links =
     pick (isIn a way) (refused 16 a) (andThen (wholeAt s a) (λ _. pick (isCopied (kindAt s a))
     (ifLt (length (m .memo) + length way) mostCopies (andThen links (λ n. ok (placed a (sizeAt s a) n))) (refused 19 a)) (ok m)))

@@ -1,6 +1,7 @@
 pub mod AnswerLaws
 pub mod Laid
 pub mod CopyLaws
+pub mod MemoLaws
 pub mod AttachLaws
 pub mod LengthLaws
 pub mod OrderLaws

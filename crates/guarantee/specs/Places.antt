@@ -15,7 +15,7 @@ use Rattle.mdf.specs.Records.{sizeOf}
 use Rattle.plan.specs.Columns.{SrcGroup, Column, Signal, unsigned, signalData, sizeOfSignal}
 use Rattle.plan.specs.Data.{signalIn}
 use Rattle.plan.specs.Geometry.{align8}
-use Rattle.plan.specs.Layout.{Placed, blocksEnd, signalEnd, placedFrom, dataEnd, structureSize, columnBlocks, payloadSize}
+use Rattle.plan.specs.Layout.{Placed, blocksEnd, signalEnd, dataEnd, placedFrom, structureSize, columnBlocks, payloadSize}
 use Rattle.result.specs.Payload.{signalBytes}
 use Rattle.result.specs.Guarantee.{In, here, there}
 use Rattle.copies_laws.specs.AnswerLaws.{then-ok, Whole, whole-fits, refused≢ok}
@@ -109,7 +109,7 @@ data-within s size a d (c ∷ cs) p h z (there i) =
     let m = suc-mul (length cs) 120000000000000 in
     record { above = omega (arith, g .0, r .above); below = omega (arith, g .1, r .below, m); sdAbove = omega (arith, g .0, r .sdAbove); sdBelow = omega (arith, g .1, r .sdBelow, m) }
 
--- and the data of all columns ends within so many bytes
+-- and ends within so many
 pub data-ends : (s : List ℕ) (size d : ℕ) (cs : List Column) → length s ≤ 4294967296 → ((c : Column) → In c cs → Sized s c)
     → dataEnd s size d cs ≤ d + length cs * 120000000000000
 unfolding dataEnd
@@ -119,8 +119,7 @@ data-ends s size d (c ∷ cs) h z =
     let e = end-small s size c d (w .ready) h (w .few) in
     let g = signal-end s (c .signalOf) (blocksEnd s size c d) (w .signals) h (w .fewSignals) in
     let r = data-ends s size (signalEnd (c .signalOf) (blocksEnd s size c d)) cs h (λ k j. z k (there j)) in
-    let m = suc-mul (length cs) 120000000000000 in
-    omega (arith, g .1, r, m)
+    omega (arith, g .1, r, suc-mul (length cs) 120000000000000)
 
 pub in-column : (s : List ℕ) (size a d : ℕ) (cs : List Column) (p : Placed) → In p (placedFrom s size a d cs) → In (p .column) cs
 unfolding placedFrom

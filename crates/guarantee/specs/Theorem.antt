@@ -20,7 +20,7 @@ use Rattle.result.specs.Result.{Args, Decided, answer, fileOf, blocksOf}
 use Rattle.result.specs.Due.{duePayload}
 use Rattle.result.specs.Guarantee.{In, Guaranteed}
 use Rattle.copies_laws.specs.LengthLaws.{InImage}
-use Rattle.copies_laws.specs.LayoutLaws.{LaidOut, laid-out, columns-placed, columns-within, metadataEnd-near, columns-ordered, blocks-ordered}
+use Rattle.copies_laws.specs.LayoutLaws.{LaidOut, laid-out, columns-placed, columns-within, metadataEnd-near, file-near, columns-ordered, blocks-ordered}
 use Rattle.copies_laws.specs.OrderLaws.{ordered-ends}
 use Rattle.payload_laws.specs.CountLaws.{member, counted}
 use Rattle.payload_laws.specs.ColumnLaws.{Ready, ready, column-joined, column-bytes, column-even}
@@ -31,7 +31,9 @@ use Rattle.plan_laws.specs.Known.{Known, answer-known}
 use Rattle.plan_laws.specs.PlanLaws.{signal-due}
 use Rattle.shown_laws.specs.ColumnShown.{ColumnSound}
 use Rattle.shown_laws.specs.Final.{file-apart, file-filled, file-shows}
-use Rattle.guarantee.specs.Places.{equal-even, flatten-together, data-inside, fragments-few, signal-small, Sized, DataWithin, data-within, in-column}
+use Rattle.guarantee.specs.Places.{equal-even, flatten-together, data-inside, fragments-few, signal-small, Sized, DataWithin, data-within, data-ends, in-column}
+use Rattle.guarantee.specs.Copied.{chain-due, comment-due, past-due, newest-due, names-due}
+use Rattle.guarantee.specs.Front.{front-due}
 
 -- the elements of an image are bytes
 abbrev pub AllBytes : List ℕ → Type 0
@@ -131,6 +133,18 @@ module _ (x : Args) (d : Decided) (k : Known x d) where
           sdEnds = omega (arith, t .sdBelow, metadata-small, k .fewColumns, signal-small (x .image) (c .signalOf) (z .signals) (k .steps .imageLength) (z .fewSignals));
         }
 
+  -- ---- every address is below 2 ^ 64
+  pub file-below : d .laidOut .fileSize < 256 ^ 8
+  file-below =
+      omega (
+        arith,
+        file-near o,
+        data-ends (x .image) (x .blockSize) (d .laidOut .metadataEnd) (d .planned .columns) (k .steps .imageLength) sized,
+        metadata-small,
+        k .fewColumns,
+        k .steps .imageLength,
+      )
+
 every : (x : Args) (d : Decided) (k : Known x d) (st : Source) → walk (x .image) ≡ ok st → (a : ℕ) → In (cn a) (st .items) → (g : SrcGroup) × In g (d .groups) × In a (g .channels)
 every x d k st w a i =
     let e : st ≡ k .steps .source = ok-same (sym w ∙ k .steps .walked) in
@@ -146,10 +160,18 @@ pub guaranteed : (x : Args) (out list : List ℕ) (d : Decided) → AllBytes (x 
 guaranteed x out list d bytes e =
     let k = answer-known x (length out) (length list) d e in
     let room = answer-accepted x (length out) (length list) d e .outputFits in
+    let filled = file-filled x (d .laidOut) out (ordered x d k) room in
     record {
       planned = columns-placed (o x d k);
       shows = file-shows x (d .laidOut) out (ordered x d k) room (sound x d k bytes);
-      filled = file-filled x (d .laidOut) out (ordered x d k) room;
+      front = front-due x (d .laidOut) _ filled (k .steps .lent);
+      comment = λ n. comment-due x (d .planned .columns) (d .laidOut) (o x d k) _ bytes (ordered x d k) (file-below x d k) filled n;
+      names = λ p i n. names-due x (d .planned .columns) (d .laidOut) (o x d k) _ bytes (ordered x d k) (file-below x d k) filled p i
+          (column-in x d k p i) (sound x d k bytes p i) n;
+      past = chain-due x (d .planned .columns) (d .laidOut) (o x d k);
+      history = past-due x (d .planned .columns) (d .laidOut) (o x d k) _ bytes (ordered x d k) (file-below x d k) filled;
+      newest = newest-due x (d .planned .columns) (d .laidOut) (o x d k) _ bytes (ordered x d k) (file-below x d k) filled;
+      filled = filled;
       apart = file-apart x (d .laidOut) out (ordered x d k);
       once = k .once;
       source = k .source;

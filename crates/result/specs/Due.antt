@@ -1,6 +1,5 @@
 -- What links are to show of a planned column, in the words of document 01, of ASAM MDF 4.2 and of `build_layout`: from the recording and from the
 -- places of columns, not from the bytes of blocks.
-use Prim.{Unit}
 use Prim.Native.Nat.{ℕ, zero, suc, _+_, _*_, _-_, _/_, _%_, _<_}
 use mathlib.Core.List.{List, [], _∷_}
 use mathlib.Core.Bool.{Bool, true, false}
@@ -11,16 +10,17 @@ use Rattle.base.specs.Choice.{pick, ifLt, ifEq}
 use Rattle.base.specs.Field.{leAt}
 use Rattle.base.specs.Blit.{part}
 use Rattle.base.specs.Checked.{ok}
-use Rattle.mdf.specs.Block.{kindHD, kindDG, kindCG, kindCN, kindDL, kindTX, kindMD, kindAt, sizeAt, linksAt, linkAt, dataAt}
-use Rattle.mdf.specs.Chain.{Kind, dt, dv, Fragment, isIn}
+use Rattle.mdf.specs.Block.{kindHD, kindDG, kindCG, kindCN, kindDL, sizeAt, linksAt, linkAt, dataAt}
+use Rattle.mdf.specs.Chain.{Kind, dt, dv, Fragment}
 use Rattle.mdf.specs.Group.{groupFlags}
+use Rattle.mdf.specs.Identification.{fileMark}
 use Rattle.plan.specs.Channel.{channelType, bitOffset, bitCount, channelFlags, keepsInval, channelBytes, width}
 use Rattle.plan.specs.Columns.{Column, Signal, unsigned, signalData}
-use Rattle.plan.specs.Copies.{kindCC, kindSI, kindFH}
 use Rattle.plan.specs.Data.{isNonempty}
 use Rattle.plan.specs.Geometry.{blockCount, blockPayload}
-use Rattle.plan.specs.Layout.{Placed, cgOf, cnOf, dlOf}
+use Rattle.plan.specs.Layout.{Placed, cgOf, cnOf}
 use Rattle.result.specs.Payload.{recordsOf, cells, signalBytes}
+use Rattle.result.specs.Result.{Args, version420}
 use Rattle.result.specs.Links.{Head, headAt, GroupFields, ChannelFields, DataList, Shown}
 
 -- ---- data
@@ -135,6 +135,7 @@ due s size ps p =
       cg = cgOf p;
       cgHead = record { kind = kindCG; size = 104 + 8 * hasMaster (p .column .master); links = 6 + hasMaster (p .column .master) };
       nextCG = 0;
+      reductions = 0;
       group = groupDue s (p .column);
       master = dueMaster ps (p .column .master);
       cn = cnOf p;
@@ -152,3 +153,19 @@ due s size ps p =
 unfoldable pub dueAll : List ℕ → ℕ → List Placed → List Placed → List Shown
 dueAll s size all [] = []
 dueAll s size all (p ∷ ps) = due s size all p ∷ dueAll s size all ps
+
+-- ---- the file's front
+
+-- byte number i of HD's data: "always 104 bytes, its data cut or filled to 32"
+unfoldable pub headerByte : List ℕ → ℕ → ℕ
+headerByte s i = ifLt (24 + 8 * linksAt s 64 + i) (sizeAt s 64) (getD s (dataAt s 64 + i) 0) 0
+
+-- the lent identification, of version 4.20; HD with neither channel hierarchy nor events
+pub record FrontDue (x : Args) (f : List ℕ) : Type 0 where
+  pub ident : part 0 64 f ≡ x .ident
+  pub mark : leAt 8 f 0 ≡ fileMark
+  pub version : leAt 8 f 8 ≡ version420
+  pub head : headAt f 64 ≡ record { kind = kindHD; size = 104; links = 6 }
+  pub hierarchy : linkAt f 64 2 ≡ 0
+  pub events : linkAt f 64 4 ≡ 0
+  pub bytes : (i : ℕ) → i < 32 → getD f (136 + i) 0 ≡ headerByte (x .image) i

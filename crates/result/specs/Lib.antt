@@ -7,4 +7,5 @@ pub mod OrderedLaws
 pub mod Listing
 pub mod Links
 pub mod Due
+pub mod Names
 pub mod Guarantee

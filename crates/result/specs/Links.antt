@@ -110,7 +110,7 @@ joinedIn f (stopped number place fs) = refused number place
 
 -- ---- a column
 
--- a column that links show: its DG, its CG and the CG after that, its CN and the CN after that, each with header and fields; the CG that its CG
+-- a column that links show: its DG, its CG, the CG after that and sample reductions, its CN, the CN after that and a composition, each with header and fields; the CG that its CG
 -- names as its master, 0 for none; its data
 pub record Shown : Type 0 where
   pub dg : ℕ
@@ -119,6 +119,7 @@ pub record Shown : Type 0 where
   pub cg : ℕ
   pub cgHead : Head
   pub nextCG : ℕ
+  pub reductions : ℕ
   pub group : GroupFields
   pub master : ℕ
   pub cn : ℕ
@@ -143,6 +144,7 @@ shownAt f dg =
       cg = cg;
       cgHead = headAt f cg;
       nextCG = linkAt f cg 0;
+      reductions = linkAt f cg 4;
       group = groupFields f cg;
       master = remoteLink f cg;
       cn = cn;

@@ -1,7 +1,7 @@
 -- The whole file, read by links from HD: it shows exactly the placed columns.
 use mathlib.Core.Path.{_≡_, refl, sym}
 use mathlib.Core.List.{List, [], _∷_, _++_}
-use Prim.Native.Nat.{ℕ, zero, suc, _^_, _≤_, _<_}
+use Prim.Native.Nat.{ℕ, zero, suc, _+_, _^_, _≤_, _<_}
 use native.Mathlib.Omega.{arith}
 use lib.Dec.{lit<}
 use lib.ListN.{length, drop}
@@ -11,13 +11,14 @@ use Rattle.plan.specs.Channel.{keepsInval}
 use Rattle.plan.specs.Copies.{Copy}
 use Rattle.plan.specs.Layout.{Layout, Placed, dlOf}
 use Rattle.result.specs.Payload.{columnPayloads}
-use Rattle.result.specs.Fill.{Block, hdData, nextDG, cgAt, dataKind, copiedBlocks, dlBlocks, structureBlocks, payloadBlocks, sdBlocks}
+use Rattle.result.specs.Ordered.{Ordered}
+use Rattle.result.specs.Fill.{Block, block, mdBytes, fhBytes, hdData, nextDG, cgAt, dataKind, copiedBlocks, dlBlocks, structureBlocks, payloadBlocks, sdBlocks}
 use Rattle.result.specs.Fill.{dataBlocks, attachmentBlocks}
 use Rattle.result.specs.Result.{Args, memoOf, hdBlock, blocksOf}
 use Rattle.result.specs.Links.{shownAt, shownFrom, shown}
 use Rattle.result.specs.Due.{due, dueAll}
 use Rattle.result.specs.Guarantee.{Stands, In, here, there}
-use Rattle.shown_laws.specs.Flat.{in-front, in-back}
+use Rattle.shown_laws.specs.Flat.{in-front, in-back, ordered-from, ordered-by}
 use Rattle.shown_laws.specs.Header.{block-link}
 use Rattle.shown_laws.specs.Shapes.{hdLinks, hd-shape}
 use Rattle.shown_laws.specs.ColumnShown.{ColumnSound, blocksAt, column-shown, dg-next}
@@ -56,24 +57,56 @@ module _ {b : Block} (s : List ℕ) (size : ℕ) (p : Placed) (ps : List Placed)
 
 -- of the file
 module _ (x : Args) (l : Layout) where
-  abbrev historyCopies : List Block
+  abbrev pub historyCopies : List Block
   historyCopies = copiedBlocks (x .image) (l .past .chain) (memoOf l) (l .fh) (l .past .made .memo)
 
-  abbrev columnCopies : List Block
+  abbrev pub columnCopies : List Block
   columnCopies = copiedBlocks (x .image) (l .past .chain) (memoOf l) (l .fh) (drop (length (l .past .made .memo)) (l .metadata .memo))
 
-  abbrev structure : List Block
+  abbrev pub structure : List Block
   structure = structureBlocks (x .image) (x .blockSize) (memoOf l) (l .placed) (l .placed)
 
-  abbrev columnData : List Block
+  abbrev pub columnData : List Block
   columnData = dataBlocks (x .image) (x .blockSize) (l .placed)
 
-  abbrev attachments : List Block
+  abbrev pub attachments : List Block
   attachments = attachmentBlocks (x .image) (l .past .chain) (memoOf l) (l .fh) (l .attached .attachments)
 
   pub in-hd : In (hdBlock (x .image) l) (blocksOf x l)
   unfolding blocksOf
   in-hd = there here
+
+  -- all blocks after HD
+  abbrev pub afterHD : List Block
+  afterHD =
+      historyCopies
+      ++ (block (l .md) (mdBytes (x .text)) ∷ block (l .fh) (fhBytes (l .md) (x .time))
+      ∷ (columnCopies ++ (structure ++ (columnData ++ attachments))))
+
+  pub in-rest : {b : Block} → In b afterHD → In b (blocksOf x l)
+  unfolding blocksOf
+  in-rest i = there (there i)
+
+  pub in-history : {b : Block} → In b historyCopies → In b afterHD
+  in-history i = in-front _ i
+
+  pub in-md : In (block (l .md) (mdBytes (x .text))) afterHD
+  in-md = in-back historyCopies here
+
+  pub in-fh : In (block (l .fh) (fhBytes (l .md) (x .time))) afterHD
+  in-fh = in-back historyCopies (there here)
+
+  pub in-columns : {b : Block} → In b columnCopies → In b afterHD
+  in-columns i = in-back historyCopies (there (there (in-front _ i)))
+
+  pub in-attachments : {b : Block} → In b attachments → In b afterHD
+  in-attachments i = in-back historyCopies (there (there (in-back columnCopies (in-back structure (in-back columnData i)))))
+
+  -- they begin past HD's address, and end by the file's end
+  pub rest-within : {b : Block} → Ordered 0 (blocksOf x l) (l .fileSize) → In b afterHD → (64 ≤ b .at) × (b .at + length (b .bytes) ≤ l .fileSize)
+  unfolding blocksOf Ordered hdBlock
+  rest-within o i =
+      (omega (arith, ordered-from afterHD _ (l .fileSize) (o .1 .1) i), ordered-by afterHD _ (l .fileSize) (o .1 .1) i)
 
   pub in-structure : {b : Block} → In b structure → In b (blocksOf x l)
   unfolding blocksOf

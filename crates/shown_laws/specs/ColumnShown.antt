@@ -376,6 +376,10 @@ module _ {f : List ℕ} (s : List ℕ) (size : ℕ) (memo : List Copy) (all : Li
     dg-stands : Stands f (p .dg) (header kindDG 64 (length (dgLinks s size memo p next)) ++ words (dgLinks s size memo p next) ++ le 8 0)
     dg-stands = rw (dg-shape s size memo p next) at st
 
+    pub dg-link : (i : ℕ) → i < 4 → getD (dgLinks s size memo p next) i 0 < 256 ^ 8 → linkAt f (p .dg) i ≡ getD (dgLinks s size memo p next) i 0
+    unfolding dgLinks
+    dg-link i h b = block-link kindDG 64 (dgLinks s size memo p next) (le 8 0) dg-stands i h b
+
     pub dg-head : headAt f (p .dg) ≡ record { kind = kindDG; size = 64; links = 4 }
     unfolding headAt dgLinks
     dg-head =
@@ -416,6 +420,10 @@ module _ {f : List ℕ} (s : List ℕ) (size : ℕ) (memo : List Copy) (all : Li
     unfolding cgWords
     cg-few = omega (arith, word-few all (p .column .master))
 
+    pub cg-link : (i : ℕ) → i < 6 → getD (cgWords s memo all p) i 0 < 256 ^ 8 → linkAt f (cgOf p) i ≡ getD (cgWords s memo all p) i 0
+    unfolding cgWords
+    cg-link i h b = block-link kindCG (cgSize (p .column .master)) (cgWords s memo all p) _ cg-stands i (omega arith) b
+
     cg-links : length (cgWords s memo all p) ≡ 6 + hasMaster (p .column .master)
     unfolding cgWords
     cg-links = omega (arith, word-length all (p .column .master))
@@ -435,6 +443,10 @@ module _ {f : List ℕ} (s : List ℕ) (size : ℕ) (memo : List Copy) (all : Li
     pub cg-next : linkAt f (cgOf p) 0 ≡ 0
     unfolding cgWords
     cg-next = block-link kindCG (cgSize (p .column .master)) (cgWords s memo all p) _ cg-stands 0 (omega arith) (lit< tt)
+
+    pub cg-reductions : linkAt f (cgOf p) 4 ≡ 0
+    unfolding cgWords
+    cg-reductions = cg-link 4 (lit< tt) (lit< tt)
 
     pub cg-cn : linkAt f (cgOf p) 1 ≡ cnOf p
     unfolding cgWords
@@ -478,6 +490,10 @@ module _ {f : List ℕ} (s : List ℕ) (size : ℕ) (memo : List Copy) (all : Li
     cn-stands : Stands f (cnOf p)
         (header kindCN 160 (length (cnLinks s memo p)) ++ words (cnLinks s memo p) ++ cnData s (p .column .group .at) (p .column .channel))
     cn-stands = rw (cn-shape s memo p) at st
+
+    pub cn-link : (i : ℕ) → i < 8 → getD (cnLinks s memo p) i 0 < 256 ^ 8 → linkAt f (cnOf p) i ≡ getD (cnLinks s memo p) i 0
+    unfolding cnLinks
+    cn-link i h b = block-link kindCN 160 (cnLinks s memo p) _ cn-stands i h b
 
     pub cn-head : headAt f (cnOf p) ≡ record { kind = kindCN; size = 160; links = 8 }
     unfolding headAt cnLinks
@@ -525,6 +541,7 @@ column-shown {f} s size memo all p next k h dg cg cn list blocks sd =
       dg-ids s size memo all p next k dg,
       cg-head s size memo all p next k cg,
       cg-next s size memo all p next k cg,
+      cg-reductions s size memo all p next k cg,
       group-shown s size memo all p next k cg,
       cg-master s size memo all p next k cg h,
       cn-head s size memo all p next k cn,

@@ -70,6 +70,12 @@ ordered-from {b} (c ∷ bs) a e o (there i) =
     let h : c .at + length (c .bytes) ≤ b .at = ordered-from bs _ e (o .1) i in
     omega arith
 
+-- and ends by their end
+pub ordered-by : {b : Block} (bs : List Block) (a e : ℕ) → Ordered a bs e → In b bs → b .at + length (b .bytes) ≤ e
+unfolding Ordered
+ordered-by (c ∷ bs) a e o here = ordered-ends bs _ e (o .1)
+ordered-by (c ∷ bs) a e o (there i) = ordered-by bs _ e (o .1) i
+
 -- no two ordered blocks share a byte
 pub ordered-apart : (bs : List Block) (a e : ℕ) → Ordered a bs e → AllApart bs
 unfolding Ordered AllApart Apart

@@ -8,7 +8,7 @@ use lib.Dec.{lit<, eqb}
 use lib.ListN.{getD}
 use Rattle.base.specs.Choice.{pick, ifEq}
 use Rattle.base.specs.Field.{leAt}
-use Rattle.mdf.specs.Block.{dataAt}
+use Rattle.mdf.specs.Block.{kindAt, sizeAt, linksAt, dataAt}
 use Rattle.mdf.specs.Group.{groupFlags}
 use Rattle.plan.specs.Channel.{bitOffset, bitCount, channelBytes}
 
@@ -30,6 +30,18 @@ field-below s bytes (suc n) at =
     rw pow-suc (omega arith)
 
 module _ (s : List ℕ) (bytes : (i : ℕ) → getD s i 0 < 256) where
+  pub kind-below : (a : ℕ) → kindAt s a < 256 ^ 4
+  unfolding kindAt
+  kind-below a = field-below s bytes 4 a
+
+  pub size-below : (a : ℕ) → sizeAt s a < 256 ^ 8
+  unfolding sizeAt
+  size-below a = field-below s bytes 8 (a + 8)
+
+  pub links-below : (a : ℕ) → linksAt s a < 256 ^ 8
+  unfolding linksAt
+  links-below a = field-below s bytes 8 (a + 16)
+
   pub flags-below : (g : ℕ) → groupFlags s g < 65536
   unfolding groupFlags
   flags-below g = field-below s bytes 2 _

@@ -2,7 +2,7 @@
 use mathlib.Core.Path.{_≡_, refl, sym, ap, _∙_}
 use mathlib.Core.List.{List, [], _∷_, _++_}
 use Prim.Native.Nat.{ℕ, zero, suc, _+_, _-_, _/_, _%_, _^_, _≤_, _<_}
-use native.Mathlib.Nat.{add-zero, sub-zero, zero-sub, suc-sub-suc, pow-zero, pow-suc, div-lt-iff-lt-mul}
+use native.Mathlib.Nat.{add-zero, zero-add, sub-zero, zero-sub, suc-sub-suc, pow-zero, pow-suc, div-lt-iff-lt-mul}
 use native.Mathlib.Omega.{arith}
 use lib.Dec.{lit<}
 use lib.ListN.{length, take, drop, getD, length-append}
@@ -76,6 +76,18 @@ unfolding part
 byte-of {l} {a} bs s j h =
     let e : getD (take (length bs) (drop a l)) j 0 ≡ getD bs j 0 = rw (s .is) refl in
     sym (getD-drop a l j 0) ∙ sym (getD-take (length bs) (drop a l) j 0 h) ∙ e
+
+-- a field of m bytes inside of what stands
+field-inside : {f : List ℕ} {a : ℕ} (m : ℕ) (bs : List ℕ) → Stands f a bs → (i : ℕ) → i + m ≤ length bs → leAt m f (a + i) ≡ leAt m bs i
+unfolding leAt
+field-inside zero bs st i h = refl
+field-inside {f} {a} (suc m) bs st i h =
+    let p : a + i + 1 ≡ a + (i + 1) = omega arith in
+    rw (p, byte-of bs st i (omega arith), field-inside m bs st (i + 1) (omega arith))
+
+-- of what stands at 0
+pub field-same : {f : List ℕ} (m : ℕ) (bs : List ℕ) → Stands f 0 bs → (i : ℕ) → i + m ≤ length bs → leAt m f i ≡ leAt m bs i
+field-same {f} m bs st i h = ap (leAt m f) (sym (zero-add i)) ∙ field-inside m bs st i h
 
 -- a field of m bytes inside of a part of s that stands
 pub field-copied : {f : List ℕ} {a : ℕ} (m : ℕ) (s : List ℕ) (b n i : ℕ) → Stands f a (part b n s) → b + n ≤ length s → i + m ≤ n

@@ -1,0 +1,88 @@
+-- Names, units, conversions, sources and comments: what the links of the result's blocks are to lead to, from the recording (document 01, copying and
+-- placement).
+use Prim.{Unit}
+use Prim.Native.Nat.{ℕ, zero, suc, _+_, _*_, _-_, _<_}
+use mathlib.Core.List.{List, [], _∷_, _++_}
+use mathlib.Core.Bool.{true, false}
+use mathlib.Core.Path.{_≡_}
+use lib.ListN.{length}
+use Rattle.base.specs.Field.{le}
+use Rattle.base.specs.Blit.{part}
+use Rattle.mdf.specs.Block.{kindTX, kindMD, kindAt, sizeAt, linksAt, linkAt, dataAt}
+use Rattle.mdf.specs.Chain.{isIn}
+use Rattle.plan.specs.Copies.{kindCC, kindSI, kindFH}
+use Rattle.plan.specs.Layout.{Placed, cgOf, cnOf}
+use Rattle.result.specs.Result.{Args}
+use Rattle.result.specs.Links.{Head, headAt}
+
+-- "Kinds other than TX, MD, CC, SI, FH become link 0."
+pub data CopiedKind (k : ℕ) : Type 0 where
+  isTX : k ≡ kindTX → CopiedKind k
+  isMD : k ≡ kindMD → CopiedKind k
+  isCC : k ≡ kindCC → CopiedKind k
+  isSI : k ≡ kindSI → CopiedKind k
+  isFH : k ≡ kindFH → CopiedKind k
+
+-- link a of the recording s leads to a block of a copied kind
+pub record Leads (s : List ℕ) (a : ℕ) : Type 0 where
+  pub nonzero : a ≡ 0 → ⊥
+  pub kind : CopiedKind (kindAt s a)
+
+-- the block at b of the result f is the block at a of the recording s but for its links and its reserved bytes
+pub record SameBlock (s f : List ℕ) (a b : ℕ) : Type 0 where
+  pub nonzero : b ≡ 0 → ⊥
+  pub head : headAt f b ≡ headAt s a
+  pub rest : part (dataAt f b) (sizeAt f b - (24 + 8 * linksAt f b)) f ≡ part (dataAt s a) (sizeAt s a - (24 + 8 * linksAt s a)) s
+
+-- link number i, from 0, of the block at a: "An FH loses its first link", and a block of the history chain leads by its first link to the next
+pub data Follows (s past : List ℕ) (a : ℕ) : ℕ → Type 0 where
+  later : {i : ℕ} → Follows s past a (suc i)
+  first : (kindAt s a ≡ kindFH → ⊥) → isIn a past ≡ false → Follows s past a 0
+
+-- b is what link a of s is to be in f, looked at so deep: 0 where a leads to no block of a copied kind, else that block's copy, with such links again;
+-- past is the history chain
+unfoldable pub LinkDue : ℕ → List ℕ → List ℕ → List ℕ → ℕ → ℕ → Type 0
+LinkDue zero s f past a b = Unit {0}
+LinkDue (suc k) s f past a b =
+    ((Leads s a → ⊥) → b ≡ 0)
+    × (Leads s a → SameBlock s f a b)
+    × (Leads s a → (i : ℕ) → i < linksAt s a → Follows s past a i → LinkDue k s f past (linkAt s a i) (linkAt f b i))
+
+-- "per column the copies of CG links 3, 4, 6, CN links 3, 4, 5, 7, 8, the DG comment"
+pub record NamesDue (k : ℕ) (s f past : List ℕ) (p : Placed) : Type 0 where
+  pub groupName : LinkDue k s f past (linkAt s (p .column .group .at) 2) (linkAt f (cgOf p) 2)
+  pub groupSource : LinkDue k s f past (linkAt s (p .column .group .at) 3) (linkAt f (cgOf p) 3)
+  pub groupComment : LinkDue k s f past (linkAt s (p .column .group .at) 5) (linkAt f (cgOf p) 5)
+  pub name : LinkDue k s f past (linkAt s (p .column .channel) 2) (linkAt f (cnOf p) 2)
+  pub source : LinkDue k s f past (linkAt s (p .column .channel) 3) (linkAt f (cnOf p) 3)
+  pub conversion : LinkDue k s f past (linkAt s (p .column .channel) 4) (linkAt f (cnOf p) 4)
+  pub unit : LinkDue k s f past (linkAt s (p .column .channel) 6) (linkAt f (cnOf p) 6)
+  pub comment : LinkDue k s f past (linkAt s (p .column .channel) 7) (linkAt f (cnOf p) 7)
+  pub dataComment : LinkDue k s f past (linkAt s (p .column .group .dataGroup .at) 3) (linkAt f (p .dg) 3)
+
+-- ---- the history
+
+-- why the history chain ends before a, with these blocks before: "History .. chains that return to an earlier block end quietly, also a history chain
+-- at a kind not copied"; more than 2,048 blocks are refused (19)
+pub data Ended (s before : List ℕ) (a : ℕ) : Type 0 where
+  noCopy : (Leads s a → ⊥) → Ended s before a
+  again : isIn a before ≡ true → Ended s before a
+  many : 2048 < length before → Ended s before a
+
+-- these are the blocks of the recording's history chain from a on, after those before: each leads by its first link to the next
+unfoldable pub ChainDue : List ℕ → List ℕ → List ℕ → ℕ → Type 0
+ChainDue s before [] a = Ended s before a
+ChainDue s before (b ∷ bs) a = (b ≡ a) × Leads s a × (isIn a before ≡ false) × ChainDue s (before ++ (a ∷ [])) bs (linkAt s a 0)
+
+-- from b on the result's history: the copies of these blocks in order, each leading by its first link to the next, the last to the new FH
+unfoldable pub HistoryDue : List ℕ → List ℕ → ℕ → List ℕ → ℕ → Type 0
+HistoryDue s f fh [] b = b ≡ fh
+HistoryDue s f fh (a ∷ as') b = SameBlock s f a b × HistoryDue s f fh as' (linkAt f b 0)
+
+-- "MD with the lent history text ..; a new FH with the lent time": the last of the history
+pub record NewHistory (x : Args) (f : List ℕ) (fh : ℕ) : Type 0 where
+  pub head : headAt f fh ≡ record { kind = kindFH; size = 56; links = 2 }
+  pub next : linkAt f fh 0 ≡ 0
+  pub comment : kindAt f (linkAt f fh 1) ≡ kindMD
+  pub text : part (linkAt f fh 1 + 24) (length (x .text)) f ≡ x .text
+  pub time : part (fh + 40) 8 f ≡ le 8 (x .time)
