@@ -9,21 +9,20 @@ use native.Mathlib.Omega.{arith}
 use lib.Dec.{lit<}
 use lib.ListN.{length, length-append}
 use Rattle.base.specs.Checked.{fine}
-use Rattle.mdf.specs.Block.{DG, CG, CN, kindCG, kindCN, linkAt, blockAt}
+use Rattle.mdf.specs.Block.{DG, CG, CN, linkAt, blockAt}
 use Rattle.mdf.specs.Chain.{fileLimits}
 use Rattle.mdf.specs.Name.{nameAt}
 use Rattle.mdf.specs.Records.{joined}
 use Rattle.plan.specs.Columns.{Column}
 use Rattle.plan.specs.Copies.{Copy}
 use Rattle.plan.specs.Layout.{Placed, cgOf, cnOf, dlOf, cgSize, structureSize, placedFrom, payloadSize, columnWidth, columnBlocks, blocksEnd, signalEnd}
-use Rattle.result.specs.Fill.{Block, block, header, words, newLink, dgBytes, cgBytes, cnBytes, cgData, cnData, dlBlocks, structureBlocks, dataBlocks, nextDG, cgAt}
+use Rattle.result.specs.Fill.{Block, newLink, dgBytes, cgBytes, cnBytes, dlBlocks, structureBlocks, dataBlocks, nextDG}
 use Rattle.result.specs.Due.{duePayload, hasMaster, blocksDue, fragmentsDue}
 use Rattle.result.specs.Guarantee.{Stands, In, here, there}
 use Rattle.copies_laws.specs.LengthLaws.{InImage, length-dg, length-cg, length-cn}
-use Rattle.shown_laws.specs.Header.{block-link}
 use Rattle.shown_laws.specs.Joined.{stands-inside}
-use Rattle.shown_laws.specs.Shapes.{masterWord, cgWords, cg-shape, cnLinks, cn-shape}
-use Rattle.shown_laws.specs.ColumnShown.{ColumnSound, blocksAt, column-chain, column-joined, dg-head, dg-next, dg-cg, dg-dl, cg-head, cg-next, cg-cn, cn-head, cn-next}
+use Rattle.shown_laws.specs.Shapes.{cgWords, cnLinks}
+use Rattle.shown_laws.specs.ColumnShown.{ColumnSound, blocksAt, column-chain, column-joined, dg-head, dg-next, dg-cg, dg-dl, cg-link, cg-head, cg-next, cg-cn, cn-link, cn-head, cn-next}
 use Rattle.shown_laws.specs.AllShown.{in-list, in-later, in-payload, in-data-later}
 use Rattle.file.specs.Form.{FileColumn, cycles, recordBytes}
 use Rattle.file_laws.specs.Standing.{ColumnStands, firstDG, AllStand, allFragments, FileStands}
@@ -79,13 +78,11 @@ module _ {f : List ℕ} (s : List ℕ) (size : ℕ) (memo : List Copy) (all : Li
 
   cg-name : linkAt f (cgOf p) 2 ≡ newLink memo (linkAt s (p .column .group .at) 2)
   unfolding cgWords
-  cg-name =
-      block-link kindCG (cgSize (p .column .master)) (cgWords s memo all p) (cgData s (p .column)) (rw (cg-shape s memo all p) at cg) 2 (omega arith) (small _)
+  cg-name = cg-link s size memo all p next k cg 2 (lit< tt) (small _)
 
   cn-name : linkAt f (cnOf p) 2 ≡ newLink memo (linkAt s (p .column .channel) 2)
   unfolding cnLinks
-  cn-name =
-      block-link kindCN 160 (cnLinks s memo p) (cnData s (p .column .group .at) (p .column .channel)) (rw (cn-shape s memo p) at cn) 2 (lit< tt) (small _)
+  cn-name = cn-link s size memo all p next k cn 2 (lit< tt) (small _)
 
   cg-after : cgOf p < cnOf p
   cg-after = omega (arith, cg-bytes (p .column .master))

@@ -8,8 +8,8 @@ use native.Mathlib.Nat.{pow-suc}
 use native.Mathlib.Omega.{arith}
 use native.Mathlib.Numerals.{add-one}
 use lib.Dec.{lit<, eqb}
-use lib.ListN.{length, getD, take, drop, length-append}
-use lib.Seq.{drop-cons, take-all}
+use lib.ListN.{length, getD, take, drop, length-append, length-take}
+use lib.Seq.{drop-cons}
 use Rattle.base.specs.Choice.{pick, ifLt, ifLe, ifEq}
 use Rattle.base.specs.ChoiceLaws.{lt-yes, lt-no, le-yes, eq-yes, eq-no}
 use Rattle.base.specs.Checked.{Checked, ok, refused, andThen, Verdict, fine}
@@ -24,7 +24,7 @@ use Rattle.result.specs.Fill.{header}
 use Rattle.result.specs.Result.{version420}
 use Rattle.result.specs.Guarantee.{Stands}
 use Rattle.guarantee.specs.Theorem.{AllBytes}
-use Rattle.shown_laws.specs.Standing.{stands-front, field-copied, part-part}
+use Rattle.shown_laws.specs.Standing.{stands-front, part-part}
 use Rattle.shown_laws.specs.Header.{length-header, header-size}
 use Rattle.shown_laws.specs.Joined.{stands-inside}
 
@@ -113,15 +113,11 @@ unfolding
 version-fine = refl
 
 -- what was lent stands at the front of the file
-pub ident-fine : (f ident : List ℕ) → AllBytes ident → length ident ≡ 64 → leAt 8 ident 0 ≡ fileMark → leAt 8 ident 8 ≡ version420
-    → Stands f 0 ident → identified f ≡ fine
+pub ident-fine : (f ident : List ℕ) → AllBytes ident → length ident ≡ 64 → leAt 8 ident 8 ≡ version420 → part 0 64 f ≡ ident
+    → leAt 8 f 0 ≡ fileMark → identified f ≡ fine
 unfolding identified part
-ident-fine f ident bytes long mark version s =
-    let front : part 0 64 f ≡ ident = rw long at (s .is) in
-    let inside : 64 ≤ length f = omega (arith, stands-inside ident s (omega arith)) in
-    let all : part 0 64 ident ≡ ident = take-all 64 ident (omega arith) in
-    let st : Stands f 0 (part 0 64 ident) = rw all s in
-    let first : leAt 8 f 0 ≡ fileMark = field-copied 8 ident 0 64 0 st (omega arith) (lit< tt) ∙ mark in
+ident-fine f ident bytes long version front mark =
+    let inside : 64 ≤ length f = omega (arith, long, simp length-take at (ap length front)) in
     let second : part 8 8 f ≡ le 8 version420 =
     sym (part-part 0 64 8 8 f (lit< tt)) ∙ ap (part 8 8) front ∙ bytes-of ident bytes 8 8 (omega arith) ∙ ap (le 8) version in
-    sym (lt-no _ _ _ _ inside (eq-yes _ _ _ _ first (sym (rw second version-fine))))
+    sym (lt-no _ _ _ _ inside (eq-yes _ _ _ _ mark (sym (rw second version-fine))))

@@ -20,24 +20,21 @@ use Rattle.plan.specs.Data.{isNonempty}
 use Rattle.plan.specs.Layout.{Layout, Placed, placedFrom, structurePlace, columnWidth, payloadSize}
 use Rattle.result.specs.Payload.{recordsOf, cell, cells, columnPayloads}
 use Rattle.result.specs.Fill.{Block, block, hdData, hdBytes, structureBlocks, dataBlocks, nextDG}
-use Rattle.result.specs.Links.{Head, headAt}
-use Rattle.result.specs.Due.{duePayload}
+use Rattle.result.specs.Due.{duePayload, FrontDue}
 use Rattle.result.specs.Result.{Args, Decided, memoOf, hdBlock, blocksOf, fileOf, answer}
 use Rattle.result.specs.Guarantee.{Stands, In, here, there, columnAt, columnsPlaced}
 use Rattle.copies_laws.specs.LengthLaws.{length-hd}
-use Rattle.copies_laws.specs.LayoutLaws.{LaidOut, columns-placed, file-near}
-use Rattle.payload_laws.specs.CountLaws.{counted}
+use Rattle.copies_laws.specs.LayoutLaws.{columns-placed}
 use Rattle.payload_laws.specs.ColumnLaws.{Ready, column-joined, column-bytes}
 use Rattle.plan_laws.specs.Decision.{Steps, answer-accepted}
 use Rattle.plan_laws.specs.Known.{Known, answer-known}
-use Rattle.shown_laws.specs.Header.{block-kind, block-size, block-links}
-use Rattle.shown_laws.specs.Shapes.{hdLinks, hd-shape}
 use Rattle.shown_laws.specs.Joined.{stands-inside}
-use Rattle.shown_laws.specs.ColumnShown.{ColumnSound}
 use Rattle.shown_laws.specs.AllShown.{in-hd, in-structure, in-data, hd-first}
 use Rattle.shown_laws.specs.Final.{file-filled}
-use Rattle.guarantee.specs.Places.{data-ends}
-use Rattle.guarantee.specs.Theorem.{AllBytes, o, sized, in-image, ordered, in-placed, column-in, metadata-small, sound}
+use Rattle.guarantee.specs.Front.{front-due}
+use Rattle.guarantee.specs.Named.{new-small}
+use Rattle.guarantee.specs.Copied.{copy-stands}
+use Rattle.guarantee.specs.Theorem.{AllBytes, o, sized, in-image, ordered, in-placed, column-in, file-below, sound}
 use Rattle.file.specs.Form.{FileColumn, cycles, recordBytes}
 use Rattle.file.specs.Opened.{opened}
 use Rattle.file.specs.Range.{fileColumnAt, startOf, bytesOf, rangeOf, ranged}
@@ -45,27 +42,11 @@ use Rattle.file_laws.specs.Standing.{AllStand, FileStands}
 use Rattle.file_laws.specs.StandingLaws.{opened-stands}
 use Rattle.file_laws.specs.RangeLaws.{ranged-ok, ranged-none, ranged-past}
 use Rattle.file_guarantee.specs.Passed.{block-fine, ident-fine}
-use Rattle.file_guarantee.specs.Names.{names-fine, links-small}
+use Rattle.file_guarantee.specs.Names.{names-fine}
 use Rattle.file_guarantee.specs.ColumnForm.{fileColumn}
 use Rattle.file_guarantee.specs.Columns.{Good, fileColumns, first-same, stand-from, next-below, columns-stand, columns-many, blocks-many, ColumnRead, columns-read}
 use Rattle.file_guarantee.specs.Cells.{cell-part}
 use Rattle.file_guarantee.specs.Reads.{Reads}
-
--- ---- HD
-hd-head : {f : List ℕ} (s : List ℕ) (a b c d : ℕ) → Stands f 64 (hdBytes s a b c d) → headAt f 64 ≡ record { kind = kindHD; size = 104; links = 6 }
-unfolding headAt hdLinks
-hd-head {f} s a b c d st =
-    let st' = rw (hd-shape s a b c d) at st in
-    rw (
-      block-kind kindHD 104 (hdLinks a b c d) (hdData s) st' (lit< tt),
-      block-size kindHD 104 (hdLinks a b c d) (hdData s) st' (lit< tt),
-      block-links kindHD 104 (hdLinks a b c d) (hdData s) st' (lit< tt),
-    )
-
-hd-fine : {f : List ℕ} (s : List ℕ) (a b c d : ℕ) → Stands f 64 (hdBytes s a b c d) → blockAt HD f 64 ≡ fine
-hd-fine {f} s a b c d st =
-    let long = length-hd s a b c d in
-    block-fine f 64 _ (hd-head s a b c d st) HD refl (lit< tt) (lit< tt) (lit< tt) (omega (arith, long, stands-inside (hdBytes s a b c d) st (omega arith)))
 
 -- ---- columns by number
 record PlacedAt (s : List ℕ) (size : ℕ) (ps : List Placed) (k : ℕ) (c : Column) : Type 0 where
@@ -114,17 +95,6 @@ module _ (x : Args) (d : Decided) (k : Known x d) (out : List ℕ) (room : d .la
   filled : (b : Block) → In b (blocksOf x l) → Stands f (b .at) (b .bytes)
   filled = file-filled x l out (ordered x d k) room
 
-  size-small : l .fileSize < 256 ^ 8
-  size-small =
-      omega (
-        arith,
-        file-near (o x d k),
-        data-ends (x .image) (x .blockSize) (l .metadataEnd) (d .planned .columns) (k .steps .imageLength) (sized x d k),
-        metadata-small x d k,
-        k .fewColumns,
-        k .steps .imageLength,
-      )
-
   due-length : (c : Column) → In c (d .planned .columns) → length (duePayload (x .image) c) ≡ payloadSize (x .image) c
   due-length c i =
       let z = sized x d k c i in
@@ -150,19 +120,15 @@ module _ (x : Args) (d : Decided) (k : Known x d) (out : List ℕ) (room : d .la
   all-stand : AllStand f 0 cols
   all-stand =
       let e : l .placed ≡ placed' = o x d k .placed in
-      let order = ordered x d k in
+      let copied = copy-stands x (d .planned .columns) l (o x d k) f bytes (ordered x d k) (file-below x d k) filled in
       subst (λ (ps : List Placed). AllStand f 0 (fileColumns (x .image) (x .blockSize) ps)) (sym e)
       (stand-from f 0 (structurePlace (l .metadata)) (fileColumns (x .image) (x .blockSize) placed') (omega arith)
       (columns-stand (x .image) (x .blockSize) (memoOf l) (l .placed)
-      (links-small x (d .planned .columns) l (o x d k) order size-small) (names-fine x (d .planned .columns) l (o x d k) filled)
+      (new-small (x .image) f bytes (l .past .chain) (memoOf l) (l .fh) copied) (names-fine (x .image) f (l .past .chain) (memoOf l) (l .fh) copied)
       (d .planned .columns) (structurePlace (l .metadata)) (l .metadataEnd)
       (λ p i. good p (subst (In p) (sym e) i))
       (λ b i. made b (subst (λ (ps : List Placed). In b (structureBlocks (x .image) (x .blockSize) (memoOf l) (l .placed) ps)) (sym e) i))
       (λ b i. dataIn b (subst (λ (ps : List Placed). In b (dataBlocks (x .image) (x .blockSize) ps)) (sym e) i))))
-
-  ident-in : In (block 0 (x .ident)) (blocksOf x l)
-  unfolding blocksOf
-  ident-in = here
 
   many : length (l .placed) ≡ length (d .planned .columns)
   many = sym (placed-many (l .placed)) ∙ ap length (columns-placed (o x d k))
@@ -170,20 +136,24 @@ module _ (x : Args) (d : Decided) (k : Known x d) (out : List ℕ) (room : d .la
   pub cols-many : length cols ≡ length (d .planned .columns)
   cols-many = columns-many (x .image) (x .blockSize) (l .placed) ∙ many
 
+  front : FrontDue x f
+  front = front-due x l f filled (k .steps .lent)
+
   hd-stands : Stands f 64 (hdBlock (x .image) l .bytes)
   unfolding hdBlock
   hd-stands = filled (hdBlock (x .image) l) (in-hd x l)
 
-  header-fine : blockAt HD f 64 ≡ fine
+  hd-inside : 64 + 104 ≤ length f
   unfolding hdBlock
-  header-fine = hd-fine (x .image) _ _ _ _ hd-stands
+  hd-inside =
+      let n : length (hdBlock (x .image) l .bytes) ≡ 104 = length-hd (x .image) _ _ _ _ in
+      omega (arith, n, stands-inside (hdBlock (x .image) l .bytes) hd-stands (omega arith))
 
   pub file-stands : FileStands f cols
   file-stands =
       record {
-        ident = ident-fine f (x .ident) identBytes (k .steps .lent .identLength) (k .steps .lent .identMark) (k .steps .lent .identVersion)
-            (filled (block 0 (x .ident)) ident-in);
-        header = header-fine;
+        ident = ident-fine f (x .ident) identBytes (k .steps .lent .identLength) (k .steps .lent .identVersion) (front .ident) (front .mark);
+        header = block-fine f 64 _ (front .head) HD refl (lit< tt) (lit< tt) (lit< tt) hd-inside;
         first = hd-first (x .image) l hd-stands (next-below (x .image) (x .blockSize) (l .placed) good)
             ∙ sym (first-same (x .image) (x .blockSize) (l .placed));
         columns = all-stand;
