@@ -1,3 +1,4 @@
 pub mod Places
 pub mod Theorem
 pub mod Untouched
+pub mod Listed
