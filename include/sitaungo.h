@@ -138,8 +138,8 @@ struct sitaungo_outcome sitaungo_convert(
 
 /* Lays the listing of that conversion, with an output of `out` bytes and a list of `list_words` words, over `lines`, and answers its length;
  * what passes the end of `lines` is lost. The listing is `columns N`, a line for each column (number, t time or s signal, data bytes,
- * invalidation byte, records, blocks, payload bytes, master column or `-`), `omitted N`, a line `address reason` for each omission;
- * or only `refused N place P`. The work slices are left as by sitaungo_convert. */
+ * invalidation byte, records, blocks, payload bytes plus the bytes of its joined signal data, master column or `-`), `omitted N`, a line
+ * `address reason` for each omission; or only `refused N place P`. The work slices are left as by sitaungo_convert. */
 size_t sitaungo_list(
     const uint8_t *image, size_t image_length, uint64_t size,
     const uint8_t *ident, size_t ident_length, const uint8_t *text, size_t text_length, uint64_t out, uint64_t list_words,

@@ -271,14 +271,32 @@ g1 = m.put(block(b"CG", [g2, cn, 0, 0, 0, 0], cg_data(record_id=1, samples=2)))
 dg = m.put(block(b"DG", [0, g1, dt, 0], bytes([1]) + bytes(7)))
 case("unsorted", m.hd(dg), lines(["0 t 1 0 2 1 2 -", "1 s 1 0 2 1 2 0", "2 s 1 0 1 1 1 -"]))
 
-# a channel with signal data
+# a channel with signal data: 16 bytes of payload, 11 of signal data
 m = Image()
 sd = m.put(block(b"SD", [], b"\2\0\0\0xy" + b"\1\0\0\0z"))
 dt = m.put(block(b"DT", [], struct.pack("<QQ", 0, 6)))
 cn = channel(m, kind=1, bits=64, signal=sd)
 cg = m.put(block(b"CG", [0, cn, 0, 0, 0, 0], cg_data(samples=8)))
 dg = m.put(block(b"DG", [0, cg, dt, 0], bytes(8)))
-case("signal-data", m.hd(dg), lines(["0 s 8 0 2 1 16 -"]))
+case("signal-data", m.hd(dg), lines(["0 s 8 0 2 1 27 -"]))
+
+# signal data in fragments of 6 and 5 bytes and one under 24 bytes, which has none, used by two channels: 16 + 11 bytes each;
+# and a channel without records: its 6 bytes of signal data alone
+m = Image()
+sd = m.put(block(b"SD", [], b"\2\0\0\0xy"))
+more = m.put(block(b"SD", [], b"\1\0\0\0z"))
+none = m.put(block(b"SD", [], size=16))
+dl = m.put(block(b"DL", [0, sd, 0, more, none], bytes(8)))
+dt = m.put(block(b"DT", [], struct.pack("<BQQBQQ", 0, 0, 6, 1, 6, 0)))
+cn = channel(m, kind=1, byte=9, bits=64, signal=dl)
+cn = channel(m, after=cn, kind=1, byte=1, bits=64, signal=dl)
+cn = channel(m, after=cn, kind=2)
+g1 = m.put(block(b"CG", [0, cn, 0, 0, 0, 0], cg_data(samples=17)))
+cn = channel(m, kind=1, bits=64, signal=sd)
+g2 = m.put(block(b"CG", [0, cn, 0, 0, 0, 0], cg_data(samples=8)))
+d2 = m.put(block(b"DG", [0, g2, 0, 0], bytes(8)))
+d1 = m.put(block(b"DG", [d2, g1, dt, 0], bytes(8)))
+case("signal-fragments", m.hd(d1), lines(["0 t 1 0 2 1 2 -", "1 s 8 0 2 1 27 0", "2 s 8 0 2 1 27 0", "3 s 8 0 0 0 6 -"]))
 
 # copied metadata, history and an attachment; their refusals
 m = Image()

@@ -7,3 +7,4 @@ pub mod Past
 pub mod Copied
 pub mod Theorem
 pub mod Untouched
+pub mod Listed

@@ -7,7 +7,7 @@ use Rattle.base.specs.Choice.{ifEq}
 use Rattle.base.specs.Blit.{blit}
 use Rattle.plan.specs.Channel.{channelBytes, keepsInval}
 use Rattle.plan.specs.PlanWords.{omissionsAt}
-use Rattle.placing.specs.InWords.{blocksAt, payloadAt}
+use Rattle.placing.specs.InWords.{blocksAt, payloadAt, signalAt}
 use Rattle.result.specs.Fill.{one}
 use Rattle.result.specs.Listing.{decimal}
 
@@ -44,21 +44,25 @@ unfoldable pub lineSizes : List ℕ → List ℕ → ℕ → List ℕ
 lineSizes s w k =
     numberThen (channelBytes s (getD w (8 * k) 0)) 32 ++ numberThen (one (keepsInval s (getD w (8 * k + 1) 0) (getD w (8 * k) 0))) 32
 
--- records, blocks, payload bytes
-unfoldable pub lineAmounts : List ℕ → ℕ → List ℕ → ℕ → List ℕ
-lineAmounts s size w k =
-    numberThen (getD w (8 * k + 3) 0) 32 ++ numberThen (blocksAt s size w (8 * k)) 32 ++ numberThen (payloadAt s w (8 * k)) 32
+-- payload bytes and those of signal data, whose fragments stand in f
+unfoldable pub bytesAt : List ℕ → List ℕ → List ℕ → ℕ → ℕ
+bytesAt s w f k = payloadAt s w (8 * k) + signalAt w f (8 * k)
+
+-- records, blocks, payload bytes with signal data
+unfoldable pub lineAmounts : List ℕ → ℕ → List ℕ → List ℕ → ℕ → List ℕ
+lineAmounts s size w f k =
+    numberThen (getD w (8 * k + 3) 0) 32 ++ numberThen (blocksAt s size w (8 * k)) 32 ++ numberThen (bytesAt s w f k) 32
 
 -- all of them, the master column and a newline
-unfoldable pub lineIn : List ℕ → ℕ → List ℕ → ℕ → List ℕ
-lineIn s size w k = lineFront w k ++ lineSizes s w k ++ lineAmounts s size w k ++ masterOf (getD w (8 * k + 5) 0) ++ (10 ∷ [])
+unfoldable pub lineIn : List ℕ → ℕ → List ℕ → List ℕ → ℕ → List ℕ
+lineIn s size w f k = lineFront w k ++ lineSizes s w k ++ lineAmounts s size w f k ++ masterOf (getD w (8 * k + 5) 0) ++ (10 ∷ [])
 
 -- ---- all columns, all omissions
 
 -- n columns from number k on
-unfoldable pub linesIn : List ℕ → ℕ → List ℕ → ℕ → ℕ → List ℕ
-linesIn s size w k zero = []
-linesIn s size w k (suc n) = lineIn s size w k ++ linesIn s size w (k + 1) n
+unfoldable pub linesIn : List ℕ → ℕ → List ℕ → List ℕ → ℕ → ℕ → List ℕ
+linesIn s size w f k zero = []
+linesIn s size w f k (suc n) = lineIn s size w f k ++ linesIn s size w f (k + 1) n
 
 -- the omission whose words stand from i on
 unfoldable pub omissionIn : List ℕ → ℕ → List ℕ
@@ -83,19 +87,19 @@ refusedWord = 114 ∷ 101 ∷ 102 ∷ 117 ∷ 115 ∷ 101 ∷ 100 ∷ 32 ∷ []
 abbrev pub placeWord : List ℕ
 placeWord = 32 ∷ 112 ∷ 108 ∷ 97 ∷ 99 ∷ 101 ∷ 32 ∷ []
 
-unfoldable pub columnsPart : List ℕ → ℕ → List ℕ → ℕ → List ℕ
-columnsPart s size w n = columnsWord ++ numberThen n 10 ++ linesIn s size w 0 n
+unfoldable pub columnsPart : List ℕ → ℕ → List ℕ → List ℕ → ℕ → List ℕ
+columnsPart s size w f n = columnsWord ++ numberThen n 10 ++ linesIn s size w f 0 n
 
 unfoldable pub omissionsPart : List ℕ → ℕ → List ℕ
 omissionsPart w n = omittedWord ++ numberThen n 10 ++ omissionsIn w omissionsAt n
 
 -- n columns and m omissions
-unfoldable pub planIn : List ℕ → ℕ → List ℕ → ℕ → ℕ → List ℕ
-planIn s size w n m = columnsPart s size w n ++ omissionsPart w m
+unfoldable pub planIn : List ℕ → ℕ → List ℕ → List ℕ → ℕ → ℕ → List ℕ
+planIn s size w f n m = columnsPart s size w f n ++ omissionsPart w m
 
 unfoldable pub refusalLine : ℕ → ℕ → List ℕ
 refusalLine number place = refusedWord ++ decimal number ++ placeWord ++ numberThen place 10
 
--- the payload bytes of each of n columns are a number of 64 bits
-pub record AllCount (s w : List ℕ) (n : ℕ) : Type 0 where
-  pub each : (k : ℕ) → k < n → payloadAt s w (8 * k) < 18446744073709551616
+-- the bytes of each of n columns are a number of 64 bits
+pub record AllCount (s w f : List ℕ) (n : ℕ) : Type 0 where
+  pub each : (k : ℕ) → k < n → bytesAt s w f k < 18446744073709551616

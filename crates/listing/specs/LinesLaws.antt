@@ -1,5 +1,5 @@
 -- Each piece of a line after the others, each line after the others.
-use Prim.Native.Nat.{ℕ, zero, suc, _+_, _*_, _-_, _≤_, _<_}
+use Prim.Native.Nat.{ℕ, zero, suc, _+_, _*_, _-_, _≤_, _<_, min}
 use mathlib.Core.List.{List, [], _∷_, _++_, append-assoc, append-nil}
 use mathlib.Core.Bool.{Bool, true, false}
 use mathlib.Core.Path.{_≡_, refl, sym, ap, _∙_}
@@ -9,7 +9,9 @@ use lib.ListN.{getD}
 use Rattle.base.specs.ChoiceLaws.{eq-yes, eq-no}
 use Rattle.plan.specs.Channel.{channelBytes, keepsInval, width}
 use Rattle.plan.specs.Geometry.{blockCount}
-use Rattle.placing.specs.InWords.{widthAt, blocksAt, payloadAt}
+use Rattle.planning.specs.Sizes.{signalSize}
+use Rattle.placing.specs.InWords.{widthAt, blocksAt, payloadAt, signalAt}
+use Rattle.placing.specs.InWordsLaws.{signal-by}
 use Rattle.result.specs.Fill.{one}
 use Rattle.result.specs.Listing.{decimal}
 use Rattle.listing.specs.Lines.{
@@ -20,6 +22,7 @@ use Rattle.listing.specs.Lines.{
   masterOf,
   lineFront,
   lineSizes,
+  bytesAt,
   lineAmounts,
   lineIn,
   linesIn,
@@ -72,21 +75,37 @@ module _ (s w : List ℕ) (k : ℕ) {cn cg : ℕ} (i : cn ≡ getD w (8 * k) 0) 
   sizes-laid e f a b = laid-as (laid-then a b) (rw (e, f, i, j))
 
   module _ {n y : ℕ} (l : n ≡ getD w (8 * k + 3) 0) (u : y ≡ width s cg cn) where
-    pub payload-fits : payloadAt s w (8 * k) < 18446744073709551616 → y * n < 18446744073709551616
+    pub amounts-laid : (f : List ℕ) (size : ℕ) {at b z p q r : ℕ} {d₀ d₁ d₂ d₃ : List ℕ} → b ≡ blockCount size y n → z ≡ bytesAt s w f k
+        → Laid at (numberThen n 32) 21 d₀ d₁ p → Laid p (numberThen b 32) 21 d₁ d₂ q → Laid q (numberThen z 32) 21 d₂ d₃ r
+        → Laid at (lineAmounts s size w f k) 63 d₀ d₃ r
+    unfolding lineAmounts blocksAt widthAt
+    amounts-laid f size v x a b c = laid-as (laid-then (laid-then a b) c) (rw (x, v, u, i, j, l))
+
+    payload-by : y * n ≡ payloadAt s w (8 * k)
     unfolding payloadAt widthAt
-    payload-fits h = rw (u, i, j, l) h
+    payload-by = rw (u, i, j, l)
 
-    pub amounts-laid : (size : ℕ) {at b p q r : ℕ} {d₀ d₁ d₂ d₃ : List ℕ} → b ≡ blockCount size y n
-        → Laid at (numberThen n 32) 21 d₀ d₁ p → Laid p (numberThen b 32) 21 d₁ d₂ q → Laid q (numberThen (y * n) 32) 21 d₂ d₃ r
-        → Laid at (lineAmounts s size w k) 63 d₀ d₃ r
-    unfolding lineAmounts blocksAt payloadAt widthAt
-    amounts-laid size v a b c = laid-as (laid-then (laid-then a b) c) (rw (v, u, i, j, l))
+    module _ (f : List ℕ) (h : bytesAt s w f k < 18446744073709551616) where
+      together : payloadAt s w (8 * k) + signalAt w f (8 * k) < 18446744073709551616
+      unfolding bytesAt
+      together = h
 
-pub line-laid : (s : List ℕ) (size : ℕ) (w : List ℕ) (k : ℕ) {at m p q t u r : ℕ} {d₀ d₁ d₂ d₃ d₄ d₅ : List ℕ} → m ≡ getD w (8 * k + 5) 0
-    → Laid at (lineFront w k) 23 d₀ d₁ p → Laid p (lineSizes s w k) 42 d₁ d₂ q → Laid q (lineAmounts s size w k) 63 d₂ d₃ t
-    → Laid t (masterOf m) 20 d₃ d₄ u → Laid u (10 ∷ []) 1 d₄ d₅ r → Laid at (lineIn s size w k) 149 d₀ d₅ r
+      pub payload-fits : y * n < 18446744073709551616
+      payload-fits = omega (arith, payload-by, together)
+
+      module _ {a m z : ℕ} (q : a ≡ getD w (8 * k + 6) 0) (v : m ≡ getD w (8 * k + 7) 0) (x : z ≡ min (signalSize f a m) 18446744073709551615) where
+        pub bytes-by : y * n + z ≡ bytesAt s w f k
+        unfolding bytesAt
+        bytes-by = rw (payload-by, signal-by w f (8 * k) q v x (omega (arith, together)))
+
+        pub bytes-fit : y * n + z < 18446744073709551616
+        bytes-fit = rw bytes-by h
+
+pub line-laid : (s : List ℕ) (size : ℕ) (w f : List ℕ) (k : ℕ) {at m p q t u r : ℕ} {d₀ d₁ d₂ d₃ d₄ d₅ : List ℕ} → m ≡ getD w (8 * k + 5) 0
+    → Laid at (lineFront w k) 23 d₀ d₁ p → Laid p (lineSizes s w k) 42 d₁ d₂ q → Laid q (lineAmounts s size w f k) 63 d₂ d₃ t
+    → Laid t (masterOf m) 20 d₃ d₄ u → Laid u (10 ∷ []) 1 d₄ d₅ r → Laid at (lineIn s size w f k) 149 d₀ d₅ r
 unfolding lineIn
-line-laid s size w k e a b c f g = laid-as (laid-then (laid-then (laid-then (laid-then a b) c) f) g) (rw e)
+line-laid s size w f k e a b c g h = laid-as (laid-then (laid-then (laid-then (laid-then a b) c) g) h) (rw e)
 
 pub omission-laid : (w : List ℕ) (i : ℕ) {at a b p r : ℕ} {d₀ d₁ d₂ : List ℕ} → a ≡ getD w i 0 → b ≡ getD w (i + 1) 0
     → Laid at (numberThen a 32) 21 d₀ d₁ p → Laid p (numberThen b 10) 21 d₁ d₂ r → Laid at (omissionIn w i) 42 d₀ d₂ r
@@ -94,26 +113,26 @@ unfolding omissionIn
 omission-laid w i e f x y = laid-as (laid-then x y) (rw (e, f))
 
 -- ---- a loop over columns
-module _ (s : List ℕ) (size : ℕ) (w : List ℕ) where
-  lines-more : (k n : ℕ) → linesIn s size w k (n + 1) ≡ linesIn s size w k n ++ lineIn s size w (k + n)
+module _ (s : List ℕ) (size : ℕ) (w f : List ℕ) where
+  lines-more : (k n : ℕ) → linesIn s size w f k (n + 1) ≡ linesIn s size w f k n ++ lineIn s size w f (k + n)
   unfolding linesIn
   lines-more k zero = rw (add-zero, append-nil)
   lines-more k (suc n) =
       let e : k + 1 + n ≡ k + suc n = omega arith in
-      let f : suc n + 1 ≡ suc (n + 1) = omega arith in
-      let rest : linesIn s size w (k + 1) (n + 1) ≡ linesIn s size w (k + 1) n ++ lineIn s size w (k + suc n) = rw e at (lines-more (k + 1) n) in
-      rw f (ap (λ (l : List ℕ). lineIn s size w k ++ l) rest
-      ∙ sym (append-assoc (lineIn s size w k) (linesIn s size w (k + 1) n) (lineIn s size w (k + suc n))))
+      let g : suc n + 1 ≡ suc (n + 1) = omega arith in
+      let rest : linesIn s size w f (k + 1) (n + 1) ≡ linesIn s size w f (k + 1) n ++ lineIn s size w f (k + suc n) = rw e at (lines-more (k + 1) n) in
+      rw g (ap (λ (l : List ℕ). lineIn s size w f k ++ l) rest
+      ∙ sym (append-assoc (lineIn s size w f k) (linesIn s size w f (k + 1) n) (lineIn s size w f (k + suc n))))
 
-  pub lines-begin : {at : ℕ} {d : List ℕ} → Laid at (linesIn s size w 0 0) (149 * 0) d d at
+  pub lines-begin : {at : ℕ} {d : List ℕ} → Laid at (linesIn s size w f 0 0) (149 * 0) d d at
   unfolding linesIn
   lines-begin = laid-none
 
-  module _ (k : ℕ) {at p : ℕ} {d e : List ℕ} (a : Laid at (linesIn s size w 0 k) (149 * k) d e p) where
-    pub lines-turn : {r : ℕ} {f : List ℕ} → Laid p (lineIn s size w k) 149 e f r → Laid at (linesIn s size w 0 (k + 1)) (149 * (k + 1)) d f r
+  module _ (k : ℕ) {at p : ℕ} {d e : List ℕ} (a : Laid at (linesIn s size w f 0 k) (149 * k) d e p) where
+    pub lines-turn : {r : ℕ} {g : List ℕ} → Laid p (lineIn s size w f k) 149 e g r → Laid at (linesIn s size w f 0 (k + 1)) (149 * (k + 1)) d g r
     lines-turn b = laid-as (laid-most (laid-then a b) (omega arith)) (sym (lines-more 0 k ∙ rw zero-add))
 
-    pub lines-end : (n : ℕ) → k ≤ n → n ≤ k → Laid at (linesIn s size w 0 n) (149 * n) d e p
+    pub lines-end : (n : ℕ) → k ≤ n → n ≤ k → Laid at (linesIn s size w f 0 n) (149 * n) d e p
     lines-end n h l = let q : k ≡ n = omega arith in rw (← q) a
 
 -- ---- a loop over omissions
@@ -140,21 +159,21 @@ module _ (w : List ℕ) where
     omissions-end n h l = let q : k ≡ n = omega arith in rw (← q) a
 
 -- ---- the whole
-pub columns-laid : (s : List ℕ) (size : ℕ) (w : List ℕ) (n : ℕ) {at p q r : ℕ} {d₀ d₁ d₂ d₃ : List ℕ} → Laid at columnsWord 8 d₀ d₁ p
-    → Laid p (numberThen n 10) 21 d₁ d₂ q → Laid q (linesIn s size w 0 n) (149 * n) d₂ d₃ r → Laid at (columnsPart s size w n) (29 + 149 * n) d₀ d₃ r
+pub columns-laid : (s : List ℕ) (size : ℕ) (w f : List ℕ) (n : ℕ) {at p q r : ℕ} {d₀ d₁ d₂ d₃ : List ℕ} → Laid at columnsWord 8 d₀ d₁ p
+    → Laid p (numberThen n 10) 21 d₁ d₂ q → Laid q (linesIn s size w f 0 n) (149 * n) d₂ d₃ r → Laid at (columnsPart s size w f n) (29 + 149 * n) d₀ d₃ r
 unfolding columnsPart
-columns-laid s size w n a b c = laid-then (laid-then a b) c
+columns-laid s size w f n a b c = laid-then (laid-then a b) c
 
 pub omissions-laid : (w : List ℕ) (n : ℕ) {at p q r : ℕ} {d₀ d₁ d₂ d₃ : List ℕ} → Laid at omittedWord 8 d₀ d₁ p
     → Laid p (numberThen n 10) 21 d₁ d₂ q → Laid q (omissionsIn w 4096 n) (42 * n) d₂ d₃ r → Laid at (omissionsPart w n) (29 + 42 * n) d₀ d₃ r
 unfolding omissionsPart
 omissions-laid w n a b c = laid-then (laid-then a b) c
 
-pub plan-put : (s : List ℕ) (size : ℕ) (w : List ℕ) (n m : ℕ) {at p r : ℕ} {d₀ d₁ d₂ : List ℕ} → n ≤ 512 → m ≤ 1024
-    → Laid at (columnsPart s size w n) (29 + 149 * n) d₀ d₁ p → Laid p (omissionsPart w m) (29 + 42 * m) d₁ d₂ r
-    → Laid at (planIn s size w n m) 119354 d₀ d₂ r
+pub plan-put : (s : List ℕ) (size : ℕ) (w f : List ℕ) (n m : ℕ) {at p r : ℕ} {d₀ d₁ d₂ : List ℕ} → n ≤ 512 → m ≤ 1024
+    → Laid at (columnsPart s size w f n) (29 + 149 * n) d₀ d₁ p → Laid p (omissionsPart w m) (29 + 42 * m) d₁ d₂ r
+    → Laid at (planIn s size w f n m) 119354 d₀ d₂ r
 unfolding planIn
-plan-put s size w n m h l a b = laid-most (laid-then a b) (omega arith)
+plan-put s size w f n m h l a b = laid-most (laid-then a b) (omega arith)
 
 pub refusal-laid : (number place : ℕ) {at p q t r : ℕ} {d₀ d₁ d₂ d₃ d₄ : List ℕ} → Laid at refusedWord 8 d₀ d₁ p → Laid p (decimal number) 20 d₁ d₂ q
     → Laid q placeWord 8 d₂ d₃ t → Laid t (numberThen place 10) 21 d₃ d₄ r → Laid at (refusalLine number place) 57 d₀ d₄ r

@@ -10,10 +10,10 @@ use Rattle.result.specs.Result.{Args, lentIn, answer, workIn, workLeft}
 use Rattle.result.specs.Listing.{listing}
 use Rattle.listing.specs.Lines.{planIn, refusalLine}
 
--- 20, 21, or the plan of n columns and m omissions in words w, for a file of so many bytes, an output and a list of so many
-unfoldable pub answerIn : List ℕ → ℕ → List ℕ → ℕ → ℕ → ℕ → ℕ → ℕ → List ℕ
-answerIn s size w n m bytes out list =
-    ifLt out bytes (refusalLine 20 bytes) (ifLt list (2 * m + 1) (refusalLine 21 (2 * m + 1)) (planIn s size w n m))
+-- 20, 21, or the plan of n columns and m omissions in words w and f, for a file of so many bytes, an output and a list of so many
+unfoldable pub answerIn : List ℕ → ℕ → List ℕ → List ℕ → ℕ → ℕ → ℕ → ℕ → ℕ → List ℕ
+answerIn s size w f n m bytes out list =
+    ifLt out bytes (refusalLine 20 bytes) (ifLt list (2 * m + 1) (refusalLine 21 (2 * m + 1)) (planIn s size w f n m))
 
 -- the listing of a call with work slices ws, an output and a list of so many
 abbrev pub listingOf : Args → ℕ → ℕ → List (List ℕ) → List ℕ

@@ -12,11 +12,11 @@ use Rattle.base.specs.BlitLaws.{length-blit}
 use Rattle.base.specs.Choice.{pick, ifLt}
 use Rattle.base.specs.ChoiceLaws.{lt-yes, lt-no}
 use Rattle.base.specs.Checked.{Checked, ok, refused, andThen, Verdict, fine}
-use Rattle.base.specs.CheckedLaws.{then-fine}
+use Rattle.base.specs.CheckedLaws.{ok-same, then-fine}
 use Rattle.mdf.specs.Words.{laidItems}
 use Rattle.plan.specs.CopyWords.{laidCopies}
 use Rattle.plan.specs.Columns.{Omission, omissionAddresses, omissionReasons, omissionWords}
-use Rattle.plan.specs.PlanWords.{laidPlan}
+use Rattle.plan.specs.PlanWords.{signalFragments, laidPlan}
 use Rattle.result.specs.Listing.{planLines, listing}
 use Rattle.result.specs.Result.{Args, Decided, decided, lentIn, answer, zeros, workIn, workLeft}
 use Rattle.plan_laws.specs.Known.{Known, decided-known}
@@ -25,7 +25,7 @@ use Rattle.placing.specs.declared.layout.Numbers.{Numbers}
 use Rattle.placing.specs.declared.decide.Decision.{Decision}
 use Rattle.placing.specs.declared.decide.Decision.the-variants.{Refused, Done}
 use Rattle.placing.specs.Decision.{four, DecidedIn, RefusedIn, Decides}
-use Rattle.placing.specs.DecisionLaws.{work-fine, cleared}
+use Rattle.placing.specs.DecisionLaws.{work-fine, cleared, signals-length}
 use Rattle.placing.specs.InWords.{AllBounded}
 use Rattle.placing.specs.BoundedLaws.{all-bounded}
 use Rattle.listing.specs.LaidLaws.{laid-as, laid-most}
@@ -34,18 +34,18 @@ use Rattle.listing.specs.Listed.{answerIn, listingOf, Listed}
 use Rattle.listing.specs.PlanLaws.{plan-listed, laid-counts, refusal-listed}
 
 -- ---- 20, 21, or the plan
-module _ (s : List ℕ) (size : ℕ) (w : List ℕ) (n m bytes out list : ℕ) {d e : List ℕ} {r : ℕ} where
-  pub answer-output : out < bytes → Laid 0 (refusalLine 20 bytes) 57 d e r → Laid 0 (answerIn s size w n m bytes out list) 119354 d e r
+module _ (s : List ℕ) (size : ℕ) (w f : List ℕ) (n m bytes out list : ℕ) {d e : List ℕ} {r : ℕ} where
+  pub answer-output : out < bytes → Laid 0 (refusalLine 20 bytes) 57 d e r → Laid 0 (answerIn s size w f n m bytes out list) 119354 d e r
   unfolding answerIn
   answer-output h a = laid-as (laid-most a (omega arith)) (lt-yes _ _ _ _ h refl)
 
   pub answer-list : bytes ≤ out → list < 2 * m + 1 → Laid 0 (refusalLine 21 (2 * m + 1)) 57 d e r
-      → Laid 0 (answerIn s size w n m bytes out list) 119354 d e r
+      → Laid 0 (answerIn s size w f n m bytes out list) 119354 d e r
   unfolding answerIn
   answer-list h l a = laid-as (laid-most a (omega arith)) (lt-no _ _ _ _ h (lt-yes _ _ _ _ l refl))
 
-  pub answer-plan : bytes ≤ out → 2 * m + 1 ≤ list → Laid 0 (planIn s size w n m) 119354 d e r
-      → Laid 0 (answerIn s size w n m bytes out list) 119354 d e r
+  pub answer-plan : bytes ≤ out → 2 * m + 1 ≤ list → Laid 0 (planIn s size w f n m) 119354 d e r
+      → Laid 0 (answerIn s size w f n m bytes out list) 119354 d e r
   unfolding answerIn
   answer-plan h l a = laid-as a (lt-no _ _ _ _ h (lt-no _ _ _ _ l refl))
 
@@ -104,20 +104,28 @@ module _ {x : Args} {i f k o : ℕ} {n : Numbers} {a b c d a' b' c' d' : List �
   bounded = all-bounded (x .image) (x .blockSize) (t .told .planned .columns) (known .steps .imageLength) (known .steps .blocksFine)
       (λ c j. let z = sized x (t .told) known c j in record { ready = z .ready; signals = z .signals; few = z .few; fewSignals = z .fewSignals })
 
-  pub done-counts : AllCount (x .image) c' k
+  few-fragments : length (t .source .fragments) + length (signalFragments (t .told .planned .columns)) ≤ 1024
+  few-fragments =
+      let e : t .source ≡ known .steps .source = ok-same (sym (t .walked) ∙ known .steps .walked) in
+      rw e (omega (arith, signals-length (t .told .planned .columns), known .planned .signals, known .planned .few))
+
+  pub done-counts : AllCount (x .image) c' b' k
   done-counts =
       let l = t .longC in
-      rw (t .inColumns, t .columns) (laid-counts (x .image) (x .blockSize) (length (t .source .fragments)) (t .told .planned) c
-      (known .fewColumns) (omega arith) bounded)
+      let m = t .longB in
+      rw (t .inColumns, t .inFragments, t .columns) (laid-counts (t .told .planned) (t .source .fragments) c b (known .fewColumns) (known .fewOmissions)
+      (omega arith) few-fragments (omega arith) (x .image) (x .blockSize) bounded)
 
   -- its lines are those of the answer
-  pub done-answer : (out list : ℕ) → answerIn (x .image) (x .blockSize) c' k o (n .«file_size») out list ≡ listing x (answer x out list)
+  pub done-answer : (out list : ℕ) → answerIn (x .image) (x .blockSize) c' b' k o (n .«file_size») out list ≡ listing x (answer x out list)
   unfolding answerIn answer
   done-answer out list =
       let l = t .longC in
+      let m = t .longB in
       let p = t .told .planned in
-      let lines = plan-listed (length (t .source .fragments)) p c (known .fewColumns) (known .fewOmissions) (omega arith) (x .image) (x .blockSize) in
-      rw (t .is, t .numbered .fileSize, t .inColumns, t .columns, t .omissions, length-omissions (p .omissions), lines)
+      let lines = plan-listed p (t .source .fragments) c b (known .fewColumns) (known .fewOmissions) (omega arith) few-fragments (omega arith)
+      (x .image) (x .blockSize) (known .signalFine) in
+      rw (t .is, t .numbered .fileSize, t .inColumns, t .inFragments, t .columns, t .omissions, length-omissions (p .omissions), lines)
       (apart x (t .told) out (t .told .laidOut .fileSize) list (2 * length (p .omissions) + 1))
 
   -- each slice keeps its length
@@ -141,7 +149,7 @@ module _ {x : Args} {i f k o : ℕ} {n : Numbers} {a b c d a' b' c' d' : List �
   lent-fine = then-fine (lentIn x) _ (t .is) .0
 
   pub done-listed : (out list : ℕ) {lines lines' : List ℕ} {r bytes : ℕ} {a'' b'' c'' d'' : List ℕ} → bytes ≡ n .«file_size»
-      → Laid 0 (answerIn (x .image) (x .blockSize) c' k o bytes out list) 119354 lines lines' r
+      → Laid 0 (answerIn (x .image) (x .blockSize) c' b' k o bytes out list) 119354 lines lines' r
       → a'' ≡ replicate (length a') 0 → b'' ≡ replicate (length b') 0 → c'' ≡ replicate (length c') 0 → d'' ≡ replicate (length d') 0
       → Listed x out list (four a b c d) lines r lines' (four a'' b'' c'' d'')
   done-listed out list {a'' = a''} {b'' = b''} {c'' = c''} {d'' = d''} q z e f g h =

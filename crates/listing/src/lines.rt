@@ -8,10 +8,10 @@ use channels::channel_bytes;
 use channels::keeps_inval;
 use channels::width_of;
 use placing::columns::word;
+use planning::sizes::signal_size;
 ghost use mathlib.Core.Path.{_≡_};
 ghost use Prim.Native.Nat.{_+_, _*_, _≤_, _<_};
-ghost use Rattle.placing.specs.InWords.{payloadAt};
-ghost use Rattle.listing.specs.Lines.{Laid, lineFront, lineSizes, lineAmounts, lineIn, linesIn, omissionIn, omissionsIn};
+ghost use Rattle.listing.specs.Lines.{Laid, lineFront, lineSizes, bytesAt, lineAmounts, lineIn, linesIn, omissionIn, omissionsIn};
 ghost use Rattle.listing.specs.Lines.{Letter, masterOf, columnsPart, omissionsPart, planIn, refusalLine, AllCount};
 ghost use Rattle.plan.specs.Channel.{keepsInval};
 ghost use Rattle.result.specs.Fill.{one};
@@ -60,27 +60,42 @@ fn put_sizes(lines: &mut [u8], at: usize, image: &[u8], columns: &[u64], k: u64)
     put_number(lines, p, inval, 32)
 }
 
-// Its records, data blocks and payload bytes.
+// Its payload bytes and those of its signal data.
+fn bytes_of(image: &[u8], columns: &[u64], fragments: &[u64], k: u64) -> u64
+    requires { ⌜ (k ≤ 512) × (bytesAt (now image) (now columns) (now fragments) k < 18446744073709551616) ⌝ }
+    ensures { λ r. ⌜ r ≡ bytesAt (now (image .entry)) (now (columns .entry)) (now (fragments .entry)) k ⌝ }
+{
+    let cn = word(columns, 8 * k);
+    let cg = word(columns, 8 * k + 1);
+    let records = word(columns, 8 * k + 3);
+    let payload = width_of(image, cg, cn) * records;
+    let first = word(columns, 8 * k + 6);
+    let n = word(columns, 8 * k + 7);
+    payload + signal_size(fragments, first, n)
+}
+
+// Its records, data blocks and bytes.
 fn put_amounts(
     lines: &mut [u8],
     at: usize,
     image: &[u8],
     size: u64,
     columns: &[u64],
+    fragments: &[u64],
     k: u64,
 ) -> usize
-    requires { ⌜ (at ≤ 1125899906842624) × (k ≤ 512) × (payloadAt (now image) (now columns) (8 * k) < 18446744073709551616) ⌝ }
-    ensures { λ r. ⌜ Laid at (lineAmounts (now (image .entry)) size (now (columns .entry)) k) 63 (now (lines .entry)) (now (lines .exit)) r ⌝ }
+    requires { ⌜ (at ≤ 1125899906842624) × (k ≤ 512) × (bytesAt (now image) (now columns) (now fragments) k < 18446744073709551616) ⌝ }
+    ensures { λ r. ⌜ Laid at (lineAmounts (now (image .entry)) size (now (columns .entry)) (now (fragments .entry)) k) 63 (now (lines .entry)) (now (lines .exit)) r ⌝ }
 {
     let cn = word(columns, 8 * k);
     let cg = word(columns, 8 * k + 1);
     let records = word(columns, 8 * k + 3);
     let width = width_of(image, cg, cn);
     let blocks = block_count(size, width, records);
-    let payload = width * records;
+    let bytes = bytes_of(image, columns, fragments, k);
     let p = put_number(lines, at, records, 32);
     let q = put_number(lines, p, blocks, 32);
-    put_number(lines, q, payload, 32)
+    put_number(lines, q, bytes, 32)
 }
 
 // The master's column, by its word, or `-`.
@@ -101,15 +116,16 @@ pub(crate) fn put_column_line(
     image: &[u8],
     size: u64,
     columns: &[u64],
+    fragments: &[u64],
     k: u64,
 ) -> usize
-    requires { ⌜ (at ≤ 281474976710656) × (k ≤ 512) × (payloadAt (now image) (now columns) (8 * k) < 18446744073709551616) ⌝ }
-    ensures { λ r. ⌜ Laid at (lineIn (now (image .entry)) size (now (columns .entry)) k) 149 (now (lines .entry)) (now (lines .exit)) r ⌝ }
+    requires { ⌜ (at ≤ 281474976710656) × (k ≤ 512) × (bytesAt (now image) (now columns) (now fragments) k < 18446744073709551616) ⌝ }
+    ensures { λ r. ⌜ Laid at (lineIn (now (image .entry)) size (now (columns .entry)) (now (fragments .entry)) k) 149 (now (lines .entry)) (now (lines .exit)) r ⌝ }
 {
     let master = word(columns, 8 * k + 5);
     let p = put_front(lines, at, columns, k);
     let q = put_sizes(lines, p, image, columns, k);
-    let t = put_amounts(lines, q, image, size, columns, k);
+    let t = put_amounts(lines, q, image, size, columns, fragments, k);
     let u = put_master(lines, t, master);
     put_byte(lines, u, 10)
 }
@@ -121,15 +137,16 @@ pub(crate) fn put_column_lines(
     image: &[u8],
     size: u64,
     columns: &[u64],
+    fragments: &[u64],
     n: u64,
 ) -> usize
-    requires { ⌜ (at ≤ 17592186044416) × (n ≤ 512) × AllCount (now image) (now columns) n ⌝ }
-    ensures { λ r. ⌜ Laid at (linesIn (now (image .entry)) size (now (columns .entry)) 0 n) (149 * n) (now (lines .entry)) (now (lines .exit)) r ⌝ }
+    requires { ⌜ (at ≤ 17592186044416) × (n ≤ 512) × AllCount (now image) (now columns) (now fragments) n ⌝ }
+    ensures { λ r. ⌜ Laid at (linesIn (now (image .entry)) size (now (columns .entry)) (now (fragments .entry)) 0 n) (149 * n) (now (lines .entry)) (now (lines .exit)) r ⌝ }
 {
     let mut p = at;
     let mut k: u64 = 0;
     while k < n {
-        p = put_column_line(lines, p, image, size, columns, k);
+        p = put_column_line(lines, p, image, size, columns, fragments, k);
         k += 1;
     }
     p
@@ -167,14 +184,15 @@ fn put_columns(
     image: &[u8],
     size: u64,
     columns: &[u64],
+    fragments: &[u64],
     n: u64,
 ) -> usize
-    requires { ⌜ (at ≤ 2199023255552) × (n ≤ 512) × AllCount (now image) (now columns) n ⌝ }
-    ensures { λ r. ⌜ Laid at (columnsPart (now (image .entry)) size (now (columns .entry)) n) (29 + 149 * n) (now (lines .entry)) (now (lines .exit)) r ⌝ }
+    requires { ⌜ (at ≤ 2199023255552) × (n ≤ 512) × AllCount (now image) (now columns) (now fragments) n ⌝ }
+    ensures { λ r. ⌜ Laid at (columnsPart (now (image .entry)) size (now (columns .entry)) (now (fragments .entry)) n) (29 + 149 * n) (now (lines .entry)) (now (lines .exit)) r ⌝ }
 {
     let p = put_text(lines, at, b"columns ");
     let q = put_number(lines, p, n, 10);
-    put_column_lines(lines, q, image, size, columns, n)
+    put_column_lines(lines, q, image, size, columns, fragments, n)
 }
 
 // `omitted`, their number, and their lines.
@@ -194,13 +212,14 @@ pub(crate) fn put_plan_lines(
     image: &[u8],
     size: u64,
     columns: &[u64],
+    fragments: &[u64],
     n: u64,
     m: u64,
 ) -> usize
-    requires { ⌜ (at ≤ 1099511627776) × (n ≤ 512) × (m ≤ 1024) × AllCount (now image) (now columns) n ⌝ }
-    ensures { λ r. ⌜ Laid at (planIn (now (image .entry)) size (now (columns .entry)) n m) 119354 (now (lines .entry)) (now (lines .exit)) r ⌝ }
+    requires { ⌜ (at ≤ 1099511627776) × (n ≤ 512) × (m ≤ 1024) × AllCount (now image) (now columns) (now fragments) n ⌝ }
+    ensures { λ r. ⌜ Laid at (planIn (now (image .entry)) size (now (columns .entry)) (now (fragments .entry)) n m) 119354 (now (lines .entry)) (now (lines .exit)) r ⌝ }
 {
-    let p = put_columns(lines, at, image, size, columns, n);
+    let p = put_columns(lines, at, image, size, columns, fragments, n);
     put_omissions(lines, p, columns, m)
 }
 

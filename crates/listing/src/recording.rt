@@ -15,14 +15,15 @@ fn put_answer(
     image: &[u8],
     size: u64,
     columns: &[u64],
+    fragments: &[u64],
     n: u64,
     m: u64,
     bytes: u64,
     out: u64,
     list_words: u64,
 ) -> usize
-    requires { ⌜ (n ≤ 512) × (m ≤ 1024) × AllCount (now image) (now columns) n ⌝ }
-    ensures { λ r. ⌜ Laid 0 (answerIn (now (image .entry)) size (now (columns .entry)) n m bytes out «list_words») 119354
+    requires { ⌜ (n ≤ 512) × (m ≤ 1024) × AllCount (now image) (now columns) (now fragments) n ⌝ }
+    ensures { λ r. ⌜ Laid 0 (answerIn (now (image .entry)) size (now (columns .entry)) (now (fragments .entry)) n m bytes out «list_words») 119354
         (now (lines .entry)) (now (lines .exit)) r ⌝ }
 {
     if out < bytes {
@@ -32,7 +33,7 @@ fn put_answer(
     if list_words < words {
         return put_refusal(lines, 0, 21, words);
     }
-    put_plan_lines(lines, 0, image, size, columns, n, m)
+    put_plan_lines(lines, 0, image, size, columns, fragments, n, m)
 }
 
 // The listing for an output of so many bytes and a list of so many words, and its length. The four work slices hold 8,192 words each.
@@ -68,6 +69,7 @@ pub fn list(
                 image,
                 size,
                 columns,
+                fragments,
                 n,
                 omissions,
                 numbers.file_size,

@@ -49,7 +49,7 @@ pub plan-within : (s : List ℕ) (size : ℕ) (p : Plan) (fs : List Fragment) (w
     → AllWithin s size (laidPlan (length fs) p w) (blit 0 (fragmentWords (fs ++ signalFragments (p .columns))) f) 0 (length (p .columns))
 plan-within s size p fs w f a b c d e =
     all-within s size (laidPlan (length fs) p w) (blit 0 (fragmentWords (fs ++ signalFragments (p .columns))) f) (length fs) 0 (p .columns)
-    (columns-stand p fs w f a b c d) c e
+    (columns-stand p fs w f a b c d) e
 
 -- and what is laid out over those words is the plan's layout
 pub plan-laid : (s : List ℕ) (size text : ℕ) (p : Plan) (fs : List Fragment) (w f : List ℕ) (n : ℕ) {m m' : List ℕ} {r : Laid}

@@ -19,6 +19,8 @@ use Rattle.plan.specs.Copies.{Copies, copyRoots, columnLinks, columnCopies}
 use Rattle.plan.specs.CopyWords.{placedWords}
 use Rattle.plan.specs.Layout.{columnWidth, columnBlocks, cgSize, structureSize, payloadSize, blocksEnd, signalEnd, placedFrom, structureEnd, dataEnd}
 use Rattle.result.specs.Guarantee.{here, there}
+use Rattle.planning.specs.Sizes.{signalSize}
+use Rattle.planning.specs.SizesLaws.{sizes-stand}
 use Rattle.placing.specs.Roots.{roots, roots-of}
 use Rattle.placing.specs.AttachingLaws.{getD-before}
 use Rattle.placing.specs.InWords.{
@@ -28,7 +30,6 @@ use Rattle.placing.specs.InWords.{
   cgBytes,
   structureAt,
   blocksEndAt,
-  sizesIn,
   signalAt,
   signalEndAt,
   structuresIn,
@@ -60,16 +61,6 @@ words-first fs gs j h = rw (words-append fs gs) (List·getD-append (fragmentWord
 
 words-after : (fs gs : List Fragment) (j : ℕ) → getD (fragmentWords (fs ++ gs)) (3 * length fs + j) 0 ≡ getD (fragmentWords gs) j 0
 words-after fs gs j = rw (words-append fs gs, ← length-fragments fs) (getD-append-add (fragmentWords fs) (fragmentWords gs) j 0)
-
-sizes-stand : (f : List ℕ) (q : ℕ) (fs : List Fragment) → ((j : ℕ) → j < 3 * length fs → getD f (q + j) 0 ≡ getD (fragmentWords fs) j 0)
-    → sizesIn f q (length fs) ≡ sizeOf fs
-unfolding sizesIn sizeOf fragmentWords
-sizes-stand f q [] h = refl
-sizes-stand f q (x ∷ fs) h =
-    let first : getD f (q + 1) 0 ≡ x .size = h 1 (omega arith) in
-    let rest : sizesIn f (q + 3) (length fs) ≡ sizeOf fs =
-    sizes-stand f (q + 3) fs (λ j l. let e : q + 3 + j ≡ q + suc (suc (suc j)) = omega arith in rw e (h (suc (suc (suc j))) (omega arith))) in
-    rw (first, rest)
 
 in-size : (g : Signal) → length (fragmentsIn g) ≡ sizeOfSignal g
 in-size unsigned = refl
@@ -167,21 +158,21 @@ sized : {w f : List ℕ} {m p : ℕ} {c : Column} → Reads w f m p c → Sized 
 sized r = record { signal = r .signal; pieces = r .pieces; fragments = r .fragments }
 
 signal-bytes : (w f : List ℕ) (m p : ℕ) (g : Signal) → Sized w f m p g → signalAt w f p ≡ signalBytesOf g
-unfolding signalAt sizesIn
-signal-bytes w f m p unsigned r = rw (r .pieces)
+unfolding signalAt signalSize
+signal-bytes w f m p unsigned r = sym (eq-yes _ _ _ _ (r .signal) refl)
 signal-bytes w f m p (signalData fs) r =
     let e : getD w (p + 6) 0 - 1 ≡ m = omega (arith, r .signal) in
-    rw (e, r .pieces) (sizes-stand f (3 * m) fs (r .fragments))
+    sym (eq-no _ _ _ _ (λ z. omega (arith, z, r .signal)) (rw (e, r .pieces) (sym (sizes-stand f m fs (r .fragments)))))
+
+-- of a column
+pub signal-of : {w f : List ℕ} {m p : ℕ} {c : Column} → Reads w f m p c → signalAt w f p ≡ signalBytesOf (c .signalOf)
+signal-of {w} {f} {m} {p} {c} r = signal-bytes w f m p (c .signalOf) (sized r)
 
 signal-end : (w f : List ℕ) (m p d : ℕ) (g : Signal) → Sized w f m p g → signalEndAt w f p d ≡ signalEnd g d
 unfolding signalEndAt
 signal-end w f m p d unsigned r = sym (eq-yes _ _ _ _ (r .signal) refl)
 signal-end w f m p d (signalData fs) r =
     sym (eq-no _ _ _ _ (λ e. omega (arith, e, r .signal)) (rw (signal-bytes w f m p (signalData fs) r)))
-
-signal-few : (w f : List ℕ) (m p : ℕ) (g : Signal) → Sized w f m p g → m + sizeOfSignal g ≤ 1024 → getD w (p + 6) 0 + getD w (p + 7) 0 ≤ 1025
-signal-few w f m p unsigned r h = omega (arith, r .signal, r .pieces)
-signal-few w f m p (signalData fs) r h = omega (arith, r .signal, r .pieces)
 
 -- past all the data of a column
 column-end : {w f : List ℕ} {m p : ℕ} {c : Column} → Reads w f m p c → (s : List ℕ) (size d : ℕ)
@@ -233,26 +224,25 @@ module _ (s : List ℕ) (size : ℕ) (w f : List ℕ) where
       ∙ then-same (copyRoots s (columnLinks s c) x) _ _ (λ y. copies-of (m + sizeOfSignal (c .signalOf)) (p + 8) cs y (stand-rest w f m p c cs h))
 
   -- bounds of columns are bounds of their words
-  pub all-within : (m p : ℕ) (cs : List Column) → Columns w f m p cs → m + length (signalFragments cs) ≤ 1024 → AllBounded s size cs
+  pub all-within : (m p : ℕ) (cs : List Column) → Columns w f m p cs → AllBounded s size cs
       → AllWithin s size w f p (length cs)
-  all-within m p cs h l b = record { each = λ k i. at m p cs k h l b i }
+  all-within m p cs h b = record { each = λ k i. at m p cs k h b i }
     where
-      at : (m p : ℕ) (cs : List Column) (k : ℕ) → Columns w f m p cs → m + length (signalFragments cs) ≤ 1024 → AllBounded s size cs → k < length cs
+      at : (m p : ℕ) (cs : List Column) (k : ℕ) → Columns w f m p cs → AllBounded s size cs → k < length cs
           → Within s size w f (p + 8 * k)
-      at m p [] k h l b i = absurd (omega arith)
-      at m p (c ∷ cs) zero h l b i =
+      at m p [] k h b i = absurd (omega arith)
+      at m p (c ∷ cs) zero h b i =
           let r = stand-reads w f m p c cs h in
           let g = b .each c here in
           let e : p + 8 * 0 ≡ p = omega arith in
           rw e (record {
             blocks = omega (arith, blocks-of r s size, g .blocks);
             payload = omega (arith, payload-of r s, g .payload);
-            fragments = signal-few w f m p (c .signalOf) (sized r) (omega (arith, l, longer w f m p c cs h));
-            signal = omega (arith, signal-bytes w f m p (c .signalOf) (sized r), g .signal);
+            signal = omega (arith, signal-of r, g .signal);
           })
-      at m p (c ∷ cs) (suc k) h l b i =
+      at m p (c ∷ cs) (suc k) h b i =
           let e : p + 8 * suc k ≡ p + 8 + 8 * k = omega arith in
-          rw e (at (m + sizeOfSignal (c .signalOf)) (p + 8) cs k (stand-rest w f m p c cs h) (omega (arith, l, longer w f m p c cs h))
+          rw e (at (m + sizeOfSignal (c .signalOf)) (p + 8) cs k (stand-rest w f m p c cs h)
           (record { each = λ x j. b .each x (there j) }) (omega arith))
 
 -- ---- the words that planning leaves

@@ -167,7 +167,7 @@ arranged-by s size a e =
     let k = ok-same (h .1) in
     subst (ArrangedBy s size) k (record { walked = c .1; counted = d .1; planned = f .1; dataFine = g .0; blocksFine = h .0 })
 
-signals-length : (cs : List Column) → length (signalFragments cs) ≡ signalsOf cs
+pub signals-length : (cs : List Column) → length (signalFragments cs) ≡ signalsOf cs
 unfolding signalFragments signalsOf
 signals-length [] = refl
 signals-length (c ∷ cs) = let r = signals-length cs in simp length-append (rw (size-of (c .signalOf), r))

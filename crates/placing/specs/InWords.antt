@@ -14,6 +14,7 @@ use Rattle.plan.specs.Geometry.{align8, blockCount}
 use Rattle.plan.specs.Copies.{Copies, copyRoots}
 use Rattle.plan.specs.Layout.{dlSize, columnBlocks, payloadSize}
 use Rattle.result.specs.Guarantee.{In}
+use Rattle.planning.specs.Sizes.{signalSize}
 use Rattle.placing.specs.Roots.{roots}
 
 -- ---- one column
@@ -40,14 +41,9 @@ structureAt s size w p = 64 + cgBytes (getD w (p + 5) 0) + 160 + dlSize (blocksA
 unfoldable pub blocksEndAt : List ℕ → ℕ → List ℕ → ℕ → ℕ → ℕ
 blocksEndAt s size w p d = align8 (d + (24 * blocksAt s size w p + payloadAt s w p))
 
--- the sizes of so many fragments, with words from q on
-unfoldable pub sizesIn : List ℕ → ℕ → ℕ → ℕ
-sizesIn f q zero = 0
-sizesIn f q (suc n) = getD f (q + 1) 0 + sizesIn f (q + 3) n
-
 -- the bytes of its signal data
 unfoldable pub signalAt : List ℕ → List ℕ → ℕ → ℕ
-signalAt w f p = sizesIn f (3 * (getD w (p + 6) 0 - 1)) (getD w (p + 7) 0)
+signalAt w f p = signalSize f (getD w (p + 6) 0) (getD w (p + 7) 0)
 
 -- past its SD, which begins at d
 unfoldable pub signalEndAt : List ℕ → List ℕ → ℕ → ℕ → ℕ
@@ -84,7 +80,6 @@ copiesOf s w p (suc n) m = andThen (copyRoots s (rootsAt s w p) m) (λ m'. copie
 pub record Within (s : List ℕ) (size : ℕ) (w f : List ℕ) (p : ℕ) : Type 0 where
   pub blocks : blocksAt s size w p ≤ 4294967295
   pub payload : payloadAt s w p ≤ 4398046511104
-  pub fragments : getD w (p + 6) 0 + getD w (p + 7) 0 ≤ 1025
   pub signal : signalAt w f p ≤ 4398046511104
 
 pub record AllWithin (s : List ℕ) (size : ℕ) (w f : List ℕ) (p n : ℕ) : Type 0 where

@@ -1,6 +1,6 @@
 -- The laws of columns out of words: what is left of them gives what all give, and columns that stand in words give their own.
 use Prim.{tt}
-use Prim.Native.Nat.{ℕ, zero, suc, _+_, _*_, _-_, _≤_, _<_}
+use Prim.Native.Nat.{ℕ, zero, suc, _+_, _*_, _-_, _≤_, _<_, min}
 use mathlib.Core.List.{List, [], _∷_, _++_}
 use mathlib.Core.Path.{_≡_, refl, sym, ap, _∙_}
 use mathlib.Core.Bool.{Bool, true, false}
@@ -18,6 +18,8 @@ use Rattle.plan.specs.Geometry.{align8, blockCount}
 use Rattle.plan.specs.Channel.{width}
 use Rattle.plan.specs.Layout.{dlSize}
 use Rattle.plan.specs.Copies.{Copies, copyRoots}
+use Rattle.planning.specs.Sizes.{signalSize}
+use Rattle.planning.specs.SizesLaws.{signal-whole}
 use Rattle.placing.specs.declared.memo.Copying.{Copying}
 use Rattle.placing.specs.declared.copier.Got.{Got}
 use Rattle.placing.specs.declared.copier.Got.the-variants as got
@@ -33,7 +35,6 @@ use Rattle.placing.specs.InWords.{
   cgBytes,
   structureAt,
   blocksEndAt,
-  sizesIn,
   signalAt,
   signalEndAt,
   structuresIn,
@@ -113,52 +114,22 @@ pub structure-near : (s : List ℕ) (size : ℕ) (w : List ℕ) (p : ℕ) → bl
 unfolding structureAt
 structure-near s size w p h = omega (arith, cg-near (getD w (p + 5) 0), dl-near (blocksAt s size w p))
 
--- ---- sizes of fragments: what is left of them
-sizes-none : (f : List ℕ) (q n : ℕ) → n ≡ 0 → sizesIn f q n ≡ 0
-unfolding sizesIn
-sizes-none f q n e = rw e
-
-sizes-cons : (f : List ℕ) (q n : ℕ) → 0 < n → sizesIn f q n ≡ getD f (q + 1) 0 + sizesIn f (q + 3) (n - 1)
-unfolding sizesIn
-sizes-cons f q zero h = absurd (omega arith)
-sizes-cons f q (suc n) h = rw sub-one
-
-pub record Summing (f : List ℕ) (q₀ n₀ q n sum : ℕ) : Type 0 where
-  pub room : q + 3 * n ≤ 1152921504606846976
-  pub whole : sizesIn f q₀ n₀ ≤ 4398046511104
-  pub rest : sum + sizesIn f q n ≡ sizesIn f q₀ n₀
-
-pub sum-begin : (f : List ℕ) (q n : ℕ) → q + 3 * n ≤ 1152921504606846976 → sizesIn f q n ≤ 4398046511104 → Summing f q n q n 0
-sum-begin f q n h k = record { room = h; whole = k; rest = omega arith }
-
-module _ {f : List ℕ} {q₀ n₀ q n sum : ℕ} (u : Summing f q₀ n₀ q n sum) where
-  pub sum-end : n ≡ 0 → sum ≡ sizesIn f q₀ n₀
-  sum-end e = omega (arith, u .rest, sizes-none f q n e)
-
-  module _ (h : 0 < n) {x : ℕ} (e : x ≡ getD f (q + 1) 0) where
-    pub sum-small : sum + x ≤ 4398046511104
-    sum-small = omega (arith, u .rest, u .whole, sizes-cons f q n h)
-
-    pub sum-next : Summing f q₀ n₀ (q + 3) (n - 1) (sum + x)
-    sum-next = record { room = omega (arith, u .room); whole = u .whole; rest = omega (arith, u .rest, sizes-cons f q n h) }
-
 -- ---- signal data
+-- its bytes, by the code's answers
+pub signal-by : (w f : List ℕ) (p : ℕ) {a n x : ℕ} → a ≡ getD w (p + 6) 0 → n ≡ getD w (p + 7) 0 → x ≡ min (signalSize f a n) 18446744073709551615
+    → signalAt w f p ≤ 18446744073709551615 → x ≡ signalAt w f p
+unfolding signalAt
+signal-by w f p {a} {n} e q x h = rw (← e, ← q) (signal-whole f a n x (rw (← e, ← q) at h))
+
 module _ (w f : List ℕ) (p d : ℕ) {a : ℕ} (e : a ≡ getD w (p + 6) 0) where
   pub signal-none : a ≡ 0 → d ≡ signalEndAt w f p d
   unfolding signalEndAt
   signal-none z = eq-yes _ _ _ _ (sym e ∙ z) refl
 
-  -- its fragments, by the code's answers
-  signal-by : {n : ℕ} → n ≡ getD w (p + 7) 0 → sizesIn f (3 * (a - 1)) n ≡ signalAt w f p
-  unfolding signalAt
-  signal-by q = rw (e, q)
-
-  pub signal-fits : {n : ℕ} → n ≡ getD w (p + 7) 0 → signalAt w f p ≤ 4398046511104 → sizesIn f (3 * (a - 1)) n ≤ 4398046511104
-  signal-fits q h = omega (arith, signal-by q)
-
-  pub signal-some : {n x r : ℕ} → (a ≡ 0 → ⊥) → n ≡ getD w (p + 7) 0 → x ≡ sizesIn f (3 * (a - 1)) n → r ≡ align8 (d + (24 + x)) → r ≡ signalEndAt w f p d
+  pub signal-some : {n x r : ℕ} → (a ≡ 0 → ⊥) → n ≡ getD w (p + 7) 0 → x ≡ min (signalSize f a n) 18446744073709551615
+      → signalAt w f p ≤ 4398046511104 → r ≡ align8 (d + (24 + x)) → r ≡ signalEndAt w f p d
   unfolding signalEndAt
-  signal-some z q x r = eq-no _ _ _ _ (λ y. z (e ∙ y)) (r ∙ rw (x, signal-by q))
+  signal-some z q x h r = eq-no _ _ _ _ (λ y. z (e ∙ y)) (r ∙ rw (signal-by w f p e q x (omega (arith, h))))
 
 signal-near : (w f : List ℕ) (p d : ℕ) → signalAt w f p ≤ 4398046511104 → signalEndAt w f p d ≤ d + 4398046511136
 unfolding signalEndAt ifEq

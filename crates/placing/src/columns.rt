@@ -5,6 +5,7 @@ use crate::memo::aligned;
 use crate::roots::column_roots;
 use channels::block_count;
 use channels::width_of;
+use planning::sizes::signal_size;
 ghost use mathlib.Core.Path.{_≡_};
 ghost use mathlib.Core.List.{[], _∷_};
 ghost use Prim.Native.Nat.{_+_, _*_, _≤_, _<_};
@@ -13,7 +14,7 @@ ghost use Rattle.base.specs.Blit.{blit};
 ghost use Rattle.plan.specs.Layout.{dlSize};
 ghost use Rattle.placing.specs.Standing.{standing, Room};
 ghost use Rattle.placing.specs.Got.{Copied, AfterGot};
-ghost use Rattle.placing.specs.InWords.{blocksAt, payloadAt, cgBytes, structureAt, blocksEndAt, sizesIn, signalAt, signalEndAt};
+ghost use Rattle.placing.specs.InWords.{blocksAt, payloadAt, cgBytes, structureAt, blocksEndAt, signalAt, signalEndAt};
 ghost use Rattle.placing.specs.InWords.{structuresIn, dataIn, placedIn, copiesOf, AllWithin, AllFew};
 
 // Word i, 0 past the end.
@@ -79,25 +80,9 @@ fn blocks_end(image: &[u8], size: u64, columns: &[u64], p: u64, d: u64) -> u64
     aligned(d + (24 * blocks + payload))
 }
 
-// The sizes of n fragments, with words from q on.
-fn sizes_in(fragments: &[u64], q: u64, n: u64) -> u64
-    requires { ⌜ (q + 3 * n ≤ 1152921504606846976) × (sizesIn (now fragments) q n ≤ 4398046511104) ⌝ }
-    ensures { λ r. ⌜ r ≡ sizesIn (now (fragments .entry)) q n ⌝ }
-{
-    let mut at = q;
-    let mut left = n;
-    let mut sum: u64 = 0;
-    while 0 < left {
-        sum += word(fragments, at + 1);
-        at += 3;
-        left -= 1;
-    }
-    sum
-}
-
 // Past its SD, which begins at d.
 fn signal_end(fragments: &[u64], columns: &[u64], p: u64, d: u64) -> u64
-    requires { ⌜ (p ≤ 4096) × (d ≤ 1152921504606846976) × (getD (now columns) (p + 6) 0 + getD (now columns) (p + 7) 0 ≤ 1025)
+    requires { ⌜ (p ≤ 4096) × (d ≤ 1152921504606846976)
         × (signalAt (now columns) (now fragments) p ≤ 4398046511104) ⌝ }
     ensures { λ r. ⌜ r ≡ signalEndAt (now (columns .entry)) (now (fragments .entry)) p d ⌝ }
 {
@@ -105,7 +90,7 @@ fn signal_end(fragments: &[u64], columns: &[u64], p: u64, d: u64) -> u64
     if first == 0 {
         return d;
     }
-    let bytes = sizes_in(fragments, 3 * (first - 1), word(columns, p + 7));
+    let bytes = signal_size(fragments, first, word(columns, p + 7));
     aligned(d + (24 + bytes))
 }
 

@@ -1,5 +1,7 @@
 pub mod Decided
 pub mod DecideLaws
+pub mod Sizes
+pub mod SizesLaws
 pub mod TimeIn
 pub mod WordLaws
 pub mod Items

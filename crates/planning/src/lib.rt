@@ -6,6 +6,7 @@ pub mod groups;
 pub mod masters;
 pub mod planned;
 pub mod recording;
+pub mod sizes;
 pub mod span;
 pub mod stage;
 pub mod timing;

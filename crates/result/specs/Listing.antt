@@ -10,6 +10,7 @@ use Rattle.plan.specs.Channel.{channelBytes, keepsInval}
 use Rattle.plan.specs.Columns.{SrcGroup, Column, Omission, Plan}
 use Rattle.plan.specs.Layout.{columnBlocks, payloadSize}
 use Rattle.result.specs.Fill.{one}
+use Rattle.result.specs.Payload.{signalBytes}
 use Rattle.result.specs.Result.{Args, Decided}
 
 -- the decimal digits of n, at most so many
@@ -37,12 +38,16 @@ abbrev masterText : Option ℕ → List ℕ
 masterText none = 45 ∷ []
 masterText (some m) = decimal m
 
+-- the seventh field: "the column's payload bytes plus the bytes of its joined signal data, without block headers" (document 02, request 3)
+abbrev pub listedBytes : List ℕ → Column → ℕ
+listedBytes s c = payloadSize s c + length (signalBytes s (c .signalOf))
+
 -- "column, t time or s signal, data bytes, invalidation byte, records, blocks, payload bytes, master column or `-`"
 unfoldable pub columnLine : List ℕ → ℕ → ℕ → Column → List ℕ
 columnLine s size k c =
     decimal k ++ blank ++ letter (c .isTime) ++ blank ++ decimal (channelBytes s (c .channel)) ++ blank
     ++ decimal (one (keepsInval s (c .group .at) (c .channel))) ++ blank ++ decimal (c .group .records) ++ blank
-    ++ decimal (columnBlocks s size c) ++ blank ++ decimal (payloadSize s c) ++ blank ++ masterText (c .master) ++ newline
+    ++ decimal (columnBlocks s size c) ++ blank ++ decimal (listedBytes s c) ++ blank ++ masterText (c .master) ++ newline
 
 unfoldable pub columnLines : List ℕ → ℕ → ℕ → List Column → List ℕ
 columnLines s size k [] = []

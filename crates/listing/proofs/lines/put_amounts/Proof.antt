@@ -1,7 +1,6 @@
 -- Three numbers, one after the other.
-use native.Mathlib.Omega.{arith}
 use borrow.Author.Needs.{needs}
-use Rattle.listing.specs.LinesLaws.{amounts-laid, payload-fits}
+use Rattle.listing.specs.LinesLaws.{amounts-laid}
 use Rattle.listing.proofs.lines.put_amounts.Statement.{statement}
 use Rattle.listing.proofs.lines.put_amounts.Tie as tie
 
@@ -35,10 +34,8 @@ width-of-requires c κs = search needs
 block-count-requires : tie.Need-block-count-requires
 block-count-requires c κs = search needs
 
-mul-payload : tie.Need-mul-payload
-mul-payload c = omega (arith, payload-fits _ _ _ (c .before .before .before .before .word .ensures)
-    (c .before .before .before .word2 .ensures) (c .before .before .word3 .ensures) (c .before .width-of .ensures .is)
-    (c .before .before .before .before .before .before .before .before .pre .2))
+bytes-of-requires : tie.Need-bytes-of-requires
+bytes-of-requires c κs = search needs
 
 put-number-requires : tie.Need-put-number-requires
 put-number-requires c κs = search needs
@@ -53,14 +50,8 @@ same-length : tie.Need-same-length
 same-length c = search needs
 
 returns : tie.Need-returns
-returns c = amounts-laid _ _ _
-    (c .before .before .before .before .before .before .before .before .before .before .before .before .before .before .before .before .word .ensures)
-    (c .before .before .before .before .before .before .before .before .before .before .before .before .before .before .before .word2 .ensures)
-    (c .before .before .before .before .before .before .before .before .before .before .before .before .before .before .word3 .ensures)
-    (c .before .before .before .before .before .before .before .before .before .before .before .before .before .width-of .ensures .is)
-    _ (c .before .before .before .before .before .before .before .before .before .before .before .before .block-count .ensures)
-    (c .before .before .before .before .before .before .before .before .before .before .put-number .ensures)
-    (c .before .before .before .before .before .before .put-number2 .ensures) (c .before .before .put-number3 .ensures)
+returns c = amounts-laid _ _ _ (c .before .before .before .before .before .before .before .before .before .before .before .before .before .before .before .before .before .word .ensures) (c .before .before .before .before .before .before .before .before .before .before .before .before .before .before .before .before .word2 .ensures) (c .before .before .before .before .before .before .before .before .before .before .before .before .before .before .before .word3 .ensures) (c .before .before .before .before .before .before .before .before .before .before .before .before .before .before .width-of .ensures .is) _ _
+    (c .before .before .before .before .before .before .before .before .before .before .before .before .before .block-count .ensures) (c .before .before .before .before .before .before .before .before .before .before .before .before .bytes-of .ensures) (c .before .before .before .before .before .before .before .before .before .before .put-number .ensures) (c .before .before .before .before .before .before .put-number2 .ensures) (c .before .before .put-number3 .ensures)
 
 pub put-amounts-spec : {M : Type 1} → statement M
 put-amounts-spec =
@@ -76,7 +67,7 @@ put-amounts-spec =
     word-requires-3
     width-of-requires
     block-count-requires
-    mul-payload
+    bytes-of-requires
     put-number-requires
     put-number-requires-2
     put-number-requires-3

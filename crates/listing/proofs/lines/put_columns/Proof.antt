@@ -20,7 +20,7 @@ same-length : tie.Need-same-length
 same-length c = search needs
 
 returns : tie.Need-returns
-returns c = columns-laid _ _ _ _
+returns c = columns-laid _ _ _ _ _
     (c .before .before .before .before .before .before .before .before .before .before .put-text .ensures)
     (c .before .before .before .before .before .before .put-number .ensures) (c .before .before .put-column-lines .ensures)
 

@@ -19,8 +19,8 @@ enum-known-decision-2 c = search needs
 
 put-answer-requires : tie.Need-put-answer-requires
 put-answer-requires c κs = let t = decides-done
-    (c .before .before .before .before .before .before .before .before .before .before .before .before .before .decide .ensures)
-    (c .before .before .before .decision2 .given .1) in (done-columns t, done-omissions t, done-counts t)
+    (c .before .before .before .before .before .before .before .before .before .before .before .before .before .before .decide .ensures)
+    (c .before .before .before .before .decision2 .given .1) in (done-columns t, done-omissions t, done-counts t)
 
 clear-requires : tie.Need-clear-requires
 clear-requires c κs = search needs
@@ -72,14 +72,14 @@ same-length-10 c = search needs
 returns-2 : tie.Need-returns-2
 returns-2 c =
     let t = decides-done
-        (c .before .before .before .before .before .before .before .before .before .before .before .before .before .before .before .before .before .before .before .before .before .before .before .before .before .before .before .before .before .before .before .before .decide .ensures)
-        (c .before .before .before .before .before .before .before .before .before .before .before .before .before .before .before .before .before .before .before .before .before .before .decision2 .given .1)
-        in
+    (c .before .before .before .before .before .before .before .before .before .before .before .before .before .before .before .before .before .before .before .before .before .before .before .before .before .before .before .before .before .before .before .before .before .decide .ensures)
+    (c .before .before .before .before .before .before .before .before .before .before .before .before .before .before .before .before .before .before .before .before .before .before .before .decision2 .given .1)
+    in
     done-listed t _ _ refl
-        (c .before .before .before .before .before .before .before .before .before .before .before .before .before .before .before .before .before .before .put-answer .ensures)
-        (c .before .before .before .before .before .before .before .before .before .before .before .before .before .before .clear .ensures)
-        (c .before .before .before .before .before .before .before .before .before .before .clear2 .ensures)
-        (c .before .before .before .before .before .before .clear3 .ensures) (c .before .before .clear4 .ensures)
+    (c .before .before .before .before .before .before .before .before .before .before .before .before .before .before .before .before .before .before .put-answer .ensures)
+    (c .before .before .before .before .before .before .before .before .before .before .before .before .before .before .clear .ensures)
+    (c .before .before .before .before .before .before .before .before .before .before .clear2 .ensures)
+    (c .before .before .before .before .before .before .clear3 .ensures) (c .before .before .clear4 .ensures)
 
 pub list-spec : {M : Type 1} → statement M
 list-spec =

@@ -11,7 +11,7 @@ same-length : tie.Need-same-length
 same-length c = search needs
 
 returns : tie.Need-returns
-returns c = answer-output _ _ _ _ _ _ _ _ (c .before .before .before .before .if1 .taken)
+returns c = answer-output _ _ _ _ _ _ _ _ _ (c .before .before .before .before .if1 .taken)
     (c .before .before .put-refusal .ensures)
 
 mul-words : tie.Need-mul-words
@@ -27,7 +27,7 @@ same-length-2 : tie.Need-same-length-2
 same-length-2 c = search needs
 
 returns-2 : tie.Need-returns-2
-returns-2 c = answer-list _ _ _ _ _ _ _ _ (c .before .before .before .before .before .if1 .left)
+returns-2 c = answer-list _ _ _ _ _ _ _ _ _ (c .before .before .before .before .before .if1 .left)
     (c .before .before .before .before .if2 .taken) (c .before .before .put-refusal2 .ensures)
 
 put-plan-lines-requires : tie.Need-put-plan-lines-requires
@@ -37,7 +37,7 @@ same-length-3 : tie.Need-same-length-3
 same-length-3 c = search needs
 
 returns-3 : tie.Need-returns-3
-returns-3 c = answer-plan _ _ _ _ _ _ _ _ (c .before .before .before .before .before .if1 .left)
+returns-3 c = answer-plan _ _ _ _ _ _ _ _ _ (c .before .before .before .before .before .if1 .left)
     (c .before .before .before .before .if2 .left) (c .before .before .put-plan-lines .ensures)
 
 pub put-answer-spec : {M : Type 1} → statement M

@@ -42,7 +42,7 @@ signal-end-requires c κs = let b = place-within (c .before .before .before .bef
     (c .before .before .before .before .before .before .loop-test .taken)
     (c .before .before .before .before .before .blocks-end .ensures) in (omega (arith,
     c .before .before .before .before .before .before .before .loop .inv .at), omega (arith,
-    c .before .before .before .before .before .before .before .loop .inv .nearData, x), b .fragments, b .signal)
+    c .before .before .before .before .before .before .before .loop .inv .nearData, x), b .signal)
 
 add-q : tie.Need-add-q Inv-loop μ-loop
 add-q c = search needs
