@@ -93,6 +93,8 @@ static int run_one(const struct options *o, const char *recording, struct sink *
         exit(in_child(o, recording, sink, parent));
     int status = wait_for(child, recording);
     pass_signals_to(0);
+    if (status == STATUS_FAILED || status == STATUS_STANDING)
+        add_failure(sink, recording, status);
     return status;
 }
 
@@ -105,9 +107,11 @@ int run_batch(const struct options *o, struct sink *sink)
     for (int i = 0; i < o->count; i++) {
         if (progress)
             (void)say("%d of %d: %s", i + 1, o->count, o->recordings[i]);
+        set_standing(STATUS_FAILED, "%d of %d recordings were tried", i + 1, o->count);
         status = worse(status, run_one(o, o->recordings[i], sink));
         if (signal_passed())
             raise(signal_passed());
     }
+    set_standing(worse(status, STATUS_STANDING), "the recordings were all tried");
     return status;
 }

@@ -106,11 +106,11 @@ struct sitaungo_outcome measure(const struct recording *r, const struct lent *l)
 static void take_omissions(const char *listing)
 {
     const char *at = strstr(listing, "omitted ");
-    omissions[0] = at ? strtoull(at + strlen("omitted "), NULL, 10) : 0;
-    for (uint64_t k = 0; k < omissions[0]; k++) {
+    uint64_t count = at ? strtoull(at + strlen("omitted "), NULL, 10) : 0;
+    omissions[0] = count <= (SITAUNGO_LIST_WORDS - 1) / 2 ? count : 0;
+    for (uint64_t k = 0; k < omissions[0] && (at = strchr(at, '\n')); k++) {
         char *blank;
-        at = strchr(at, '\n') + 1;
-        omissions[1 + k] = strtoull(at, &blank, 10);
+        omissions[1 + k] = strtoull(++at, &blank, 10);
         omissions[1 + omissions[0] + k] = strtoull(blank, NULL, 10);
     }
 }

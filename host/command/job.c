@@ -74,13 +74,12 @@ static int incomplete(struct job *j)
     return finish(j, "incomplete", STATUS_INCOMPLETE);
 }
 
-static int different(struct job *j, const char *path)
+static void say_difference(const struct job *j, const char *path)
 {
     const struct difference *d = &j->done.difference;
     check_unchanged(&j->recording);
     (void)say("%s is not the conversion of %s: it has %" PRIu64 " bytes of %" PRIu64 ", and first differs at %" PRIu64 ", %s", path,
         j->recording.path, d->bytes, j->size, d->at, d->place);
-    return finish(j, "different", STATUS_DIFFERENT);
 }
 
 /* ---- parts of it */
@@ -133,53 +132,6 @@ static bool holds(struct job *j, int descriptor, const char *path)
     return !j->done.difference.found;
 }
 
-/* ---- holding RESULT to its recording */
-
-/* Time and version that stand in RESULT; without them any other will show the difference. */
-static struct lent lent_of(const struct job *j, int descriptor, uint64_t length)
-{
-    char version[VERSION_KEPT];
-    uint64_t time = 0;
-    void *bytes = length == 0 ? MAP_FAILED : mmap(NULL, (size_t)length, PROT_READ, MAP_SHARED, descriptor, 0);
-    if (bytes == MAP_FAILED)
-        return lend(j->o->block_size, SITAUNGO_VERSION, 0);
-    watch_mapping(MAPPED_RESULT, bytes, (size_t)length, "%s can't be read to its end: it was cut off meanwhile, or its disk failed", j->result.path);
-    if (!read_lent(bytes, (size_t)length, version, &time))
-        strcpy(version, SITAUNGO_VERSION);
-    forget_mapping(MAPPED_RESULT);
-    munmap(bytes, (size_t)length); /* pages that are mapped would stay in the cache */
-    return lend(j->o->block_size, version, time);
-}
-
-static void check_result_unchanged(const struct job *j, int descriptor, const struct stat *before)
-{
-    struct stat now;
-    if (fstat(descriptor, &now) != 0 || !same_state(&now, before))
-        fail("%s was changed while it was read", j->result.path);
-}
-
-static int check_result(struct job *j)
-{
-    struct stat found;
-    int file = openat(j->result.folder, j->result.name, O_RDONLY | O_NOFOLLOW | O_NONBLOCK | O_CLOEXEC);
-    if (file < 0 || fstat(file, &found) != 0)
-        fail("can't open %s: %s", j->result.path, strerror(errno));
-    j->lent = lent_of(j, file, (uint64_t)found.st_size);
-    int status = plan(j);
-    if (status != STATUS_DONE)
-        return status;
-    bool same = holds(j, file, j->result.path);
-    check_result_unchanged(j, file, &found);
-    close(file);
-    if (!same)
-        return different(j, j->result.path);
-    check_unchanged(&j->recording);
-    say_what_is_left_out(j);
-    if (!sync_folder(&j->result))
-        fail("can't sync the folder %s: %s", j->result.folder_path, strerror(errno));
-    return finish(j, j->o->check ? "same" : "done already", STATUS_DONE);
-}
-
 /* ---- converting */
 
 /* The temporary file has the result, synced. */
@@ -221,6 +173,10 @@ static void give_result(struct job *j)
 
 static int convert_recording(struct job *j)
 {
+    j->result.replaces = j->o->force;
+    set_standing(STATUS_FAILED, "there is no new result %s", j->result.path);
+    check_target(&j->result);
+    remove_leftovers(&j->result);
     j->lent = lend(j->o->block_size, SITAUNGO_VERSION, present_time());
     j->done = (struct done){.recording = &j->recording, .result = j->result.path, .lent = &j->lent};
     int status = plan(j);
@@ -229,12 +185,63 @@ static int convert_recording(struct job *j)
     write_result(j);
     if (j->o->verify && !holds(j, j->result.descriptor, temporary_place(&j->result))) {
         drop_temporary(&j->result);
-        return different(j, "what was stored");
+        say_difference(j, "what was stored");
+        return finish(j, "different", STATUS_DIFFERENT);
     }
     if (j->o->digest && !j->o->verify)
         read_back(&(struct reading){j->result.descriptor, j->result.path, true}, (struct image){0}, &j->done);
     give_result(j);
     return finish(j, "converted", STATUS_DONE);
+}
+
+/* ---- holding RESULT to its recording */
+
+/* Time and version that stand in RESULT; without them any other will show the difference. */
+static struct lent lent_of(const struct job *j, int descriptor, uint64_t length)
+{
+    char version[VERSION_KEPT];
+    uint64_t time = 0;
+    void *bytes = length == 0 ? MAP_FAILED : mmap(NULL, (size_t)length, PROT_READ, MAP_SHARED, descriptor, 0);
+    if (bytes == MAP_FAILED)
+        return lend(j->o->block_size, SITAUNGO_VERSION, 0);
+    watch_mapping(MAPPED_RESULT, bytes, (size_t)length, "%s can't be read to its end: it was cut off meanwhile, or its disk failed", j->result.path);
+    if (!read_lent(bytes, (size_t)length, version, &time))
+        strcpy(version, SITAUNGO_VERSION);
+    forget_mapping(MAPPED_RESULT);
+    munmap(bytes, (size_t)length); /* pages that are mapped would stay in the cache */
+    return lend(j->o->block_size, version, time);
+}
+
+static void check_result_unchanged(const struct job *j, int descriptor, const struct stat *before)
+{
+    struct stat now;
+    if (fstat(descriptor, &now) != 0 || !same_state(&now, before))
+        fail("%s was changed while it was read", j->result.path);
+}
+
+/* RESULT that is another is made anew with --force, and a status without. */
+static int check_result(struct job *j)
+{
+    struct stat found;
+    int file = openat(j->result.folder, j->result.name, O_RDONLY | O_NOFOLLOW | O_NONBLOCK | O_CLOEXEC);
+    if (file < 0 || fstat(file, &found) != 0)
+        fail("can't open %s: %s", j->result.path, strerror(errno));
+    j->lent = lent_of(j, file, (uint64_t)found.st_size);
+    int status = plan(j);
+    if (status != STATUS_DONE)
+        return status;
+    bool same = holds(j, file, j->result.path);
+    check_result_unchanged(j, file, &found);
+    close(file);
+    if (!same) {
+        say_difference(j, j->result.path);
+        return j->o->force ? convert_recording(j) : finish(j, "different", STATUS_DIFFERENT);
+    }
+    check_unchanged(&j->recording);
+    say_what_is_left_out(j);
+    if (!sync_folder(&j->result))
+        fail("can't sync the folder %s: %s", j->result.folder_path, strerror(errno));
+    return finish(j, j->o->check ? "same" : "done already", STATUS_DONE);
 }
 
 int run_job(const struct options *o, const char *recording, const char *result, struct sink *sink)
@@ -246,14 +253,5 @@ int run_job(const struct options *o, const char *recording, const char *result, 
     if (sink->wanted && !sink->standard_output && same_target(&sink->file, &j->result))
         fail("%s is both result and report", result);
     j->done = (struct done){.recording = &j->recording, .result = result, .lent = &j->lent};
-    if (o->check || (o->resume && j->result.exists)) {
-        int status = check_result(j);
-        if (status != STATUS_DIFFERENT || !o->force)
-            return status;
-    }
-    j->result.replaces = o->force;
-    set_standing(STATUS_FAILED, "there is no new result %s", result);
-    check_target(&j->result);
-    remove_leftovers(&j->result);
-    return convert_recording(j);
+    return o->check || (o->resume && j->result.exists) ? check_result(j) : convert_recording(j);
 }

@@ -14,7 +14,9 @@
 #include "recording.h"
 #include "signals.h"
 
-static struct sink sink; /* static, since signal handlers look at its target */
+/* Static, since signal handlers look at the sink's target. */
+static struct options o;
+static struct sink sink;
 
 /* A descriptor 0, 1 or 2 that is closed would become that of a file opened later, and messages would go there. */
 static void hold_standard_descriptors(void)
@@ -28,23 +30,23 @@ static void hold_standard_descriptors(void)
 }
 
 /* A report never takes the place of a recording, by whatever name. */
-static void check_report(const struct options *o)
+static void check_report(void)
 {
     struct stat found;
-    for (int i = 0; sink.file.exists && i < o->count; i++)
-        if (stat(o->recordings[i], &found) == 0 && same_file(&found, &sink.file.old))
-            fail("%s is the recording itself; the report needs another name", o->json);
+    for (int i = 0; sink.file.exists && i < o.count; i++)
+        if (stat(o.recordings[i], &found) == 0 && same_file(&found, &sink.file.old))
+            fail("%s is the recording itself; the report needs another name", o.json);
 }
 
 int main(int count, char **words)
 {
     hold_standard_descriptors();
     catch_signals();
-    struct options o = parse(count, words);
+    o = parse(count, words);
     if (o.quiet)
         keep_quiet();
     open_sink(&sink, o.json, o.force);
-    check_report(&o);
+    check_report();
     int status = o.folder ? run_batch(&o, &sink) : run_job(&o, o.recordings[0], o.result, &sink);
     close_sink(&sink);
     return status;

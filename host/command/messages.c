@@ -2,6 +2,7 @@
 #include "messages.h"
 
 #include <errno.h>
+#include <poll.h>
 #include <stdarg.h>
 #include <stdio.h>
 #include <stdlib.h>
@@ -68,7 +69,9 @@ bool write_all(int descriptor, const void *bytes, size_t length)
     const char *at = bytes;
     while (length > 0) {
         ssize_t n = write(descriptor, at, length);
-        if (n < 0 && errno != EINTR)
+        if (n < 0 && errno == EAGAIN)
+            (void)poll(&(struct pollfd){.fd = descriptor, .events = POLLOUT}, 1, -1); /* a pipe or terminal that another made non-blocking */
+        else if (n < 0 && errno != EINTR)
             return false;
         if (n > 0) {
             at += n;

@@ -213,6 +213,13 @@ void open_sink(struct sink *s, const char *path, bool force)
     make_temporary(&s->file, 0);
 }
 
+static void write_report(struct sink *s, char *text, size_t length)
+{
+    if (!write_all(s->standard_output ? STDOUT_FILENO : s->file.descriptor, text, length))
+        fail("the report can't be written to %s: %s", s->standard_output ? "standard output" : s->file.path, strerror(errno));
+    free(text);
+}
+
 void add_report(struct sink *s, const struct done *d)
 {
     char *text;
@@ -222,9 +229,23 @@ void add_report(struct sink *s, const struct done *d)
     FILE *to = begin(&text, &length);
     put_report(to, d);
     end(to);
-    if (!write_all(s->standard_output ? STDOUT_FILENO : s->file.descriptor, text, length))
-        fail("the report can't be written to %s: %s", s->standard_output ? "standard output" : s->file.path, strerror(errno));
-    free(text);
+    write_report(s, text, length);
+}
+
+void add_failure(struct sink *s, const char *recording, int status)
+{
+    char *text;
+    size_t length;
+    if (!s->wanted)
+        return;
+    FILE *to = begin(&text, &length);
+    fputs(FRONT SITAUNGO_VERSION "\"", to);
+    json_text(to, "outcome", "failed");
+    json_number(to, "status", (uint64_t)status);
+    json_text(to, "recording", recording);
+    fputs("}\n", to);
+    end(to);
+    write_report(s, text, length);
 }
 
 void close_sink(struct sink *s)

@@ -51,6 +51,9 @@ void open_sink(struct sink *s, const char *path, bool force);
 /* Adds a line to it. */
 void add_report(struct sink *s, const struct done *d);
 
+/* The same for one of several recordings of which no more is known than its status. */
+void add_failure(struct sink *s, const char *recording, int status);
+
 /* Syncs the file and gives it its name; fails where that can't be done. */
 void close_sink(struct sink *s);
 

@@ -175,9 +175,10 @@ static bool create_unnamed(struct target *t)
 static void create_named(struct target *t)
 {
     sigset_t before;
+    mode_t mode = t->exists ? 0600 : 0666; /* what it replaces may be closed to others */
     hold_signals(&before);
     for (int attempt = 0; t->descriptor < 0 && attempt < ATTEMPTS && choose_name(t); attempt++) {
-        t->descriptor = openat(t->folder, t->temporary, O_RDWR | O_CREAT | O_EXCL | O_NOFOLLOW | O_CLOEXEC, 0666);
+        t->descriptor = openat(t->folder, t->temporary, O_RDWR | O_CREAT | O_EXCL | O_NOFOLLOW | O_CLOEXEC, mode);
         if (t->descriptor < 0 && errno != EEXIST)
             break;
     }

@@ -65,6 +65,41 @@ def full_disk_ext4():
         fill_up(here)
 
 
+def converts_there(here):
+    """Over nothing and over an old result, verified, with a report; nothing else is left."""
+    result = os.path.join(here, "r.mf4")
+    before = os.listdir(here)
+    for force in ((), ("--force",)):
+        converts(run(SAMPLE, result, "--verify", "--json", os.path.join(here, "r.json"), *force))
+        expect(without_time(read(result)) == SMALL.result, "another result")
+        converts(run("--check", SAMPLE, result))
+    holds(here, "r.mf4", "r.json", *before)
+
+
+@test
+def other_file_systems():
+    """tmpfs, overlay and those that mkfs can make here."""
+    tried = ["tmpfs", "overlay"]
+    with mounted("-t", "tmpfs", "tmpfs") as here:
+        for name in ("lower", "upper", "work", "tmpfs"):
+            os.mkdir(os.path.join(here, name))
+        converts_there(os.path.join(here, "tmpfs"))
+        parts = "lowerdir=%s/lower,upperdir=%s/upper,workdir=%s/work" % (here, here, here)
+        with mounted("-t", "overlay", "-o", parts, "overlay") as above:
+            converts_there(above)
+    for kind in ("ext2", "ext3", "ext4", "xfs", "btrfs", "vfat"):
+        image = place(kind + ".img")
+        with open(image, "wb") as f:
+            f.truncate(320 << 20)
+        if shutil.which("mkfs." + kind):
+            subprocess.run(["mkfs." + kind, image], check=True, stdout=subprocess.DEVNULL, stderr=subprocess.DEVNULL)
+            with contextlib.suppress(NotTried), mounted("-o", "loop", image) as here:
+                converts_there(here)
+                tried.append(kind)
+        os.remove(image)
+    return ", ".join(tried)
+
+
 @contextlib.contextmanager
 def memory_limit(bytes_):
     """Two functions: one for preexec_fn that limits the process, one that tells the most it had, of its mapped files too."""
