@@ -318,23 +318,28 @@ module _ (s : List ℕ) (d : ℕ) (fs : List Fragment) where
   groups-many gs w h k e = rw (groups-several gs h k) e
 
 -- ---- what passed the checks
-pub record Passed (s : List ℕ) (d : ℕ) (fs : List Fragment) : Type 0 where
+pub record Passed (s : List ℕ) (d : ℕ) (gs : List ℕ) (fs : List Fragment) : Type 0 where
+  pub apart : equalIds s gs ≡ false
   pub id : 0 < idSize s d
   pub ranges : rangesIn s fs ≡ fine
   pub size : sizeOf fs ≤ most64
+
+no-refusal : (b : Bool) (d : ℕ) → pick b (refused 14 d) fine ≡ fine → b ≡ false
+no-refusal true d e = absurd (refused≢ok e)
+no-refusal false d e = refl
 
 some-id : (n d : ℕ) → ifEq n 0 (refused 14 d) fine ≡ fine → 0 < n
 some-id n d e = ⊎-elim (λ q. absurd (refused≢ok (eq-yes _ _ _ _ q refl ∙ e))) (λ q. omega arith) (eq-or-ne n 0)
 
 module _ (s : List ℕ) (d : ℕ) (gs : List ℕ) (fs : List Fragment) where
-  pub several-passed : severalIn s d gs fs ≡ fine → Passed s d fs
+  pub several-passed : severalIn s d gs fs ≡ fine → Passed s d gs fs
   unfolding severalIn sizeIn
   several-passed e =
       let a = then-fine (pick (equalIds s gs) (refused 14 d) fine) _ e in
       let b = then-fine (ifEq (idSize s d) 0 (refused 14 d) fine) _ (a .1) in
       let c = then-fine (pick (anyDV fs) (refused 14 d) fine) _ (b .1) in
       let r = then-fine (rangesIn s fs) _ (c .1) in
-      record { id = some-id (idSize s d) d (b .0); ranges = r .0; size = lt-back _ _ _ _ (r .1) refused≢ok .0 }
+      record { apart = no-refusal (equalIds s gs) d (a .0); id = some-id (idSize s d) d (b .0); ranges = r .0; size = lt-back _ _ _ _ (r .1) refused≢ok .0 }
 
   pub several-refused : (w : List ℕ) {n p : ℕ} {v : List ℕ} → severalIn s d gs fs ≡ refused n p → v ≡ blit 0 (replicate (length gs) 0) w
       → laid (refused n p) v ≡ laidCounts (tallied (length gs) (unsortedFrames s d gs fs)) (length gs) w

@@ -9,9 +9,12 @@ use crate::group::id_size;
 use crate::group::record_id;
 use crate::sorted::Counted;
 use crate::sorted::count_one;
+use crate::table::fill_hints;
+use crate::table::fill_tables;
 use fields::Check;
 ghost use mathlib.Core.Path.{_≡_};
 ghost use mathlib.Core.List.{[], _∷_};
+ghost use mathlib.Core.Bool.{false};
 ghost use Prim.Native.Nat.{_+_, _<_, _≤_};
 ghost use lib.ListN.{length, getD, set, drop, replicate};
 ghost use Rattle.base.specs.Blit.{blit};
@@ -139,7 +142,7 @@ fn count_frames(
     counts: &mut [u64],
 ) -> Check
     requires { ⌜ (0 < n) × (rangesIn (now image) (fragmentsOf (now fragments)) ≡ fine)
-        × (sizeOf (fragmentsOf (now fragments)) ≤ most64) ⌝ }
+        × (sizeOf (fragmentsOf (now fragments)) ≤ most64) × (equalIds (now image) (now groups) ≡ false) ⌝ }
     ensures { λ r. ⌜ laid (verdictOf r) (now (counts .exit))
         ≡ laidCounts (tallied (length (now (groups .entry)))
         (frames (now (image .entry)) n (now (groups .entry)) (fragmentsOf (now (fragments .entry)))))
@@ -147,10 +150,16 @@ fn count_frames(
 {
     let k = groups.len() as u64;
     let words = fragments.len() as u64;
+    let mut ids = [0u64; 512];
+    let mut sizes = [0u64; 512];
+    let mut hints = [0u64; 1536];
+    fill_tables(image, groups, &mut ids, &mut sizes);
+    fill_hints(&ids, k, &mut hints);
     clear(counts, k);
     let mut f = Framing { at: 0 };
     let mut position: u64 = 0;
     let mut left: u64 = 0;
+    let mut last: u64 = 0;
     let answer = 'records: loop {
         if inside(image, position, left) == 0 {
             let at = f.at;
@@ -164,7 +173,18 @@ fn count_frames(
             left = word_at(fragments, at + 1);
             f = Framing { at: at + 3 };
         } else {
-            let step = f.step(image, n, groups, fragments, position, left);
+            let step = f.step_by(
+                image,
+                n,
+                groups,
+                fragments,
+                &ids,
+                &sizes,
+                &mut hints,
+                last,
+                position,
+                left,
+            );
             match step {
                 Step::Broken => {
                     clear(counts, k);
@@ -184,6 +204,7 @@ fn count_frames(
                     f = next;
                     position = p;
                     left = l;
+                    last = group;
                 }
             }
         }

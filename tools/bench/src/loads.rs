@@ -88,17 +88,30 @@ fn fill(bytes: &mut [u8], state: &mut u64) {
     }
 }
 
+// How the records of a DG with several groups follow each other: how many bytes an id has, and the groups in turn.
+pub struct Order {
+    pub id_size: usize,
+    pub turn: Vec<usize>,
+}
+
 // One DG with these groups, records of each in turn, in DT blocks of at most `piece` bytes that a DL lists.
 pub fn recording(groups: &[Group], cycles: u64, piece: usize) -> Vec<u8> {
+    let id_size = (groups.len() > 1) as usize;
+    mixed(groups, &Order { id_size, turn: (0..groups.len()).collect() }, cycles, piece)
+}
+
+// The same with records in that order, so many times.
+pub fn mixed(groups: &[Group], order: &Order, cycles: u64, piece: usize) -> Vec<u8> {
     let mut image = Image(vec![0; 64]);
     image.0[..16].copy_from_slice(b"MDF     4.10    ");
-    let id_size = (groups.len() > 1) as usize;
+    let id_size = order.id_size;
     let hd = image.put(b"HD", vec![0; 6], vec![0; 32]);
     let dg = image.put(b"DG", vec![0; 4], vec![id_size as u8, 0, 0, 0, 0, 0, 0, 0]);
     image.link(hd, 0, dg);
     let mut last_group = 0;
-    for g in groups {
-        let cg = image.put(b"CG", vec![0; 6], group_data(g, cycles));
+    for (k, g) in groups.iter().enumerate() {
+        let own = order.turn.iter().filter(|&&j| j == k).count() as u64;
+        let cg = image.put(b"CG", vec![0; 6], group_data(g, cycles * own));
         if last_group == 0 { image.link(dg, 1, cg) } else { image.link(last_group, 0, cg) }
         last_group = cg;
         let mut last = 0;
@@ -109,10 +122,11 @@ pub fn recording(groups: &[Group], cycles: u64, piece: usize) -> Vec<u8> {
             last = cn;
         }
     }
-    let mut rows = Vec::with_capacity((cycles as usize) * groups.iter().map(|g| g.record() + id_size).sum::<usize>());
+    let mut rows = Vec::with_capacity((cycles as usize) * order.turn.iter().map(|&k| groups[k].record() + id_size).sum::<usize>());
     let mut state = 7;
     for _ in 0..cycles {
-        for g in groups {
+        for &k in &order.turn {
+            let g = &groups[k];
             rows.extend(&g.id.to_le_bytes()[..id_size]);
             let at = rows.len();
             rows.resize(at + g.record(), 0);
@@ -127,6 +141,22 @@ pub fn recording(groups: &[Group], cycles: u64, piece: usize) -> Vec<u8> {
         image.link(dl, i as u64 + 1, dt);
     }
     image.0
+}
+
+// Groups of a bus logger, with one channel of so many bits each.
+pub fn bus(count: u64, bits: u32, step: u64) -> Vec<Group> {
+    (1..=count).map(|i| Group { channels: 1, bits, inval: false, id: i * step }).collect()
+}
+
+// A million records or so of groups in an order that looks random.
+pub fn shuffled(groups: usize, records: usize) -> Vec<usize> {
+    let mut state = 11u64;
+    (0..records)
+        .map(|_| {
+            state = state.wrapping_mul(6364136223846793005).wrapping_add(1442695040888963407);
+            ((state >> 33) as usize) % groups
+        })
+        .collect()
 }
 
 // One channel of one record whose conversion is a block with this many links, all to blocks that are copied: first to 2,000 of them, then to

@@ -1,6 +1,6 @@
 //! bench TURNS [LOAD]: times the port, the Rust converter and a plain copy on the rack's loads, each also at twice the length.
 mod loads;
-use loads::{many_links, recording, Group};
+use loads::{bus, many_links, mixed, recording, shuffled, Group, Order};
 use mf4_rs::column::{to_column_oriented_bytes, to_column_oriented_with, ColumnOptions, ColumnSink};
 use mf4_rs::error::MdfError;
 use mf4_rs::index::ByteRangeReader;
@@ -98,6 +98,7 @@ fn times(turns: usize, mut f: impl FnMut()) -> (f64, f64) {
 }
 
 struct Timed {
+    decided: (f64, f64),
     port: (f64, f64),
     rust: (f64, f64),
     copy: (f64, f64),
@@ -115,10 +116,11 @@ fn time(image: &[u8], turns: usize) -> Timed {
     let mut copied = vec![1u8; image.len()];
     assert!(port(image, &lent, &mut work, &mut ours, &mut list).accepted);
     assert!(ours == theirs, "other bytes");
+    let decided = times(turns, || assert_eq!(port(image, &lent, &mut work, &mut [], &mut list).number, 20));
     let port = times(turns, || assert!(port(image, &lent, &mut work, &mut ours, &mut list).accepted));
     let rust = times(turns, || assert!(to_column_oriented_with(&mut Slice(image), &mut Output(&mut theirs), &options()).is_ok()));
     let copy = times(turns, || copied.copy_from_slice(std::hint::black_box(image)));
-    Timed { port, rust, copy }
+    Timed { decided, port, rust, copy }
 }
 
 // A line of the table; the ratio of the port's time to that at half the length, where there is one.
@@ -130,6 +132,38 @@ fn line(name: &str, seconds: &str, image: &[u8], turns: usize, before: Option<f6
         image.len() / 1_000_000, t.port.0, t.port.1, t.rust.0, t.rust.1, t.copy.0, t.copy.1, t.port.0 / t.rust.0
     );
     t.port.0
+}
+
+// A line of the second table: what comes before the output too, of which counting is nearly all.
+fn framed_line(name: &str, image: &[u8], turns: usize) {
+    let t = time(image, turns);
+    println!(
+        "| {name} | {} | {:.1} | {:.1} | {:.1} | {:.1} | {:.1} | {:.2} |",
+        image.len() / 1_000_000, t.decided.0, t.port.0, t.port.1, t.rust.0, t.rust.1, t.port.0 / t.rust.0
+    );
+}
+
+// A DG of many groups with short records, as a bus logger's.
+fn framed() -> Vec<(&'static str, Vec<u8>)> {
+    let turns = |n: usize| (0..n).collect::<Vec<usize>>();
+    let rates = || (0..40).flat_map(|k| vec![k; if k == 0 { 2500 } else { 1 }]).collect::<Vec<usize>>();
+    let no_bytes = || {
+        let mut groups = bus(512, 32, 1);
+        for g in groups.iter_mut() {
+            g.channels = 0;
+        }
+        mixed(&groups, &Order { id_size: 2, turn: vec![511; 1000] }, 1000, 4 << 20)
+    };
+    vec![
+        ("2 groups of 1 byte over 1,000 DT", mixed(&bus(2, 8, 1), &Order { id_size: 1, turn: turns(2) }, 500_000, 2000)),
+        ("10 groups, 1 million records of 18 bytes", mixed(&bus(10, 128, 1), &Order { id_size: 2, turn: turns(10) }, 100_000, 4 << 20)),
+        ("50 groups, 1 million records of 18 bytes", mixed(&bus(50, 128, 1), &Order { id_size: 2, turn: turns(50) }, 20_000, 4 << 20)),
+        ("250 groups, 1 million records of 18 bytes", mixed(&bus(250, 128, 1), &Order { id_size: 2, turn: turns(250) }, 4_000, 4 << 20)),
+        ("250 groups in random order, 1 million records of 18 bytes", mixed(&bus(250, 128, 1), &Order { id_size: 2, turn: shuffled(250, 1_000_000) }, 1, 4 << 20)),
+        ("40 groups, ids of 8 bytes, rates 2,500 : 1", mixed(&bus(40, 64, 0x0123_4567_89ab), &Order { id_size: 8, turn: rates() }, 400, 4 << 20)),
+        ("512 groups, 1 million records of 3 bytes", mixed(&bus(512, 8, 1), &Order { id_size: 2, turn: turns(512) }, 2_000, 4 << 20)),
+        ("1 million records without bytes of the last of 512 groups", no_bytes()),
+    ]
 }
 
 fn main() {
@@ -153,5 +187,11 @@ fn main() {
     if name.contains(&only) {
         let once = line(name, "", &many_links(1 << 19), turns, None);
         line(name, "", &many_links(1 << 20), turns, Some(once));
+    }
+    println!();
+    println!("| load | MB | port before output | port best | median | Rust best | median | port / Rust |");
+    println!("|---|---|---|---|---|---|---|---|");
+    for (name, image) in framed().iter().filter(|l| l.0.contains(&only)) {
+        framed_line(name, image, turns);
     }
 }

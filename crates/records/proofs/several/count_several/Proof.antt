@@ -28,7 +28,7 @@ count-frames-requires c κs =
     (c .before .before .before .before .before .before .before .before .before .args .groups .now) _
     (so-fine (c .before .before .before .before .several-in .ensures) (c .before .before .enum-told .given .1)) in let e =
         c .before
-    .id-size .ensures .is in (omega arith, h .ranges, h .size)
+    .id-size .ensures .is in (omega arith, h .ranges, h .size, h .apart)
 
 same-length : tie.Need-same-length
 same-length c = search needs
