@@ -1,14 +1,13 @@
 -- Document 02, request 1, at small files: which have the form, which faults come first, and the borders of 22, 23 and 24.
-use Prim.Native.Nat.{ℕ, _^_}
+use Prim.Native.Nat.{ℕ}
 use mathlib.Core.List.{List, [], _∷_, _++_}
 use mathlib.Core.Path.{_≡_, refl}
-use lib.ListN.{replicate, length}
+use lib.ListN.{replicate}
 use Rattle.base.specs.Checked.{ok, refused, fine}
 use Rattle.mdf.specs.Block.{kindDT, kindHL}
 use Rattle.file.specs.Opened.{opened}
 use Rattle.file.specs.Range.{ranged, intoBuffer, readInto, located, at, split}
 use Rattle.base.specs.Blit as baseBlit
-use Rattle.base.specs.Checked as baseChecked
 use Rattle.base.specs.Choice as baseChoice
 use Rattle.base.specs.Field as baseField
 use Rattle.mdf.specs.Block as mdfBlock

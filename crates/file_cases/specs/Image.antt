@@ -5,7 +5,6 @@ use lib.ListN.{length, replicate}
 use Rattle.base.specs.Field.{le}
 use Rattle.base.specs.Checked.{Checked, ok, refused}
 use Rattle.mdf.specs.Block.{kindHD, kindDG, kindCG, kindCN, kindDL, kindDT, kindDV}
-use Rattle.mdf.specs.Chain.{Fragment}
 use Rattle.file.specs.Form.{FileColumn}
 
 -- `MDF`, five blanks, `4.20`, four blanks

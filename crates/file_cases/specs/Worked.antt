@@ -1,8 +1,8 @@
 -- Document 01's example file, read: its 1288 bytes are those that the definitions give for the worked example.
 use Prim.Native.Nat.{ℕ}
-use mathlib.Core.List.{List, [], _∷_, _++_}
+use mathlib.Core.List.{List, [], _∷_}
 use mathlib.Core.Path.{_≡_, refl}
-use lib.ListN.{length, set}
+use lib.ListN.{length}
 use Rattle.base.specs.Checked.{ok, refused}
 use Rattle.file.specs.Opened.{opened}
 use Rattle.file.specs.Range.{ranged, intoBuffer, located, at, split}
@@ -31,7 +31,7 @@ use Rattle.result.specs.Fill as resultFill
 use Rattle.result.specs.Listing as resultListing
 use Rattle.result.specs.Payload as resultPayload
 use Rattle.result.specs.Result as resultResult
-use Rattle.cases.specs.Starred.{image, args}
+use Rattle.cases.specs.Starred.{args}
 use Rattle.file_cases.specs.Image.{outline}
 
 abbrev fileIn : resultResult.Args → baseChecked.Checked resultResult.Decided → List ℕ

@@ -1,12 +1,12 @@
 -- A column of a result has the form: its DL, its blocks, as many records as its CG's cycle count says.
-use Prim.Native.Nat.{ℕ, zero, suc, _+_, _*_, _-_, _%_, _^_, _≤_, _<_}
+use Prim.Native.Nat.{ℕ, zero, suc, _+_, _*_, _-_, _%_, _^_, _<_}
 use mathlib.Core.List.{List, [], _∷_, _++_, flatten}
 use mathlib.Core.Bool.{Bool, true, false}
-use mathlib.Core.Option.{Option, none, some}
+use mathlib.Core.Option.{some}
 use mathlib.Core.Path.{_≡_, refl, sym, ap, _∙_}
 use native.Mathlib.Nat.{mul-comm}
 use native.Mathlib.Omega.{arith}
-use lib.Dec.{eqb, lit<}
+use lib.Dec.{eqb}
 use borrow.Author.Tests.{eq-eqb, eqb-true, eqb-false}
 use lib.ListN.{length, getD, length-append}
 use Rattle.base.specs.Choice.{pick, ifEq}
@@ -15,25 +15,24 @@ use Rattle.base.specs.Checked.{fine}
 use Rattle.base.specs.Field.{leAt, le}
 use Rattle.base.specs.FieldLaws.{length-le}
 use Rattle.mdf.specs.Block.{linksAt, linkAt, dataAt}
-use Rattle.mdf.specs.Chain.{Kind, dt, dv, Fragment}
+use Rattle.mdf.specs.Chain.{Kind, dt, dv}
 use Rattle.mdf.specs.Group.{samples, invalBytes}
-use Rattle.mdf.specs.Records.{rangesIn, joined, sizeOf}
+use Rattle.mdf.specs.Records.{rangesIn}
 use Rattle.plan.specs.Channel.{keepsInval, channelBytes, width}
 use Rattle.plan.specs.Columns.{Column}
 use Rattle.plan.specs.Copies.{Copy}
 use Rattle.plan.specs.Layout.{Placed, cgOf, cnOf, dlOf, columnWidth, columnBlocks, payloadSize}
 use Rattle.result.specs.Payload.{columnPayloads}
-use Rattle.result.specs.Fill.{Block, block, framed, payloadBlocks, blockLinks, columnPayload, dataKind, dgBytes, cgBytes, dlBlocks}
+use Rattle.result.specs.Fill.{Block, framed, payloadBlocks, blockLinks, columnPayload, dgBytes, cgBytes, dlBlocks}
 use Rattle.result.specs.Links.{GroupFields, groupFields}
 use Rattle.result.specs.Due.{duePayload, dueKind, evenBlocks, blocksDue, equalDue, fragmentsDue, keptByte, groupDue}
 use Rattle.result.specs.Guarantee.{Stands, In, here, there}
 use Rattle.payload_laws.specs.PayloadLaws.{length-framed}
 use Rattle.shown_laws.specs.Standing.{stands-front, stands-at, read}
 use Rattle.shown_laws.specs.Joined.{EqualBut, framedFragment, fragmentsOf, stands-inside, dl-kind, dl-size, dl-links, dl-next, dl-listed, dl-flags, dl-equal}
-use Rattle.shown_laws.specs.ColumnShown.{ColumnSound, length-column-payloads, dlLink, blocksAt, due-fragments, dl-there, column-chain, column-joined, dg-ids, dg-dl, group-shown}
+use Rattle.shown_laws.specs.ColumnShown.{ColumnSound, length-column-payloads, dlLink, blocksAt, due-fragments, dl-there, column-joined, dg-ids, dg-dl, group-shown}
 use Rattle.file.specs.Form.{FileColumn, cycles, recordBytes, noneZero, equalLength, haveLength, listFormed, allDT, allDV, oneKind, formed}
 use Rattle.file_laws.specs.JoinedLaws.{ranges-in, length-joined}
-use Rattle.file_laws.specs.OpenedLaws.{Formed}
 use Rattle.file_laws.specs.FormLaws.{none-next, IsList, list-formed, kind-dt, kind-dv, is-formed}
 
 -- the column that a placed one is in the file

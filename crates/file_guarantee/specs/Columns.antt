@@ -1,7 +1,7 @@
 -- The columns of a result stand in its file, in order: all that opening it rests on.
-use Prim.{Unit, tt}
-use Prim.Native.Nat.{ℕ, zero, suc, _+_, _*_, _-_, _^_, _≤_, _<_}
-use mathlib.Core.List.{List, [], _∷_, _++_}
+use Prim.{tt}
+use Prim.Native.Nat.{ℕ, suc, _+_, _*_, _^_, _≤_, _<_}
+use mathlib.Core.List.{List, [], _∷_}
 use mathlib.Core.Option.{Option, none, some}
 use mathlib.Core.Path.{_≡_, refl, sym, ap, _∙_}
 use native.Mathlib.Nat.{le-refl, suc-mul}
@@ -10,12 +10,11 @@ use lib.Dec.{lit<}
 use lib.ListN.{length, length-append}
 use Rattle.base.specs.Checked.{fine}
 use Rattle.mdf.specs.Block.{DG, CG, CN, linkAt, blockAt}
-use Rattle.mdf.specs.Chain.{fileLimits}
 use Rattle.mdf.specs.Name.{nameAt}
 use Rattle.mdf.specs.Records.{joined}
 use Rattle.plan.specs.Columns.{Column}
 use Rattle.plan.specs.Copies.{Copy}
-use Rattle.plan.specs.Layout.{Placed, cgOf, cnOf, dlOf, cgSize, structureSize, placedFrom, payloadSize, columnWidth, columnBlocks, blocksEnd, signalEnd}
+use Rattle.plan.specs.Layout.{Placed, cgOf, cnOf, cgSize, structureSize, placedFrom, payloadSize, columnWidth, columnBlocks, blocksEnd, signalEnd}
 use Rattle.result.specs.Fill.{Block, newLink, dgBytes, cgBytes, cnBytes, dlBlocks, structureBlocks, dataBlocks, nextDG}
 use Rattle.result.specs.Due.{duePayload, hasMaster, blocksDue, fragmentsDue}
 use Rattle.result.specs.Guarantee.{Stands, In, here, there}
@@ -25,7 +24,7 @@ use Rattle.shown_laws.specs.Shapes.{cgWords, cnLinks}
 use Rattle.shown_laws.specs.ColumnShown.{ColumnSound, blocksAt, column-chain, column-joined, dg-head, dg-next, dg-cg, dg-dl, cg-link, cg-head, cg-next, cg-cn, cn-link, cn-head, cn-next}
 use Rattle.shown_laws.specs.AllShown.{in-list, in-later, in-payload, in-data-later}
 use Rattle.file.specs.Form.{FileColumn, cycles, recordBytes}
-use Rattle.file_laws.specs.Standing.{ColumnStands, firstDG, AllStand, allFragments, FileStands}
+use Rattle.file_laws.specs.Standing.{ColumnStands, firstDG, AllStand, allFragments}
 use Rattle.file_guarantee.specs.Passed.{block-fine}
 use Rattle.file_guarantee.specs.ColumnForm.{fileColumn, length-even, same-blocks, due-ranges, due-cycles, due-width, due-formed}
 

@@ -1,21 +1,20 @@
 -- Blocks that stand in a file pass the checks of the walk, and an identification that was lent passes those of the identification.
 use Prim.{tt}
-use Prim.Native.Nat.{ℕ, zero, suc, _+_, _*_, _-_, _/_, _%_, _^_, _≤_, _<_}
-use mathlib.Core.List.{List, [], _∷_, _++_}
+use Prim.Native.Nat.{ℕ, zero, suc, _+_, _*_, _/_, _%_, _^_, _≤_, _<_}
+use mathlib.Core.List.{List, _∷_, _++_}
 use mathlib.Core.Bool.{Bool, true, false}
 use mathlib.Core.Path.{_≡_, refl, sym, ap, _∙_}
-use native.Mathlib.Nat.{pow-suc}
 use native.Mathlib.Omega.{arith}
 use native.Mathlib.Numerals.{add-one}
 use lib.Dec.{lit<, eqb}
-use lib.ListN.{length, getD, take, drop, length-append, length-take}
+use lib.ListN.{length, getD, drop, length-append, length-take}
 use lib.Seq.{drop-cons}
 use Rattle.base.specs.Choice.{pick, ifLt, ifLe, ifEq}
-use Rattle.base.specs.ChoiceLaws.{lt-yes, lt-no, le-yes, eq-yes, eq-no}
-use Rattle.base.specs.Checked.{Checked, ok, refused, andThen, Verdict, fine}
+use Rattle.base.specs.ChoiceLaws.{lt-no, le-yes, eq-yes}
+use Rattle.base.specs.Checked.{refused, fine}
 use Rattle.base.specs.Field.{leAt, le}
 use Rattle.base.specs.Blit.{part}
-use Rattle.mdf.specs.Block.{Wanted, kindAt, sizeAt, linksAt, headerIn, lengthIn, wholeAt, mostBytes, wantedAt, blockAt, kindTX, kindMD}
+use Rattle.mdf.specs.Block.{Wanted, kindAt, sizeAt, linksAt, headerIn, lengthIn, wholeAt, mostBytes, wantedAt, blockAt}
 use Rattle.mdf.specs.Name.{textIn, nameAt}
 use Rattle.mdf.specs.Identification as identification
 use Rattle.mdf.specs.Identification.{fileMark, identified, versionIn}

@@ -1,32 +1,30 @@
 -- From every accepted result the reader reads the records that the archive was promised.
-use Prim.{Unit, tt}
-use Prim.Native.Nat.{ℕ, zero, suc, _+_, _*_, _-_, _^_, _≤_, _<_}
-use mathlib.Core.List.{List, [], _∷_, _++_}
-use mathlib.Core.Bool.{Bool, true, false}
+use Prim.{tt}
+use Prim.Native.Nat.{ℕ, zero, suc, _+_, _*_, _≤_, _<_}
+use mathlib.Core.List.{List, [], _∷_}
+use mathlib.Core.Bool.{true}
 use mathlib.Core.Option.{Option, none, some}
 use mathlib.Core.Path.{_≡_, refl, sym, ap, subst, _∙_}
 use native.Mathlib.Nat.{one-mul}
 use native.Mathlib.Omega.{arith}
 use lib.Dec.{lit<}
 use lib.ListN.{length, getD}
-use Rattle.base.specs.Choice.{pick}
 use Rattle.base.specs.Blit.{blit, part}
-use Rattle.base.specs.Checked.{Checked, ok, refused, fine}
-use Rattle.mdf.specs.Block.{HD, kindHD, linkAt, blockAt}
-use Rattle.mdf.specs.Records.{joined}
+use Rattle.base.specs.Checked.{ok, refused}
+use Rattle.mdf.specs.Block.{HD}
 use Rattle.plan.specs.Channel.{width}
 use Rattle.plan.specs.Columns.{Column}
 use Rattle.plan.specs.Data.{isNonempty}
 use Rattle.plan.specs.Layout.{Layout, Placed, placedFrom, structurePlace, columnWidth, payloadSize}
-use Rattle.result.specs.Payload.{recordsOf, cell, cells, columnPayloads}
-use Rattle.result.specs.Fill.{Block, block, hdData, hdBytes, structureBlocks, dataBlocks, nextDG}
+use Rattle.result.specs.Payload.{recordsOf, cell}
+use Rattle.result.specs.Fill.{Block, structureBlocks, dataBlocks}
 use Rattle.result.specs.Due.{duePayload, FrontDue}
 use Rattle.result.specs.Result.{Args, Decided, memoOf, hdBlock, blocksOf, fileOf, answer}
 use Rattle.result.specs.Guarantee.{Stands, In, here, there, columnAt, columnsPlaced}
 use Rattle.copies_laws.specs.LengthLaws.{length-hd}
 use Rattle.copies_laws.specs.LayoutLaws.{columns-placed}
-use Rattle.payload_laws.specs.ColumnLaws.{Ready, column-joined, column-bytes}
-use Rattle.plan_laws.specs.Decision.{Steps, answer-accepted}
+use Rattle.payload_laws.specs.ColumnLaws.{column-joined, column-bytes}
+use Rattle.plan_laws.specs.Decision.{answer-accepted}
 use Rattle.plan_laws.specs.Known.{Known, answer-known}
 use Rattle.shown_laws.specs.Joined.{stands-inside}
 use Rattle.shown_laws.specs.AllShown.{in-hd, in-structure, in-data, hd-first}
@@ -34,8 +32,8 @@ use Rattle.shown_laws.specs.Final.{file-filled}
 use Rattle.guarantee.specs.Front.{front-due}
 use Rattle.guarantee.specs.Named.{new-small}
 use Rattle.guarantee.specs.Copied.{copy-stands}
-use Rattle.guarantee.specs.Theorem.{AllBytes, o, sized, in-image, ordered, in-placed, column-in, file-below, sound}
-use Rattle.file.specs.Form.{FileColumn, cycles, recordBytes}
+use Rattle.guarantee.specs.Theorem.{AllBytes, o, sized, in-image, ordered, column-in, file-below, sound}
+use Rattle.file.specs.Form.{FileColumn, cycles}
 use Rattle.file.specs.Opened.{opened}
 use Rattle.file.specs.Range.{fileColumnAt, startOf, bytesOf, rangeOf, ranged}
 use Rattle.file_laws.specs.Standing.{AllStand, FileStands}

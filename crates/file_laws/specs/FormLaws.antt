@@ -1,16 +1,16 @@
 -- The form, fact by fact: what makes a DL and a column formed.
-use Prim.Native.Nat.{ℕ, zero, suc, _+_, _*_, _-_, _%_, _≤_, _<_}
-use mathlib.Core.List.{List, [], _∷_, _++_}
+use Prim.Native.Nat.{ℕ, suc, _+_, _*_, _-_, _%_, _≤_, _<_}
+use mathlib.Core.List.{List, [], _∷_}
 use mathlib.Core.Bool.{Bool, true, false}
-use mathlib.Core.Path.{_≡_, refl, sym, _∙_}
+use mathlib.Core.Path.{_≡_, refl, sym}
 use lib.ListN.{getD}
-use lib.Dec.{eqb, ltb, leb}
-use borrow.Author.Tests.{eq-eqb, lt-ltb, le-leb, ne-eqb}
-use Rattle.base.specs.Choice.{pick, ifEq}
-use Rattle.base.specs.ChoiceLaws.{eq-yes, eq-no}
+use lib.Dec.{eqb}
+use borrow.Author.Tests.{eq-eqb, lt-ltb, le-leb}
+use Rattle.base.specs.Choice.{pick}
+use Rattle.base.specs.ChoiceLaws.{eq-no}
 use Rattle.base.specs.Field.{leAt}
 use Rattle.mdf.specs.Block.{kindDL, kindAt, sizeAt, linksAt, linkAt, dataAt}
-use Rattle.mdf.specs.Chain.{Kind, dt, dv, Fragment}
+use Rattle.mdf.specs.Chain.{Fragment}
 use Rattle.mdf.specs.Group.{invalBytes}
 use Rattle.file.specs.Form.{FileColumn, holds, noneZero, linksFormed, isEqualLength, equalLength, haveLength, listFormed, allDT, allDV, oneKind, formed}
 use Rattle.file_laws.specs.OpenedLaws.{Formed}

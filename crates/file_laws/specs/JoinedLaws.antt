@@ -1,5 +1,5 @@
 -- Parts of the joined data of fragments whose ranges lie in the image.
-use Prim.Native.Nat.{ℕ, zero, suc, _+_, _-_, _≤_, _<_}
+use Prim.Native.Nat.{ℕ, zero, suc, _+_, _-_, _≤_}
 use mathlib.Core.List.{List, [], _∷_, _++_}
 use mathlib.Core.Path.{_≡_, refl, sym, ap, _∙_}
 use native.Mathlib.Nat.{sub-zero, zero-sub, suc-sub-suc}
@@ -9,7 +9,7 @@ use lib.Seq.{take-append-le, drop-append-le, drop-append-add, take-take, drop-dr
 use Rattle.base.specs.Blit.{part}
 use Rattle.base.specs.BlitLaws.{length-part}
 use Rattle.base.specs.ChoiceLaws.{lt-no, lt-back}
-use Rattle.base.specs.Checked.{fine, refused}
+use Rattle.base.specs.Checked.{fine}
 use Rattle.base.specs.CheckedLaws.{refused≢ok}
 use Rattle.mdf.specs.Chain.{Fragment}
 use Rattle.mdf.specs.Records.{rangesIn, joined, sizeOf}

@@ -3,8 +3,8 @@
 use Prim.Native.Nat.{ℕ, zero, suc, _+_, _*_, _-_, _≤_, _<_}
 use mathlib.Core.List.{List, [], _∷_, _++_}
 use mathlib.Core.Bool.{Bool, true, false}
-use mathlib.Core.Path.{_≡_, refl, sym, ap, subst, _∙_}
-use native.Mathlib.Nat.{suc-mul, le-refl}
+use mathlib.Core.Path.{_≡_, refl, sym, ap, _∙_}
+use native.Mathlib.Nat.{suc-mul}
 use native.Mathlib.Omega.{arith}
 use lib.ListN.{length, length-append}
 use lib.Dec.{eqb, ltb}
@@ -14,7 +14,7 @@ use Rattle.base.specs.ChoiceLaws.{lt-yes, eq-yes, eq-no, lt-back}
 use Rattle.base.specs.Field.{leAt}
 use Rattle.base.specs.Checked.{Checked, ok, refused, andThen, Verdict, fine}
 use Rattle.base.specs.CheckedLaws.{refused≢ok, ok-same, then-ok, then-fine}
-use Rattle.mdf.specs.Block.{HD, kindDL, kindHL, kindAt, sizeAt, linksAt, linkAt, firstLink, headerIn, lengthIn, blockAt}
+use Rattle.mdf.specs.Block.{HD, kindDL, kindHL, kindAt, linksAt, linkAt, firstLink, headerIn, lengthIn, blockAt}
 use Rattle.mdf.specs.Name.{nameAt}
 use Rattle.mdf.specs.Chain.{Kind, Fragment, fragment, Chain, Chain.records, Leaf, leaf, Leaf.none, leafOf, Found, found, stopped, onFound, onPassed, Limits, fileLimits, added, onLeaf, fragmentAt, listed, isIn, listIn, chainFrom, chain}
 use Rattle.mdf.specs.Walk.{Source, source, Level, levelDG, levelCG, levelCN, visit, entered, level, turns, belowCN, belowCG, idSizeIn, withFound, belowDG, walkOf}
@@ -158,9 +158,9 @@ module _ (c : Chain) (s : List ℕ) (short : length s < 140737488355328) (n : �
     from-same (suc turns) seen a fs h =
         let z = suc-mul turns 17592186044416 in
         let dl : onPassed (listIn (fileLimits .dlBytes) (limitsOf m) s seen a) fs
-            (onFound (listed c (limitsOf m) s n (linksAt s a - 1) (a + 32) fs) (λ gs. chainFrom c (limitsOf m) turns s n (a ∷ seen) (firstLink s a) gs))
-            ≡ onPassed (listIn (fileLimits .dlBytes) fileLimits s seen a) fs
-            (onFound (listed c fileLimits s n (linksAt s a - 1) (a + 32) fs) (λ gs. chainFrom c fileLimits turns s n (a ∷ seen) (firstLink s a) gs)) =
+        (onFound (listed c (limitsOf m) s n (linksAt s a - 1) (a + 32) fs) (λ gs. chainFrom c (limitsOf m) turns s n (a ∷ seen) (firstLink s a) gs))
+        ≡ onPassed (listIn (fileLimits .dlBytes) fileLimits s seen a) fs
+        (onFound (listed c fileLimits s n (linksAt s a - 1) (a + 32) fs) (λ gs. chainFrom c fileLimits turns s n (a ∷ seen) (firstLink s a) gs)) =
         passed-same (listIn (fileLimits .dlBytes) fileLimits s seen a) fs _ _ (λ e.
         let few = links-few (fileLimits .dlBytes) fileLimits seen a e in
         ap (λ (v : Found). onFound v (λ gs. chainFrom c (limitsOf m) turns s n (a ∷ seen) (firstLink s a) gs)) (listed-same (linksAt s a - 1) (a + 32) fs (omega arith))
@@ -168,7 +168,7 @@ module _ (c : Chain) (s : List ℕ) (short : length s < 140737488355328) (n : �
         (λ gs. chainFrom c fileLimits turns s n (a ∷ seen) (firstLink s a) gs) (listed-most fileLimits (linksAt s a - 1) (a + 32) fs)
         (λ gs l. from-same turns (a ∷ seen) (firstLink s a) gs (omega arith))) in
         let hl : onPassed (listIn (fileLimits .hlBytes) (limitsOf m) s seen a) fs (chainFrom c (limitsOf m) turns s n (a ∷ seen) (firstLink s a) fs)
-            ≡ onPassed (listIn (fileLimits .hlBytes) fileLimits s seen a) fs (chainFrom c fileLimits turns s n (a ∷ seen) (firstLink s a) fs) =
+        ≡ onPassed (listIn (fileLimits .hlBytes) fileLimits s seen a) fs (chainFrom c fileLimits turns s n (a ∷ seen) (firstLink s a) fs) =
         passed-same (listIn (fileLimits .hlBytes) fileLimits s seen a) fs _ _ (λ _. from-same turns (a ∷ seen) (firstLink s a) fs (omega arith)) in
         let node = leaf-same (leafOf c (kindAt s a)) _ _ (λ j. added (limitsOf m) n a (fragment s a j) fs) (λ j. added fileLimits n a (fragment s a j) fs)
         (either-same (kindAt s a) (stopped 12 a fs) dl hl) (λ j. added-same a (fragment s a j) fs (omega arith)) in

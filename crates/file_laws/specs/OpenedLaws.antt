@@ -1,24 +1,22 @@
 -- What is known of a file that was opened: every column is one of its DG's, in the form, with its ranges in the image.
-use Prim.Native.Nat.{ℕ, zero, suc, _+_, _*_, _-_, _≤_, _<_}
-use mathlib.Core.List.{List, [], _∷_, _++_}
+use Prim.Native.Nat.{ℕ, zero, suc, _*_, _-_}
+use mathlib.Core.List.{List, [], _∷_}
 use mathlib.Core.Bool.{Bool, true, false}
 use mathlib.Core.Option.{Option, none, some}
-use mathlib.Core.Path.{_≡_, refl, sym, ap, subst, _∙_}
+use mathlib.Core.Path.{_≡_, refl, sym, ap, subst}
 use native.Mathlib.Omega.{arith}
 use lib.ListN.{length}
-use lib.Dec.{eqb}
 use borrow.Author.Tests.{eqb-true}
-use Rattle.base.specs.Blit.{part}
 use Rattle.base.specs.Choice.{pick, ifEq}
-use Rattle.base.specs.Checked.{Checked, ok, refused, andThen, Verdict, fine}
+use Rattle.base.specs.Checked.{ok, refused, fine}
 use Rattle.base.specs.CheckedLaws.{refused≢ok, ok-same, then-ok, then-fine}
 use Rattle.mdf.specs.Block.{linkAt}
 use Rattle.mdf.specs.Chain.{Fragment, fileLimits}
-use Rattle.mdf.specs.Walk.{Item, dg, cg, cn, Source, idSize, walkOf}
-use Rattle.mdf.specs.Group.{Group, DataGroup, upTo, groupsOf, dataGroupsOf, dataGroups}
+use Rattle.mdf.specs.Walk.{Item, dg, cg, cn, idSize, walkOf}
+use Rattle.mdf.specs.Group.{Group, DataGroup, upTo, dataGroupsOf, dataGroups}
 use Rattle.mdf.specs.Records.{rangesIn, sizeOf}
 use Rattle.mdf.specs.Identification.{identified}
-use Rattle.file.specs.Form.{FileColumn, cycles, recordBytes, holds, ofGroups, ofChannels, alone, listFormed, oneKind, formed}
+use Rattle.file.specs.Form.{FileColumn, cycles, recordBytes, ofGroups, ofChannels, alone, listFormed, oneKind, formed}
 use Rattle.file.specs.Opened.{onColumn, columnIn, columnsIn, opened}
 use Rattle.file.specs.Range.{fileColumnAt}
 use Rattle.file_laws.specs.JoinedLaws.{ranges-part}

@@ -1,6 +1,6 @@
 -- Both calls: what is handed back is what is copied; a refusal leaves the buffer; the buffer keeps its length.
 use Prim.Native.Nat.{ℕ, zero, suc, _+_, _*_, _-_, _≤_, _<_}
-use mathlib.Core.List.{List, [], _∷_, _++_}
+use mathlib.Core.List.{List, [], _∷_}
 use mathlib.Core.Bool.{Bool, true, false}
 use mathlib.Core.Option.{Option, none, some}
 use mathlib.Core.Path.{_≡_, refl, sym, ap, subst, _∙_}
@@ -12,14 +12,14 @@ use borrow.Author.Tests.{lt-ltb, le-ltb, le-leb, lt-leb, ltb-true, ltb-false, eq
 use Rattle.base.specs.Blit.{part}
 use Rattle.base.specs.BlitLaws.{length-part}
 use Rattle.base.specs.Choice.{pick, ifLt, ifLe, ifEq}
-use Rattle.base.specs.ChoiceLaws.{lt-yes, lt-no, eq-yes, eq-no, lt-back, le-first, eq-first}
-use Rattle.base.specs.Checked.{Checked, ok, refused, andThen, Verdict, fine}
+use Rattle.base.specs.ChoiceLaws.{lt-yes, lt-no, eq-yes, eq-no, lt-back, le-first}
+use Rattle.base.specs.Checked.{Checked, ok, refused, andThen, fine}
 use Rattle.base.specs.CheckedLaws.{refused≢ok, ok-same, then-ok}
 use Rattle.mdf.specs.Chain.{Fragment}
 use Rattle.mdf.specs.Records.{rangesIn, joined, sizeOf}
 use Rattle.file.specs.Form.{FileColumn, cycles, recordBytes}
 use Rattle.file.specs.Opened.{onColumn, opened}
-use Rattle.file.specs.Range.{fileColumnAt, asked, startOf, bytesOf, rangeOf, ranged, Copied, copied, intoBuffer, readInto, Place, at, split, within, placeIn, located}
+use Rattle.file.specs.Range.{fileColumnAt, asked, startOf, bytesOf, rangeOf, ranged, copied, intoBuffer, readInto, Place, at, split, within, placeIn, located}
 use Rattle.file_laws.specs.JoinedLaws.{part-front, part-back, part-part, ranges-cons, length-joined}
 use Rattle.file_laws.specs.OpenedLaws.{IsColumn, opened-column}
 

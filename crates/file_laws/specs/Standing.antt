@@ -1,8 +1,8 @@
 -- Columns that stand in a file, said block by block: DG, CG and CN at ascending addresses, names that pass, data chains that lead to the blocks,
 -- and the form. Whoever writes such a file shows this; StandingLaws has what follows.
-use Prim.Native.Nat.{ℕ, zero, suc, _+_, _≤_, _<_}
+use Prim.Native.Nat.{ℕ, suc, _+_, _≤_, _<_}
 use mathlib.Core.List.{List, [], _∷_, _++_}
-use mathlib.Core.Bool.{Bool, true, false}
+use mathlib.Core.Bool.{true}
 use mathlib.Core.Path.{_≡_}
 use lib.ListN.{length}
 use Rattle.base.specs.Checked.{fine}

@@ -2,26 +2,23 @@
 use Prim.{Unit, tt}
 use Prim.Native.Nat.{ℕ, zero, suc, _+_, _-_, _≤_, _<_}
 use mathlib.Core.List.{List, [], _∷_, _++_, append-assoc, append-nil}
-use mathlib.Core.Bool.{Bool, true, false}
-use mathlib.Core.Option.{Option, none, some}
-use mathlib.Core.Path.{_≡_, refl, sym, ap, subst, _∙_}
+use mathlib.Core.Bool.{false}
+use mathlib.Core.Option.{some}
+use mathlib.Core.Path.{_≡_, refl, sym, ap, _∙_}
 use native.Mathlib.Omega.{arith}
-use lib.ListN.{length, take, drop, length-append}
-use lib.Seq.{take-append-seam, drop-at, take-at}
-use lib.Dec.{eqb}
+use lib.ListN.{length, take, length-append}
+use lib.Seq.{take-append-seam, drop-at}
 use borrow.Author.Tests.{ne-eqb, lt-ltb}
 use Rattle.base.specs.Blit.{part}
-use Rattle.base.specs.Choice.{pick, ifLt, ifEq}
-use Rattle.base.specs.ChoiceLaws.{eq-yes, eq-no, lt-yes}
-use Rattle.base.specs.Checked.{Checked, ok, refused, andThen, Verdict, fine}
-use Rattle.mdf.specs.Block.{HD, DG, CG, CN, linkAt, blockAt}
-use Rattle.mdf.specs.Name.{nameAt}
-use Rattle.mdf.specs.Chain.{Fragment, Chain.records, found, fileLimits, chain}
-use Rattle.mdf.specs.Identification.{identified}
-use Rattle.mdf.specs.Walk.{Item, dg, cg, cn, address, Source, source, isMet, Level, levelDG, levelCG, levelCN, tally, mostItems, visit, entered, level, turns, belowCN, belowCG, idSize, idSizeIn, withFound, belowDG, walkOf}
-use Rattle.mdf.specs.Group.{Group, DataGroup, channelsOf, groupsOf, upTo, dataGroupsOf, dataGroups}
+use Rattle.base.specs.Choice.{ifLt}
+use Rattle.base.specs.ChoiceLaws.{eq-yes, eq-no}
+use Rattle.base.specs.Checked.{Checked, ok, fine}
+use Rattle.mdf.specs.Block.{linkAt, blockAt}
+use Rattle.mdf.specs.Chain.{Fragment, fileLimits}
+use Rattle.mdf.specs.Walk.{Item, dg, cg, cn, address, Source, source, isMet, Level, levelDG, levelCG, levelCN, tally, mostItems, visit, entered, level, turns, belowCN, belowCG, idSizeIn, belowDG, walkOf}
+use Rattle.mdf.specs.Group.{Group, channelsOf, groupsOf, upTo, dataGroupsOf, dataGroups}
 use Rattle.mdf.specs.Records.{rangesIn}
-use Rattle.file.specs.Form.{FileColumn, alone, formed}
+use Rattle.file.specs.Form.{FileColumn, alone}
 use Rattle.file.specs.Opened.{columnsIn, opened}
 use Rattle.file_laws.specs.JoinedLaws.{ranges-append}
 use Rattle.file_laws.specs.OpenedLaws.{columns-none, columns-next, column-ok, formed-back}
