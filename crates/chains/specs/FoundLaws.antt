@@ -88,21 +88,3 @@ pub chain-limit : (c : Chain) (s : List ℕ) (n a : ℕ) → n ≤ 1024 → n + 
 unfolding chain
 chain-limit c s n a h =
     chain-holds (λ fs. n + length fs ≤ 1024) c limits s n (λ b k fs i j p. simp length-append (omega arith)) 258 [] a [] (omega arith) .it
-
--- each fragment's header lies in the image, so its data begins in it or at its end
-pub data Inside (s : List ℕ) : List Fragment → Type 0 where
-  no-more : Inside s []
-  inside : {f : Fragment} {fs : List Fragment} → f .offset ≤ length s → Inside s fs → Inside s (f ∷ fs)
-
-pub inside-append : {s : List ℕ} {fs gs : List Fragment} → Inside s fs → Inside s gs → Inside s (fs ++ gs)
-inside-append no-more q = q
-inside-append (inside h p) q = inside h (inside-append p q)
-
-pub chain-inside : (c : Chain) (s : List ℕ) (n a : ℕ) → Inside s (fragmentsIn (chain c limits s n a))
-unfolding chain
-chain-inside c s n a = chain-holds (Inside s) c limits s n (λ b k fs i j p. inside-append p (inside i no-more)) 258 [] a [] no-more .it
-
--- from 1,024 on nothing is found
-pub chain-full : (c : Chain) (s : List ℕ) (n a : ℕ) → 1024 ≤ n → fragmentsIn (chain c limits s n a) ≡ []
-unfolding chain
-chain-full c s n a h = chain-holds (λ fs. fs ≡ []) c limits s n (λ b k fs i j p. absurd (omega arith)) 258 [] a [] refl .it

@@ -1,18 +1,18 @@
 -- From the turns of the walk to what it leaves.
-use Prim.Native.Nat.{ℕ, _+_, _≤_}
+use Prim.Native.Nat.{ℕ, _≤_}
 use mathlib.Core.List.{List, []}
-use mathlib.Core.Path.{_≡_, refl, sym, ap, _∙_}
+use mathlib.Core.Path.{_≡_, refl, _∙_}
 use native.Mathlib.Omega.{arith}
 use lib.ListN.{length}
 use Rattle.base.specs.Blit.{blit}
-use Rattle.base.specs.Checked.{Checked, ok, refused, andThen, Verdict, fine}
+use Rattle.base.specs.Checked.{Checked, ok, refused}
 use Rattle.fields.specs.declared.Check.{Check}
 use Rattle.fields.specs.Answer.{verdictOf}
 use Rattle.mdf.specs.Block.{HD, linkAt, blockAt}
-use Rattle.mdf.specs.Walk.{Source, source, levelDG, levelCG, tally, level, turns, belowDG, walk}
+use Rattle.mdf.specs.Walk.{source, levelDG, tally, level, turns, belowDG, walk}
 use Rattle.mdf.specs.Words.{addressWords, markWords, groupWords, fragmentWords, laidItems, sourceWords}
-use Rattle.reading.specs.Held.{State, state, Held, Within, Gives, Stops}
-use Rattle.reading.specs.Walked.{Kept, keptOf, walkedFrom, walked}
+use Rattle.reading.specs.Held.{state, Held, Within, Gives, Stops}
+use Rattle.reading.specs.Walked.{Kept, walkedFrom, walked}
 
 -- nothing was met
 pub held-none : (w f : List ℕ) → Held w f (source [] []) (state w f 0 0 0 0 0)
