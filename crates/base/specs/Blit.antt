@@ -1,4 +1,4 @@
--- Parts of a list, and a list laid over another.
+-- Bookkeeping: parts of a list, and a list laid over another, as a store past a slice's end is lost.
 use Prim.Native.Nat.{ℕ, suc}
 use mathlib.Core.List.{List, [], _∷_}
 use lib.ListN.{take, drop, set}

@@ -1,13 +1,12 @@
 -- The laws of `part` and `blit`.
-use mathlib.Core.Path.{_≡_, refl, sym, ap, _∙_, subst}
+use mathlib.Core.Path.{_≡_, refl, sym, ap, _∙_}
 use mathlib.Core.List.{List, [], _∷_, _++_, append-nil, append-assoc}
-use mathlib.Core.Logic.{_⊎_, inl, inr}
-use Prim.Native.Nat.{ℕ, zero, suc, _+_, _-_, _*_, _/_, _%_, _^_, _≤_, _<_}
-use native.Mathlib.Nat.{add-zero, add-suc, suc-add, le-refl, le-add-right, le-of-eq, not-suc-le-zero, le-of-suc-le-suc}
+use Prim.Native.Nat.{ℕ, suc, _+_, _-_, _≤_, _<_}
+use native.Mathlib.Nat.{add-zero, add-suc, suc-add, le-refl, le-add-right}
 use native.Mathlib.Omega.{arith}
-use lib.ListN.{length, take, drop, getD, set, length-set, length-append, length-take, length-drop, take-append-drop}
-use lib.Seq.{take-set-le, drop-set-add, drop-set-lt, take-all, drop-length, set-comm, getD-set-same, getD-set-other, drop-drop, sets, sets-eq, take-append-seam, take-at, drop-at, length-take-le}
-use borrow.Rule.Slice.PartMut.{putMid, midOf, postOf}
+use lib.ListN.{length, take, drop, set, length-set, length-drop, take-append-drop}
+use lib.Seq.{take-set-le, drop-set-add, drop-set-lt, take-all, drop-length, set-comm, sets, sets-eq, take-append-seam, drop-at, length-take-le}
+use borrow.Rule.Slice.PartMut.{putMid, midOf}
 use Rattle.base.specs.Blit.{blit, part}
 
 pub length-blit : (i : ℕ) (bs l : List ℕ) → length (blit i bs l) ≡ length l
@@ -45,13 +44,6 @@ blit-lent a i bs l =
     rw (all, none, append-nil) (blit-rest bs a i l)
 
 -- a further field: pre stands from i on already, and a callee that was lent `&mut l[a..]`, with a just past pre, put bs at its front
-pub blit-then : (i a : ℕ) (pre bs l₀ l ys : List ℕ) → l ≡ blit i pre l₀ → ys ≡ blit 0 bs (midOf a (length l - a) l) → a ≡ i + length pre
-    → putMid a (length l - a) l ys ≡ blit i (pre ++ bs) l₀
-blit-then i a pre bs l₀ l ys e g p =
-    ap (putMid a (length l - a) l) g
-    ∙ blit-lent a 0 bs l
-    ∙ rw (add-zero, p, e) (sym (blit-append pre i bs l₀))
-
 -- ---- reading what was written
 blit-sets : (i : ℕ) (bs l : List ℕ) → blit i bs l ≡ sets l i bs
 unfolding blit

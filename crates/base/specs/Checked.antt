@@ -11,9 +11,10 @@ abbrev pub andThen : {A B : Type 0} → Checked A → (A → Checked B) → Chec
 andThen (ok a) f = f a
 andThen (refused number place) f = refused number place
 
--- a check that gives nothing but whether it passed
+-- bookkeeping: a check that gives nothing but whether it passed
 abbrev pub Verdict : Type 0
 Verdict = Checked (Unit {0})
 
+-- it passed
 abbrev pub fine : Verdict
 fine = ok tt

@@ -1,4 +1,4 @@
--- Choices by a test on numbers, at any type. They stay shut; ChoiceLaws has the way through them.
+-- Bookkeeping: choices by a test on numbers, at any type. They stay shut; ChoiceLaws has the way through them.
 use Prim.Native.Nat.{ℕ}
 use mathlib.Core.Bool.{Bool, true, false}
 use lib.Dec.{ltb, leb, eqb}

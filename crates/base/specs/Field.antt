@@ -14,7 +14,7 @@ unfoldable pub le : ℕ → ℕ → List ℕ
 le zero x = []
 le (suc n) x = x % 256 ∷ le n (x / 256)
 
--- r is the field of n bytes at at
+-- bookkeeping of contracts: r is the field of n bytes at at
 pub record Field (n : ℕ) (s : List ℕ) (at r : ℕ) : Type 0 where
   pub is : r ≡ leAt n s at
   pub small : r < 256 ^ n

@@ -2,10 +2,9 @@
 use Prim.Native.Nat.{ℕ, zero, suc, _+_, _*_, _/_, _^_, _≤_}
 use mathlib.Core.List.{List}
 use mathlib.Core.Path.{_≡_, refl, ap}
-use native.Mathlib.Nat.{add-zero, zero-add, one-mul, suc-add, add-suc, pow-suc, pow-zero, mul-assoc, mul-comm}
-use native.Mathlib.Numerals.{add-one}
+use native.Mathlib.Nat.{add-zero, zero-add, one-mul, suc-add, pow-suc, pow-zero, mul-assoc, mul-comm}
 use native.Mathlib.Omega.{arith}
-use lib.ListN.{getD, length, List·getD-eq-default}
+use lib.ListN.{length, List·getD-eq-default}
 use Rattle.base.specs.Field.{leAt, le}
 
 pub split : (m n : ℕ) (s : List ℕ) (at : ℕ) → leAt (m + n) s at ≡ leAt m s at + 256 ^ m * leAt n s (at + m)

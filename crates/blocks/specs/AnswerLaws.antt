@@ -1,25 +1,11 @@
 -- The code's answer to a check against its verdict, and the way through `andThen`.
-use Prim.{Unit, tt}
 use Prim.Native.Nat.{ℕ}
-use mathlib.Core.Path.{_≡_, refl, sym, _∙_}
-use native.Mathlib.Omega.{arith}
+use mathlib.Core.Path.{_≡_, sym, _∙_}
 use Rattle.base.specs.Checked.{Checked, ok, refused, andThen, Verdict, fine}
 use Rattle.fields.specs.declared.Check.{Check}
 use Rattle.fields.specs.declared.Check.the-variants.{Fine, Refused}
 use Rattle.fields.specs.Answer.{verdictOf}
 pub use Rattle.base.specs.CheckedLaws.{refused≢ok, ok-same, then-fine}
-
-pub ok≢refused : {A : Type 0} {n p : ℕ} {x : A} → _≡_ {A = Checked A} (ok x) (refused n p) → ⊥
-ok≢refused e = refused≢ok (sym e)
-
--- ---- from the verdict to the answer
-pub is-fine : (c : Check) → verdictOf c ≡ fine → c ≡ Fine
-is-fine Fine e = refl
-is-fine (Refused n p) e = absurd (refused≢ok e)
-
-pub is-refused : (c : Check) {n p : ℕ} → verdictOf c ≡ refused n p → c ≡ Refused n p
-is-refused Fine e = absurd (ok≢refused e)
-is-refused (Refused n p) e = cc
 
 -- ---- from the answer to the verdict: a callee's `ensures`, then the arm's equation
 pub so-fine : {c : Check} {v : Verdict} → verdictOf c ≡ v → c ≡ Fine → v ≡ fine

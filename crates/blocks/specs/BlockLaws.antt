@@ -8,14 +8,14 @@ use native.Mathlib.Omega.{arith}
 use lib.ListN.{length}
 use lib.Dec.{ltb}
 use borrow.Author.Tests.{ltb-true, ltb-false}
-use Rattle.base.specs.ChoiceLaws.{lt-back, eq-first, le-first}
+use Rattle.base.specs.ChoiceLaws.{lt-back, le-first}
 use Rattle.base.specs.Checked.{refused, Verdict, fine}
 use Rattle.base.specs.Field.{leAt, Field}
 use Rattle.base.specs.FieldLaws.{le-past}
 use Rattle.fields.specs.declared.Check.{Check}
 use Rattle.fields.specs.declared.Check.the-variants.{Fine, Refused}
 use Rattle.fields.specs.Answer.{verdictOf}
-use Rattle.mdf.specs.Block.{Wanted, kindAt, sizeAt, linksAt, linkAt, dataAt, headerIn, lengthIn, mostBytes, wholeAt, wantedAt, blockAt}
+use Rattle.mdf.specs.Block.{Wanted, sizeAt, linksAt, linkAt, dataAt, headerIn, lengthIn, mostBytes, wholeAt, wantedAt, blockAt}
 use Rattle.blocks.specs.AnswerLaws.{refused≢ok, so-fine, so-refused, then-fine}
 
 -- ---- past the image every field is 0
@@ -95,15 +95,6 @@ pub record Whole (s : List ℕ) (a : ℕ) : Type 0 where
   pub within : 24 + 8 * linksAt s a ≤ sizeAt s a
   pub short : sizeAt s a ≤ 268435456
 
--- and after 10
-pub record Fits (k : Wanted) (s : List ℕ) (a : ℕ) : Type 0 where
-  pub range : a + sizeAt s a ≤ length s
-  pub within : 24 + 8 * linksAt s a ≤ sizeAt s a
-  pub enough : k .links ≤ linksAt s a
-  pub carries : 24 + 8 * linksAt s a + k .bytes ≤ sizeAt s a
-  pub short : sizeAt s a ≤ 268435456
-  pub same : kindAt s a ≡ k .kind
-
 -- 8, 9 and range with another greatest length
 pub length-fits : (most : ℕ) (s : List ℕ) (a : ℕ) → lengthIn most s a ≡ fine
     → (24 + 8 * linksAt s a ≤ sizeAt s a) × (sizeAt s a ≤ most) × (a + sizeAt s a ≤ length s)
@@ -119,20 +110,3 @@ unfolding wholeAt
 whole-fits s a e =
     let b = length-fits mostBytes s a (then-fine (headerIn s a) (λ _. lengthIn mostBytes s a) e .1) in
     record { range = b .2; within = b .0; short = b .1 }
-
-pub wanted-fits : (k : Wanted) (s : List ℕ) (a : ℕ) → wantedAt k s a ≡ fine
-    → (kindAt s a ≡ k .kind) × (k .links ≤ linksAt s a) × (24 + 8 * linksAt s a + k .bytes ≤ sizeAt s a)
-unfolding wantedAt
-wanted-fits k s a e =
-    let b = eq-first _ _ _ _ e refused≢ok in
-    let c = lt-back _ _ _ _ (b .1) refused≢ok in
-    let d = lt-back _ _ _ _ (c .1) refused≢ok in
-    (b .0, c .0, d .0)
-
-pub block-fits : (k : Wanted) (s : List ℕ) (a : ℕ) → blockAt k s a ≡ fine → Fits k s a
-unfolding blockAt
-block-fits k s a e =
-    let both = then-fine (wholeAt s a) (λ _. wantedAt k s a) e in
-    let w = whole-fits s a (both .0) in
-    let f = wanted-fits k s a (both .1) in
-    record { range = w .range; within = w .within; enough = f .1; carries = f .2; short = w .short; same = f .0 }

@@ -1,17 +1,16 @@
 -- The ways of the check of a name; and what is known of a text that passed.
-use Prim.Native.Nat.{ℕ, _+_, _≤_}
+use Prim.Native.Nat.{ℕ}
 use mathlib.Core.List.{List}
 use mathlib.Core.Path.{_≡_, refl}
 use native.Mathlib.Omega.{arith}
-use lib.ListN.{length}
-use Rattle.base.specs.ChoiceLaws.{lt-back, eq-yes, eq-no}
+use Rattle.base.specs.ChoiceLaws.{eq-yes, eq-no}
 use Rattle.base.specs.Checked.{refused, Verdict, fine}
 use Rattle.fields.specs.declared.Check.{Check}
 use Rattle.fields.specs.declared.Check.the-variants.{Fine, Refused}
 use Rattle.fields.specs.Answer.{verdictOf}
-use Rattle.mdf.specs.Block.{kindTX, kindMD, kindAt, sizeAt, headerIn}
+use Rattle.mdf.specs.Block.{kindTX, kindMD, kindAt, headerIn}
 use Rattle.mdf.specs.Name.{textIn, nameAt}
-use Rattle.blocks.specs.AnswerLaws.{refused≢ok, so-fine, so-refused}
+use Rattle.blocks.specs.AnswerLaws.{so-fine, so-refused}
 
 -- no name
 pub name-none : (s : List ℕ) (a : ℕ) → a ≡ 0 → fine ≡ nameAt s a
@@ -35,11 +34,3 @@ module _ (s : List ℕ) (a : ℕ) {o : Check} (e : verdictOf o ≡ headerIn s a)
   pub name-other : {k : ℕ} → o ≡ Fine → k ≡ kindAt s a → (k ≡ kindTX → ⊥) → (k ≡ kindMD → ⊥) → fine ≡ nameAt s a
   unfolding nameAt
   name-other q d t m = eq-no _ _ _ _ link (rw (so-fine e q) (eq-no _ _ _ _ (omega arith) (eq-no _ _ _ _ (omega arith) refl)))
-
--- a text that passed lies whole in the image
-pub text-fits : (s : List ℕ) (a : ℕ) → textIn s a ≡ fine → (24 ≤ sizeAt s a) × (a + sizeAt s a ≤ length s)
-unfolding textIn
-text-fits s a e =
-    let b = lt-back _ _ _ _ e refused≢ok in
-    let c = lt-back _ _ _ _ (b .1) refused≢ok in
-    (b .0, c .0)

@@ -1,46 +1,51 @@
 -- A block of an MDF 4 image: its header, links and data (ASAM MDF 4.2, block structure), and the checks of document 01.
 use Prim.Native.Nat.{ℕ, _+_, _*_}
+use Prim.Native.Char.{Char, code}
 use mathlib.Core.List.{List}
 use lib.ListN.{length}
 use Rattle.base.specs.Choice.{ifLt, ifLe, ifEq}
 use Rattle.base.specs.Field.{leAt}
-use Rattle.base.specs.Checked.{Checked, ok, refused, andThen, Verdict, fine}
+use Rattle.base.specs.Checked.{refused, andThen, Verdict, fine}
 
--- the kinds, as the 32-bit number of the four bytes `##` and two letters
+-- a block's kind: the 32-bit number of the four bytes `##` and two letters (ASAM MDF 4.2, block header)
+abbrev pub kind : Char → Char → ℕ
+kind a b = 35 + 256 * (35 + 256 * (code a + 256 * code b))
+
+-- the kinds that document 01 names
 abbrev pub kindHD : ℕ
-kindHD = 1145578275
+kindHD = kind "H" "D"
 
 abbrev pub kindDG : ℕ
-kindDG = 1195647779
+kindDG = kind "D" "G"
 
 abbrev pub kindCG : ℕ
-kindCG = 1195582243
+kindCG = kind "C" "G"
 
 abbrev pub kindCN : ℕ
-kindCN = 1313022755
+kindCN = kind "C" "N"
 
 abbrev pub kindDT : ℕ
-kindDT = 1413751587
+kindDT = kind "D" "T"
 
 abbrev pub kindDV : ℕ
-kindDV = 1447306019
+kindDV = kind "D" "V"
 
 abbrev pub kindDL : ℕ
-kindDL = 1279533859
+kindDL = kind "D" "L"
 
 abbrev pub kindHL : ℕ
-kindHL = 1279796003
+kindHL = kind "H" "L"
 
 abbrev pub kindSD : ℕ
-kindSD = 1146299171
+kindSD = kind "S" "D"
 
 abbrev pub kindTX : ℕ
-kindTX = 1481909027
+kindTX = kind "T" "X"
 
 abbrev pub kindMD : ℕ
-kindMD = 1145905955
+kindMD = kind "M" "D"
 
--- ---- the header of the block at a: kind, four reserved bytes, length, number of links
+-- ---- the header of the block at a: kind, four reserved bytes, length, number of links (ASAM MDF 4.2, block header)
 unfoldable pub kindAt : List ℕ → ℕ → ℕ
 kindAt s a = leAt 4 s a
 
@@ -54,7 +59,7 @@ linksAt s a = leAt 8 s (a + 16)
 unfoldable pub linkAt : List ℕ → ℕ → ℕ → ℕ
 linkAt s a i = leAt 8 s (a + 24 + 8 * i)
 
--- the first link, 0 where there is none
+-- the first link, 0 where there is none: "HL leads to its first link", a DL to the next DL; history and attachment chains go on by it
 unfoldable pub firstLink : List ℕ → ℕ → ℕ
 firstLink s a = ifLt 0 (linksAt s a) (linkAt s a 0) 0
 
@@ -83,7 +88,7 @@ mostBytes = 268435456
 unfoldable pub wholeAt : List ℕ → ℕ → Verdict
 wholeAt s a = andThen (headerIn s a) (λ _. lengthIn mostBytes s a)
 
--- what is wanted of a block: its kind, and its least number of links and of data bytes
+-- bookkeeping of 10: what is wanted of a block: its kind, and its least number of links and of data bytes
 pub record Wanted : Type 0 where
   pub kind : ℕ
   pub links : ℕ
@@ -102,6 +107,7 @@ CG = record { kind = kindCG; links = 6; bytes = 32 }
 abbrev pub CN : Wanted
 CN = record { kind = kindCN; links = 8; bytes = 72 }
 
+-- 10, as the sentence above has it
 unfoldable pub wantedAt : Wanted → List ℕ → ℕ → Verdict
 wantedAt k s a =
     ifEq (kindAt s a) (k .kind)

@@ -1,14 +1,13 @@
 -- Data chains: "DT or DV ends a chain; DL lists fragments, zero links passed over; HL leads to its first link. SD chains likewise, SD in place
 -- of DT and DV. A fragment listed twice counts twice; its length isn't compared with the image here." (document 01, walking)
-use Prim.Native.Nat.{ℕ, zero, suc, _+_, _*_, _-_}
+use Prim.Native.Nat.{ℕ, zero, suc, _+_, _-_}
 use mathlib.Core.List.{List, [], _∷_, _++_}
 use mathlib.Core.Bool.{Bool, true, false}
 use lib.ListN.{length}
 use lib.Dec.{eqb}
-use Prim.{Unit, tt}
 use Rattle.base.specs.Choice.{pick, ifLt, ifEq}
 use Rattle.base.specs.Field.{leAt}
-use Rattle.base.specs.Checked.{Checked, ok, refused, andThen, Verdict, fine}
+use Rattle.base.specs.Checked.{ok, refused, andThen, Verdict, fine}
 use Rattle.mdf.specs.Block.{kindDT, kindDV, kindDL, kindHL, kindSD, kindAt, sizeAt, linksAt, firstLink, headerIn, lengthIn}
 
 -- "a fragment is an offset, a length and one of two kinds"
@@ -16,6 +15,7 @@ pub data Kind : Type 0 where
   dt : Kind
   dv : Kind
 
+-- the same sentence: offset and length of its data, and its kind
 pub record Fragment : Type 0 where
   pub offset : ℕ
   pub size : ℕ
@@ -25,34 +25,37 @@ pub record Fragment : Type 0 where
 abbrev pub fragment : List ℕ → ℕ → Kind → Fragment
 fragment s a k = record { offset = a + 24; size = sizeAt s a - 24; kind = k }
 
--- which chain it is: a DG's data, or a channel's signal data
+-- "SD chains likewise": which chain it is, a DG's data or a channel's signal data
 pub data Chain : Type 0 where
   records : Chain
   signal : Chain
 
--- the kind of fragment that a block of kind k is in such a chain, or none
+-- bookkeeping: the kind of fragment that a block is in such a chain, or none
 pub data Leaf : Type 0 where
   leaf : Kind → Leaf
   none : Leaf
 
+-- "DT or DV ends a chain .. SD chains likewise, SD in place of DT and DV."
 unfoldable pub leafOf : Chain → ℕ → Leaf
 leafOf records k = ifEq k kindDT (leaf dt) (ifEq k kindDV (leaf dv) none)
 leafOf signal k = ifEq k kindSD (leaf dt) none
 
--- the fragments found in a chain, and the refusal where it was stopped
+-- bookkeeping: the fragments found in a chain, and the refusal where it was stopped
 pub data Found : Type 0 where
   found : List Fragment → Found
   stopped : ℕ → ℕ → List Fragment → Found
 
+-- bookkeeping: what follows the fragments found
 abbrev pub onFound : Found → (List Fragment → Found) → Found
 onFound (found fs) f = f fs
 onFound (stopped number place fs) f = stopped number place fs
 
+-- bookkeeping: what follows a check that passed
 abbrev pub onPassed : Verdict → List Fragment → Found → Found
 onPassed (ok u) fs next = next
 onPassed (refused number place) fs next = stopped number place fs
 
--- limits of a chain: the most bytes of a DL and of an HL (9), the most DL and HL (19), the most fragments, n of which were found before this
+-- bookkeeping: the limits of a chain: the most bytes of a DL and of an HL (9), the most DL and HL (19), the most fragments, n of which were found before this
 -- chain (19)
 pub record Limits : Type 0 where
   pub dlBytes : ℕ
@@ -70,15 +73,16 @@ limits = record { dlBytes = 268435456; hlBytes = 268435456; lists = 256; fragmen
 abbrev pub fileLimits : Limits
 fileLimits = record { dlBytes = 18446744073709551615; hlBytes = 268435456; lists = 256; fragments = 4611686018427387904 }
 
--- a fragment more, within the limit
+-- "1,024 fragments (SD too) in the whole image", 19 at the fragment past them: a fragment more
 unfoldable pub added : Limits → ℕ → ℕ → Fragment → List Fragment → Found
 added l n a f fs = ifLt (n + length fs) (l .fragments) (found (fs ++ (f ∷ []))) (stopped 19 a fs)
 
+-- bookkeeping: what follows a fragment, or a block that is none
 abbrev pub onLeaf : Leaf → Found → (Kind → Found) → Found
 onLeaf none other f = other
 onLeaf (leaf k) other f = f k
 
--- a fragment that a DL lists at a: header range, 12 for another kind, 19
+-- "12: another kind in a data chain": a fragment that a DL lists at a: header range, 12, 19
 unfoldable pub fragmentAt : Chain → Limits → List ℕ → ℕ → ℕ → List Fragment → Found
 fragmentAt c l s n a fs =
     onPassed (headerIn s a) fs
@@ -90,7 +94,7 @@ listed c l s n zero p fs = found fs
 listed c l s n (suc links) p fs =
     onFound (ifEq (leAt 8 s p) 0 (found fs) (fragmentAt c l s n (leAt 8 s p) fs)) (λ gs. listed c l s n links (p + 8) gs)
 
--- a stands in the list
+-- bookkeeping: a stands in the list
 unfoldable pub isIn : ℕ → List ℕ → Bool
 isIn a [] = false
 isIn a (b ∷ bs) = let more = isIn a bs in pick (eqb b a) true more
@@ -99,7 +103,8 @@ isIn a (b ∷ bs) = let more = isIn a bs in pick (eqb b a) true more
 unfoldable pub listIn : ℕ → Limits → List ℕ → List ℕ → ℕ → Verdict
 listIn most l s seen a = andThen (lengthIn most s a) (λ _. ifLt (length seen) (l .lists) fine (refused 19 a))
 
--- the chain from a on, with the DL and HL that were seen; n fragments were found before this chain. One turn for each DL and HL
+-- "11: an address met again in a .. data chain", "A data chain has its own" set: the chain from a on, with the DL and HL that were seen;
+-- n fragments were found before this chain. One turn for each DL and HL
 unfoldable pub chainFrom : Chain → Limits → ℕ → List ℕ → ℕ → List ℕ → ℕ → List Fragment → Found
 chainFrom c l zero s n seen a fs = stopped 19 a fs
 chainFrom c l (suc turns) s n seen a fs =

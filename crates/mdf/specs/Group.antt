@@ -1,5 +1,5 @@
 -- The data groups of a recording, as the walk met them, and the fields of CG that reading needs (ASAM MDF 4.2, CGBLOCK).
-use Prim.Native.Nat.{ℕ, _+_, _-_, _/_, _%_}
+use Prim.Native.Nat.{ℕ, _+_, _-_, _%_}
 use mathlib.Core.List.{List, [], _∷_}
 use mathlib.Core.Bool.{Bool}
 use lib.ListN.{length}
@@ -15,38 +15,39 @@ pub record Group : Type 0 where
   pub at : ℕ
   pub channels : List ℕ
 
--- a DG, the fragments of its data chain, and its groups
+-- bookkeeping: a DG, the fragments of its data chain, and its groups
 pub record DataGroup : Type 0 where
   pub at : ℕ
   pub fragments : List Fragment
   pub groups : List Group
 
--- the addresses of groups
+-- bookkeeping: the addresses of groups
 unfoldable pub addresses : List Group → List ℕ
 addresses [] = []
 addresses (g ∷ gs) = g .at ∷ addresses gs
 
--- the CN in front of the items
+-- bookkeeping: the CN in front of the items, up to the next CG or DG
 unfoldable pub channelsOf : List Item → List ℕ
 channelsOf [] = []
 channelsOf (dg a n ∷ is) = []
 channelsOf (cg a ∷ is) = []
 channelsOf (cn a ∷ is) = a ∷ channelsOf is
 
--- the groups up to the next DG
+-- bookkeeping: the groups up to the next DG
 unfoldable pub groupsOf : List Item → List Group
 groupsOf [] = []
 groupsOf (dg a n ∷ is) = []
 groupsOf (cg a ∷ is) = record { at = a; channels = channelsOf is } ∷ groupsOf is
 groupsOf (cn a ∷ is) = groupsOf is
 
--- the number of fragments found before the next DG's own, or all
+-- bookkeeping: the number of fragments found before the next DG's own, or all
 unfoldable pub upTo : ℕ → List Item → ℕ
 upTo all [] = all
 upTo all (dg a n ∷ is) = n
 upTo all (cg a ∷ is) = upTo all is
 upTo all (cn a ∷ is) = upTo all is
 
+-- bookkeeping: each DG with the fragments of its data chain and its groups
 unfoldable pub dataGroupsOf : List Fragment → List Item → List DataGroup
 dataGroupsOf fs [] = []
 dataGroupsOf fs (dg a n ∷ is) =
@@ -54,11 +55,11 @@ dataGroupsOf fs (dg a n ∷ is) =
 dataGroupsOf fs (cg a ∷ is) = dataGroupsOf fs is
 dataGroupsOf fs (cn a ∷ is) = dataGroupsOf fs is
 
--- the recording's data groups
+-- the recording's data groups, in the order of the walk: "DG by DG"
 unfoldable pub dataGroups : Source → List DataGroup
 dataGroups st = dataGroupsOf (st .fragments) (st .items)
 
--- ---- fields of the CG at a
+-- ---- fields of the CG at a: record id, flags, then
 unfoldable pub recordId : List ℕ → ℕ → ℕ
 recordId s a = leAt 8 s (dataAt s a)
 

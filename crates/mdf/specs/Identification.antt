@@ -1,23 +1,24 @@
 -- The identification block: refusals 4, 5, 6, 7 (document 01, identification_block.rs).
-use Prim.Native.Nat.{ℕ, zero, suc, _+_, _*_, _-_}
+use Prim.Native.Nat.{ℕ, _+_, _*_, _-_}
 use mathlib.Core.List.{List, [], _∷_, reverse}
 use mathlib.Core.Bool.{Bool, true, false}
 use lib.ListN.{length}
-use lib.Dec.{ltb, leb, eqb}
+use lib.Dec.{leb, eqb}
 use Rattle.base.specs.Choice.{pick, ifLt, ifLe, ifEq}
 use Rattle.base.specs.Field.{leAt}
 use Rattle.base.specs.Blit.{part}
-use Rattle.base.specs.Checked.{Checked, ok, refused, andThen, Verdict, fine}
+use Rattle.base.specs.Checked.{refused, Verdict, fine}
 
 -- `MDF` and five blanks, as the 64-bit number of the eight bytes
 abbrev pub fileMark : ℕ
 fileMark = 2314885530820953165
 
--- the list without the elements in front that pass the test
+-- bookkeeping: the list without the elements in front that pass the test
 unfoldable pub dropWhile : (ℕ → Bool) → List ℕ → List ℕ
 dropWhile test [] = []
 dropWhile test (b ∷ bs) = let rest = dropWhile test bs in pick (test b) rest (b ∷ bs)
 
+-- "trailing zero bytes"
 abbrev pub isZero : ℕ → Bool
 isZero b = eqb b 0
 
@@ -29,35 +30,39 @@ isSpace b = pick (eqb b 32) true (pick (leb 9 b) (leb b 13) false)
 unfoldable pub trimmed : List ℕ → List ℕ
 trimmed v = dropWhile isSpace (reverse (dropWhile isSpace (dropWhile isZero (reverse v))))
 
--- "Parts are cut at `.`": the first part, and what stands past its dot, if there is one
+-- "Parts are cut at `.`": the first part
 unfoldable pub firstPart : List ℕ → List ℕ
 firstPart [] = []
 firstPart (b ∷ bs) = let rest = b ∷ firstPart bs in pick (eqb b 46) [] rest
 
+-- bookkeeping: what stands past the dot, or no dot
 pub data Rest : Type 0 where
   absent : Rest
   rest : List ℕ → Rest
 
+-- what stands past the first dot
 unfoldable pub pastDot : List ℕ → Rest
 pastDot [] = absent
 pastDot (b ∷ bs) = let more = pastDot bs in pick (eqb b 46) (rest bs) more
 
+-- bookkeeping: a decimal number, or none
 pub data Number : Type 0 where
   unreadable : Number
   value : ℕ → Number
 
+-- bookkeeping: what follows a number
 abbrev pub onNumber : {A : Type 0} → Number → A → (ℕ → A) → A
 onNumber unreadable a f = a
 onNumber (value n) a f = f n
 
--- digits after others that came to n; a value over 65,535 is no 16-bit number
+-- "decimal 16-bit numbers": digits after others that came to n; a value over 65,535 is no 16-bit number
 unfoldable pub digitsFrom : ℕ → List ℕ → Number
 digitsFrom n [] = ifLe n 65535 (value n) unreadable
 digitsFrom n (b ∷ bs) =
     let more = digitsFrom (10 * n + (b - 48)) bs in
     ifLt b 48 unreadable (ifLt 57 b unreadable more)
 
--- at least one digit
+-- "decimal": at least one digit
 unfoldable pub digits : List ℕ → Number
 digits [] = unreadable
 digits (b ∷ bs) = digitsFrom 0 (b ∷ bs)
@@ -78,7 +83,7 @@ versionOf v =
     onNumber (number (firstPart v)) unreadable (λ m.
     onNumber (second (pastDot v)) unreadable (λ n. value (100 * m + n)))
 
--- every byte is at most 127
+-- "6: .. with a byte over 127": every byte is at most that
 unfoldable pub isAscii : List ℕ → Bool
 isAscii [] = true
 isAscii (b ∷ bs) = let more = isAscii bs in pick (leb b 127) more false

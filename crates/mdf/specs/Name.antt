@@ -3,7 +3,7 @@ use Prim.Native.Nat.{ℕ, _+_}
 use mathlib.Core.List.{List}
 use lib.ListN.{length}
 use Rattle.base.specs.Choice.{ifLt, ifEq}
-use Rattle.base.specs.Checked.{Checked, ok, refused, andThen, Verdict, fine}
+use Rattle.base.specs.Checked.{refused, andThen, Verdict, fine}
 use Rattle.mdf.specs.Block.{kindTX, kindMD, kindAt, sizeAt, headerIn}
 
 -- the whole length of a text: at least its header, and inside the image

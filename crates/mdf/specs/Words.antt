@@ -1,15 +1,17 @@
--- How reading keeps what it found in lent words: three words for a fragment; for each block met its address and a mark; the groups; their counts.
+-- Bookkeeping: how reading keeps what it found in lent words: three words for a fragment; for each block met its address and a mark; the groups; their counts.
 use Prim.Native.Nat.{ℕ, _+_}
 use mathlib.Core.List.{List, [], _∷_}
 use Rattle.base.specs.Choice.{ifEq}
 use Rattle.base.specs.Blit.{blit}
 use Rattle.mdf.specs.Chain.{Kind, dt, dv, Fragment}
-use Rattle.mdf.specs.Walk.{Item, dg, cg, cn, address, Source}
+use Rattle.mdf.specs.Walk.{Item, dg, cg, cn, address}
 
+-- a fragment's kind as a word
 abbrev pub kindWord : Kind → ℕ
 kindWord dt = 0
 kindWord dv = 1
 
+-- the kind that a word says
 unfoldable pub kindOf : ℕ → Kind
 kindOf k = ifEq k 0 dt dv
 
@@ -31,6 +33,7 @@ mark (dg a n) = 2 + n
 mark (cg a) = 1
 mark (cn a) = 0
 
+-- of all blocks met, in order: addresses, then marks; then the addresses of the CG alone
 unfoldable pub addressWords : List Item → List ℕ
 addressWords [] = []
 addressWords (i ∷ is) = address i ∷ addressWords is
@@ -55,6 +58,7 @@ groupsAt = 3072
 abbrev pub countsAt : ℕ
 countsAt = 3584
 
+-- the words that all of it needs
 abbrev pub sourceWords : ℕ
 sourceWords = 4096
 

@@ -1,27 +1,25 @@
 -- Laws of what is decided before anything is written.
 use Prim.Native.Nat.{ℕ, _+_, _≤_, _<_}
-use Prim.{Unit, tt}
 use mathlib.Core.List.{List, [], _∷_, _++_}
-use mathlib.Core.Path.{_≡_, refl, sym, ap, subst, _∙_}
+use mathlib.Core.Path.{_≡_, refl, sym, subst, _∙_}
 use native.Mathlib.Omega.{arith}
 use lib.ListN.{length, length-append, replicate}
 use Rattle.base.specs.Blit.{blit}
-use Rattle.base.specs.BlitLaws.{length-blit}
 use Rattle.base.specs.Choice.{ifLt, ifEq}
 use Rattle.base.specs.ChoiceLaws.{lt-yes, lt-no, lt-back, eq-yes, eq-no, eq-first}
 use Rattle.base.specs.Checked.{Checked, ok, refused, andThen, Verdict, fine}
 use Rattle.base.specs.CheckedLaws.{refused≢ok, ok-same, then-ok, then-fine}
 use Rattle.base.specs.Field.{leAt}
-use Rattle.mdf.specs.Identification.{identified, fileMark}
-use Rattle.mdf.specs.Walk.{Source, walk}
+use Rattle.mdf.specs.Identification.{identified}
+use Rattle.mdf.specs.Walk.{walk}
 use Rattle.mdf.specs.Group.{dataGroups}
 use Rattle.mdf.specs.Count.{counts}
 use Rattle.mdf.specs.Words.{countsAt, laidItems, fragmentWords}
-use Rattle.plan.specs.Columns.{SrcGroup, srcGroups, Column, Signal, unsigned, signalData, sizeOfSignal, Plan, plan}
+use Rattle.plan.specs.Columns.{SrcGroup, srcGroups, Column, Signal, unsigned, signalData, sizeOfSignal, plan}
 use Rattle.plan.specs.PlanWords.{fragmentsIn, signalFragments, laidPlan}
 use Rattle.plan.specs.Data.{allDataIn, blocksIn}
 use Rattle.plan.specs.Layout.{Layout, layout}
-use Rattle.result.specs.Result.{Args, Decided, lentIn, version420, decided, workIn, zeros, workLeft}
+use Rattle.result.specs.Result.{Args, Decided, lentIn, decided, workIn, zeros}
 use Rattle.result.specs.Guarantee.{In}
 use Rattle.fields.specs.declared.Check.{Check}
 use Rattle.fields.specs.declared.Check.the-variants as check
@@ -35,7 +33,7 @@ use Rattle.payload_laws.specs.CountLaws.{member}
 use Rattle.payload_laws.specs.ColumnLaws.{ready}
 use Rattle.payload_laws.specs.SignalLaws.{column-signal}
 use Rattle.guarantee.specs.Places.{fragments-few}
-use Rattle.planning.specs.Answer.{Arranged, plannedOf, PlanLeft, planLeft, leftBy, planInto}
+use Rattle.planning.specs.Answer.{Arranged, plannedOf, planLeft, leftBy, planInto}
 use Rattle.planning.specs.declared.recording.Planned as answer
 use Rattle.planning.specs.declared.recording.Planned.the-variants as planned
 use Rattle.placing.specs.declared.layout.Numbers.{Numbers}
@@ -43,8 +41,8 @@ use Rattle.placing.specs.declared.layout.Laid.{Laid}
 use Rattle.placing.specs.declared.layout.Laid.the-variants as laid
 use Rattle.placing.specs.declared.decide.Decision.{Decision}
 use Rattle.placing.specs.declared.decide.Decision.the-variants.{Refused, Done}
-use Rattle.placing.specs.Laying.{Numbered, LaidOut, Lays, LaysOut}
-use Rattle.placing.specs.InWords.{AllWithin, AllBounded}
+use Rattle.placing.specs.Laying.{LaidOut, Lays, LaysOut}
+use Rattle.placing.specs.InWords.{AllWithin}
 use Rattle.placing.specs.BoundedLaws.{Known, all-bounded, plan-within, plan-laid}
 use Rattle.placing.specs.Decision.{untimed, four, rest, DecidedIn, RestIn, RefusedIn, Decides, DecidesRest}
 

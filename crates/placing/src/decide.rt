@@ -10,7 +10,7 @@ use reading::recording::clear;
 ghost use mathlib.Core.Path.{_≡_};
 ghost use mathlib.Core.List.{[]};
 ghost use Prim.Native.Nat.{_≤_};
-ghost use lib.ListN.{length, replicate};
+ghost use lib.ListN.{length};
 ghost use Rattle.fields.specs.Answer.{verdictOf};
 ghost use Rattle.result.specs.Result.{lentIn};
 ghost use Rattle.placing.specs.Decision.{untimed, DecidesRest, Decides};

@@ -12,7 +12,7 @@ use crate::memo::Copying;
 use crate::memo::aligned;
 use blocks::block::link_at;
 ghost use mathlib.Core.Path.{_≡_};
-ghost use Prim.Native.Nat.{_+_, _*_, _≤_, _<_};
+ghost use Prim.Native.Nat.{_+_, _≤_};
 ghost use lib.ListN.{length};
 ghost use Rattle.plan.specs.Layout.{mdSize};
 ghost use Rattle.placing.specs.InWords.{AllWithin};

@@ -1,8 +1,7 @@
 -- A channel of a group: its fields (ASAM MDF 4.2, CNBLOCK), its bytes, when it fits, its invalidation bit (document 01, columns and omissions).
-use Prim.Native.Nat.{ℕ, _+_, _*_, _/_, _%_, _^_}
-use mathlib.Core.List.{List, [], _∷_}
+use Prim.Native.Nat.{ℕ, _+_, _/_, _%_, _^_}
+use mathlib.Core.List.{List}
 use mathlib.Core.Bool.{Bool, true, false}
-use mathlib.Core.Option.{Option, none, some}
 use lib.ListN.{getD}
 use lib.Dec.{eqb, leb, ltb}
 use Rattle.base.specs.Choice.{pick, ifEq}
@@ -10,7 +9,7 @@ use Rattle.base.specs.Field.{leAt}
 use Rattle.mdf.specs.Block.{dataAt}
 use Rattle.mdf.specs.Group.{samples, invalBytes}
 
--- ---- fields of the CN at c
+-- ---- fields of the CN at c (ASAM MDF 4.2, CNBLOCK): type, bit offset, byte offset, bits, flags, position of its invalidation bit
 unfoldable pub channelType : List ℕ → ℕ → ℕ
 channelType s c = leAt 1 s (dataAt s c)
 
@@ -29,10 +28,11 @@ channelFlags s c = leAt 4 s (dataAt s c + 12)
 unfoldable pub invalPosition : List ℕ → ℕ → ℕ
 invalPosition s c = leAt 4 s (dataAt s c + 16)
 
--- bit k of x
+-- bookkeeping: bit k of x
 abbrev pub bit : ℕ → ℕ → ℕ
 bit k x = x / 2 ^ k % 2
 
+-- bookkeeping: "and", "or"
 abbrev pub both : Bool → Bool → Bool
 both a b = pick a b false
 
@@ -48,7 +48,7 @@ channelBytes s c =
 unfoldable pub fits : List ℕ → ℕ → ℕ → Bool
 fits s g c = both (leb (bitOffset s c) 7) (leb (byteOffset s c + channelBytes s c) (samples s g))
 
--- type 2 or 3
+-- "channel of type 2 or 3"
 unfoldable pub isMasterType : List ℕ → ℕ → Bool
 isMasterType s c = either (eqb (channelType s c) 2) (eqb (channelType s c) 3)
 
@@ -58,7 +58,7 @@ keepsInval s g c =
     both (eqb (bit 0 (channelFlags s c)) 0)
     (both (eqb (bit 1 (channelFlags s c)) 1) (ltb (invalPosition s c / 8) (invalBytes s g)))
 
--- data bytes and kept invalidation byte: "Width = data bytes + kept invalidation byte"
+-- "Width = data bytes + kept invalidation byte"
 unfoldable pub width : List ℕ → ℕ → ℕ → ℕ
 width s g c = channelBytes s c + pick (keepsInval s g c) 1 0
 
@@ -66,12 +66,12 @@ width s g c = channelBytes s c + pick (keepsInval s g c) 1 0
 unfoldable pub invalBit : List ℕ → ℕ → ℕ → List ℕ → ℕ
 invalBit s g c r = bit (invalPosition s c % 8) (getD r (samples s g + invalPosition s c / 8) 0)
 
--- how a channel's type is treated: kept, omitted, or stored as type 0
+-- bookkeeping: how a channel's type is treated: kept, omitted, or stored as type 0
 pub data Treatment : Type 0 where
   keep : Treatment
   omit : Treatment
   asFixed : Treatment
 
--- type 4 is omitted, 5 becomes 0, others are kept
+-- "4 type 4" is a reason; 5 becomes 0 (`build_layout`); others are kept
 unfoldable pub treatment : ℕ → Treatment
 treatment t = ifEq t 4 omit (ifEq t 5 asFixed keep)

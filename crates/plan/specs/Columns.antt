@@ -1,22 +1,22 @@
 -- Which columns and omissions a recording gets (document 01, columns and omissions).
-use Prim.Native.Nat.{ℕ, zero, suc, _+_, _*_, _-_}
+use Prim.Native.Nat.{ℕ, _+_}
 use mathlib.Core.List.{List, [], _∷_, _++_}
 use mathlib.Core.Bool.{Bool, true, false}
 use mathlib.Core.Option.{Option, none, some}
 use lib.ListN.{length, drop}
 use lib.Dec.{eqb}
 use Rattle.base.specs.Choice.{pick, ifLt, ifEq}
-use Rattle.base.specs.Checked.{Checked, ok, refused, andThen, Verdict, fine}
-use Rattle.mdf.specs.Block.{kindCG, kindCN, kindAt, linksAt, linkAt, headerIn}
+use Rattle.base.specs.Checked.{Checked, ok, refused, andThen}
+use Rattle.mdf.specs.Block.{kind, kindCG, kindCN, kindAt, linksAt, linkAt, headerIn}
 use Rattle.mdf.specs.Chain.{Fragment, Chain.signal, Found, found, stopped, limits, chain}
 use Rattle.mdf.specs.Group.{Group, DataGroup, groupFlags, isStorage}
 use Rattle.plan.specs.Channel.{channelType, fits, isMasterType, bit, both, Treatment, treatment}
 
--- "##CA"
+-- "CN link 2 leads to CA"
 abbrev pub kindCA : ℕ
-kindCA = 1094918947
+kindCA = kind "C" "A"
 
--- a group with its DG, its number among the DG's groups, and its count of records
+-- bookkeeping: a group with its DG, its number among the DG's groups, and its count of records
 pub record SrcGroup : Type 0 where
   pub dataGroup : DataGroup
   pub number : ℕ
@@ -24,21 +24,21 @@ pub record SrcGroup : Type 0 where
   pub channels : List ℕ
   pub records : ℕ
 
--- the groups of a DG, from number k on, with the counts in front of ns
+-- bookkeeping: the groups of a DG, from number k on, with the counts in front of ns
 unfoldable pub withCounts : DataGroup → ℕ → List Group → List ℕ → List SrcGroup
 withCounts d k [] ns = []
 withCounts d k (g ∷ gs) [] = []
 withCounts d k (g ∷ gs) (n ∷ ns) =
     record { dataGroup = d; number = k; at = g .at; channels = g .channels; records = n } ∷ withCounts d (k + 1) gs ns
 
--- all groups in the order of the walk
+-- "groups in file order": all groups in the order of the walk
 unfoldable pub srcGroups : List DataGroup → List ℕ → List SrcGroup
 srcGroups [] ns = []
 srcGroups (d ∷ ds) ns = withCounts d 0 (d .groups) ns ++ srcGroups ds (drop (length (d .groups)) ns)
 
 -- ---- masters
 
--- the first fitting channel of type 2 or 3
+-- "its first fitting channel of type 2 or 3"
 unfoldable pub firstMaster : List ℕ → ℕ → List ℕ → Option ℕ
 firstMaster s g [] = none
 firstMaster s g (c ∷ cs) = let later = firstMaster s g cs in pick (both (isMasterType s c) (fits s g c)) (some c) later
@@ -51,16 +51,18 @@ masterOf s g = pick (isStorage s (g .at)) none (firstMaster s (g .at) (g .channe
 unfoldable pub remoteLink : List ℕ → ℕ → ℕ
 remoteLink s g = ifEq (bit 3 (groupFlags s g)) 1 (ifLt 6 (linksAt s g) (linkAt s g 6) 0) 0
 
+-- the group at an address
 unfoldable pub groupAt : ℕ → List SrcGroup → Option SrcGroup
 groupAt a [] = none
 groupAt a (g ∷ gs) = let later = groupAt a gs in ifEq (g .at) a (some g) later
 
--- whose master a group has or uses: its own, that of its remote group with as many records, none; or the remote group's counts differ (reason 1)
+-- bookkeeping: whose master a group has or uses: its own, that of its remote group with as many records, none; or the remote group's counts differ (reason 1)
 pub data TimeOf : Type 0 where
   time : SrcGroup → ℕ → TimeOf
   untimed : TimeOf
   differs : TimeOf
 
+-- bookkeeping: what follows a master, or a group, that is there
 abbrev pub onMaster : {A : Type 0} → Option ℕ → A → (ℕ → A) → A
 onMaster none a f = a
 onMaster (some m) a f = f m
@@ -75,17 +77,18 @@ remoteTime s all g =
     onGroup (groupAt (remoteLink s (g .at)) all) untimed (λ t.
     onMaster (masterOf s t) untimed (λ m. ifEq (t .records) (g .records) (time t m) differs))
 
+-- the group's own master first
 unfoldable pub timeOf : List ℕ → List SrcGroup → SrcGroup → TimeOf
 timeOf s all g = let remote = remoteTime s all g in onMaster (masterOf s g) remote (λ m. time g m)
 
 -- ---- columns
 
--- signal data of a type 1 channel: its SD chain's fragments
+-- "Any other nonzero link 6 of type 1 is an SD chain": signal data of a type 1 channel is its fragments
 pub data Signal : Type 0 where
   unsigned : Signal
   signalData : List Fragment → Signal
 
--- a planned column: the group and the channel it comes from, whether it is a time column, the column of its master, its signal data
+-- bookkeeping: a planned column: the group and the channel it comes from, whether it is a time column, the column of its master, its signal data
 pub record Column : Type 0 where
   pub group : SrcGroup
   pub channel : ℕ
@@ -93,47 +96,51 @@ pub record Column : Type 0 where
   pub master : Option ℕ
   pub signalOf : Signal
 
+-- "n addresses, then n reasons": of one omission
 pub record Omission : Type 0 where
   pub at : ℕ
   pub reason : ℕ
 
--- what is planned so far, and the fragments found so far in the image
+-- bookkeeping: what is planned so far, and the fragments found so far in the image
 pub record Plan : Type 0 where
   pub columns : List Column
   pub omissions : List Omission
   pub fragments : ℕ
 
+-- bookkeeping: a column more, with n fragments of signal data; an omission more
 abbrev pub withColumn : Column → ℕ → Plan → Plan
 withColumn c n p = record { columns = p .columns ++ (c ∷ []); omissions = p .omissions; fragments = p .fragments + n }
 
 abbrev pub withOmission : ℕ → ℕ → Plan → Plan
 withOmission a r p = record { columns = p .columns; omissions = p .omissions ++ (record { at = a; reason = r } ∷ []); fragments = p .fragments }
 
--- the number of the time column of the group at g, counted from k
+-- "where first needed": the number of the time column of the group at g, counted from k, if it is planned already
 unfoldable pub timeColumn : ℕ → ℕ → List Column → Option ℕ
 timeColumn g k [] = none
 timeColumn g k (c ∷ cs) = let later = timeColumn g (k + 1) cs in pick (both (c .isTime) (eqb (c .group .at) g)) (some k) later
 
--- "A time column is planned where first needed": the plan with it
+-- bookkeeping: the new plan where no column was found, else the old one
 abbrev pub onPlanned : Option ℕ → Plan → Plan → Plan
 onPlanned none new old = new
 onPlanned (some k) new old = old
 
+-- "A time column is planned where first needed": the plan with the time column of group t, made of its master m
 unfoldable pub withTime : SrcGroup → ℕ → Plan → Plan
 withTime t m p =
     onPlanned (timeColumn (t .at) 0 (p .columns))
     (withColumn (record { group = t; channel = m; isTime = true; master = none; signalOf = unsigned }) 0 p) p
 
--- what a channel other than its group's master becomes
+-- bookkeeping: what a channel other than its group's master becomes
 pub data Decision : Type 0 where
   omitted : ℕ → Decision
   kept : Signal → Decision
 
--- "7 type 1 whose CN link 6 leads to a CG. Any other nonzero link 6 of type 1 is an SD chain"; n fragments were found before
+-- bookkeeping: a channel kept with the fragments of its SD chain
 abbrev pub keptSignal : Found → Checked Decision
 keptSignal (found fs) = ok (kept (signalData fs))
 keptSignal (stopped number place fs) = refused number place
 
+-- "7 type 1 whose CN link 6 leads to a CG. Any other nonzero link 6 of type 1 is an SD chain"; n fragments were found before
 unfoldable pub decideSignal : List ℕ → ℕ → ℕ → Checked Decision
 decideSignal s n c =
     let sd = andThen (headerIn s (linkAt s c 5)) (λ _.
@@ -148,6 +155,7 @@ decideComposition s n c =
     ifEq (kindAt s (linkAt s c 1)) kindCA (ok (omitted 5)) (ifEq (kindAt s (linkAt s c 1)) kindCN (ok (omitted 6)) signals)) in
     ifEq (linkAt s c 1) 0 signals led
 
+-- bookkeeping: a where the type is kept, b where it is omitted
 abbrev pub onTreatment : {A : Type 0} → Treatment → A → A → A
 onTreatment Treatment.keep a b = a
 onTreatment Treatment.omit a b = b
@@ -160,10 +168,12 @@ decide s n g c =
     let typed = onTreatment (treatment (channelType s c)) rest (ok (omitted 4)) in
     pick (fits s g c) (pick (isMasterType s c) (ok (omitted 3)) typed) (ok (omitted 2))
 
+-- bookkeeping: the fragments of a column's signal data
 abbrev pub sizeOfSignal : Signal → ℕ
 sizeOfSignal unsigned = 0
 sizeOfSignal (signalData fs) = length fs
 
+-- bookkeeping: the plan with what was decided of channel c
 abbrev pub decided : SrcGroup → Option ℕ → ℕ → Plan → Decision → Plan
 decided g m c p (omitted r) = withOmission c r p
 decided g m c p (kept d) = withColumn (record { group = g; channel = c; isTime = false; master = m; signalOf = d }) (sizeOfSignal d) p
@@ -176,7 +186,7 @@ planChannels s g own m (c ∷ cs) p =
     let next = planChannels s g own m cs p in
     ifEq c own next here
 
--- no channel has address 0
+-- bookkeeping: the group's own master, 0 for none: no channel has address 0
 abbrev pub ownMaster : Option ℕ → ℕ
 ownMaster none = 0
 ownMaster (some m) = m
@@ -189,15 +199,16 @@ planTimed s g (time t m) p =
 planTimed s g untimed p = planChannels s g (ownMaster (masterOf s g)) none (g .channels) p
 planTimed s g differs p = planChannels s g (ownMaster (masterOf s g)) none (g .channels) (withOmission (g .at) 1 p)
 
--- a group: nothing of a VLSD storage group
+-- "VLSD storage groups (flag bit 0) have no master and no column."
 unfoldable pub planGroup : List ℕ → List SrcGroup → SrcGroup → Plan → Checked Plan
 planGroup s all g p = let here = planTimed s g (timeOf s all g) p in pick (isStorage s (g .at)) (ok p) here
 
+-- bookkeeping: group by group
 unfoldable pub planGroups : List ℕ → List SrcGroup → List SrcGroup → Plan → Checked Plan
 planGroups s all [] p = ok p
 planGroups s all (g ∷ gs) p = andThen (planGroup s all g p) (λ q. planGroups s all gs q)
 
--- planning: the groups in the order of the walk; n fragments were found in the walk
+-- "planning's order (groups in file order)"; n fragments were found in the walk
 unfoldable pub plan : List ℕ → ℕ → List SrcGroup → Checked Plan
 plan s n all = planGroups s all all (record { columns = []; omissions = []; fragments = n })
 
@@ -206,9 +217,11 @@ unfoldable pub omissionAddresses : List Omission → List ℕ
 omissionAddresses [] = []
 omissionAddresses (o ∷ os) = o .at ∷ omissionAddresses os
 
+-- then the reasons
 unfoldable pub omissionReasons : List Omission → List ℕ
 omissionReasons [] = []
 omissionReasons (o ∷ os) = o .reason ∷ omissionReasons os
 
+-- the whole list
 unfoldable pub omissionWords : List Omission → List ℕ
 omissionWords os = length os ∷ (omissionAddresses os ++ omissionReasons os)

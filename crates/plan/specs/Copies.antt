@@ -8,42 +8,44 @@ use lib.Dec.{eqb}
 use Rattle.base.specs.Choice.{pick, ifLt, ifEq}
 use Rattle.base.specs.Field.{leAt}
 use Rattle.base.specs.Checked.{Checked, ok, refused, andThen, Verdict, fine}
-use Rattle.mdf.specs.Block.{kindTX, kindMD, kindAt, sizeAt, linksAt, linkAt, firstLink, headerIn, wholeAt, mostBytes}
+use Rattle.mdf.specs.Block.{kind, kindTX, kindMD, kindAt, sizeAt, linksAt, linkAt, firstLink, headerIn, wholeAt, mostBytes}
 use Rattle.mdf.specs.Chain.{isIn}
 use Rattle.plan.specs.Geometry.{align8}
-use Rattle.plan.specs.Columns.{SrcGroup, Column}
+use Rattle.plan.specs.Columns.{Column}
 
+-- kinds that are copied beside TX and MD, and attachments
 abbrev pub kindCC : ℕ
-kindCC = 1128473379
+kindCC = kind "C" "C"
 
 abbrev pub kindSI : ℕ
-kindSI = 1230185251
+kindSI = kind "S" "I"
 
 abbrev pub kindFH : ℕ
-kindFH = 1212556067
+kindFH = kind "F" "H"
 
 abbrev pub kindAT : ℕ
-kindAT = 1413554979
+kindAT = kind "A" "T"
 
--- a copied block: where it stood and where it is placed
+-- bookkeeping: a copied block: where it stood and where it is placed
 pub record Copy : Type 0 where
   pub from : ℕ
   pub to : ℕ
 
--- the blocks copied so far, in the order of their places, and the end of what is placed
+-- bookkeeping: the blocks copied so far, in the order of their places, and the end of what is placed
 pub record Copies : Type 0 where
   pub memo : List Copy
   pub next : ℕ
 
+-- bookkeeping: the two together
 abbrev pub copies : List Copy → ℕ → Copies
 copies m n = record { memo = m; next = n }
 
--- the place of the copy of a, none where it isn't copied
+-- "already copied": the place of the copy of a, none where it isn't
 unfoldable pub copyOf : ℕ → List Copy → Option ℕ
 copyOf a [] = none
 copyOf a (c ∷ cs) = let later = copyOf a cs in ifEq (c .from) a (some (c .to)) later
 
--- a block of so many bytes more
+-- "each block at the next multiple of 8": a block of so many bytes more
 unfoldable pub placed : ℕ → ℕ → Copies → Copies
 placed a size m = copies (m .memo ++ (record { from = a; to = align8 (m .next) } ∷ [])) (align8 (m .next) + size)
 
@@ -56,7 +58,7 @@ isCopied k =
 unfoldable pub lostLinks : List ℕ → ℕ → ℕ
 lostLinks s a = ifEq (kindAt s a) kindFH 1 0
 
--- the links that stand at p, so many of them, each followed by the step
+-- bookkeeping: the links that stand at p, so many of them, each followed by the step
 unfoldable pub copyLinks : (ℕ → Copies → Checked Copies) → List ℕ → ℕ → ℕ → Copies → Checked Copies
 copyLinks step s zero p m = ok m
 copyLinks step s (suc links) p m = andThen (step (leAt 8 s p) m) (λ m'. copyLinks step s links (p + 8) m')
@@ -65,6 +67,7 @@ copyLinks step s (suc links) p m = andThen (step (leAt 8 s p) m) (λ m'. copyLin
 abbrev pub mostCopies : ℕ
 mostCopies = 2048
 
+-- bookkeeping: new where no copy was found, else nothing more is copied
 abbrev pub onCopy : Option ℕ → Copies → Checked Copies → Checked Copies
 onCopy none m new = new
 onCopy (some a) m new = ok m
@@ -80,25 +83,27 @@ copyAt (suc left) s way a m =
     let new = pick (isIn a way) (refused 16 a) read in
     ifEq a 0 (ok m) (onCopy (copyOf a (m .memo)) m new)
 
+-- "depth 65 is refused"
 abbrev pub depth : ℕ
 depth = 65
 
--- a block that a link leads to, from outside of any copied block
+-- "Depth starts at 0": a block that a link leads to, from outside of any copied block
 unfoldable pub copyRoot : List ℕ → ℕ → Copies → Checked Copies
 copyRoot s a m = copyAt depth s [] a m
 
--- several links, in order
+-- bookkeeping: several links, in order
 unfoldable pub copyRoots : List ℕ → List ℕ → Copies → Checked Copies
 copyRoots s [] m = ok m
 copyRoots s (a ∷ as') m = andThen (copyRoot s a m) (λ m'. copyRoots s as' m')
 
 -- ---- history: "History and attachment chains that return to an earlier block end quietly, also a history chain at a kind not copied"
 
--- the blocks of the history chain, and the copies
+-- bookkeeping: the blocks of the history chain, and the copies
 pub record History : Type 0 where
   pub chain : List ℕ
   pub made : Copies
 
+-- bookkeeping: the two together
 abbrev pub history : List ℕ → Copies → History
 history l m = record { chain = l; made = m }
 
@@ -111,7 +116,7 @@ historyFrom (suc turns) s a h =
     let unseen = andThen (wholeAt s a) (λ _. pick (isCopied (kindAt s a)) linked (ok h)) in
     ifEq a 0 (ok h) (pick (isIn a (h .chain)) (ok h) unseen)
 
--- each block of the chain is copied once, so there are at most as many as copies
+-- "history chain": the whole of it; each block of it is copied once, so there are at most as many as copies
 unfoldable pub historyOf : List ℕ → ℕ → Copies → Checked History
 historyOf s a m = historyFrom (mostCopies + 1) s a (history [] m)
 
@@ -122,25 +127,29 @@ columnLinks s c =
     ∷ linkAt s (c .channel) 2 ∷ linkAt s (c .channel) 3 ∷ linkAt s (c .channel) 4 ∷ linkAt s (c .channel) 6 ∷ linkAt s (c .channel) 7
     ∷ linkAt s (c .group .dataGroup .at) 3 ∷ []
 
+-- "per column", column by column
 unfoldable pub columnCopies : List ℕ → List Column → Copies → Checked Copies
 columnCopies s [] m = ok m
 columnCopies s (c ∷ cs) m = andThen (copyRoots s (columnLinks s c) m) (λ m'. columnCopies s cs m')
 
 -- ---- attachments: "attachments, each after the blocks newly copied for it"; at most 64
 
--- a moved AT: where it stood, where it is placed, and the copies made for it
+-- bookkeeping: a moved AT: where it stood, where it is placed, and the copies made for it
 pub record Attachment : Type 0 where
   pub from : ℕ
   pub to : ℕ
   pub own : List Copy
 
+-- bookkeeping: the attachments so far, and the copies
 pub record Attached : Type 0 where
   pub attachments : List Attachment
   pub made : Copies
 
+-- "64 attachments"
 abbrev pub mostAttachments : ℕ
 mostAttachments = 64
 
+-- "attachment chains that return to an earlier block end quietly": a was met
 unfoldable pub isAttached : ℕ → List Attachment → Bool
 isAttached a [] = false
 isAttached a (t ∷ ts) = let more = isAttached a ts in pick (eqb (t .from) a) true more
@@ -153,7 +162,7 @@ attachmentIn s a =
     (ifLt mostBytes (24 + 8 * linksAt s a) (refused 18 a)
     (ifLt (length s) (a + sizeAt s a) (refused 4 a) fine)))
 
--- the AT at a, after the blocks that its links from the second on lead to
+-- "each after the blocks newly copied for it": the AT at a, after the blocks that its links from the second on lead to
 unfoldable pub attach : ℕ → ℕ → Copies → Copies → Attached → Attached
 attach a size before m t =
     record {
@@ -161,6 +170,7 @@ attach a size before m t =
       made = copies (m .memo) (align8 (align8 (m .next) + size));
     }
 
+-- "attachments (header, 18, whole range, 19, links)"; "an attachment chain at a kind other than AT" ends quietly. More turns than attachments
 unfoldable pub attachmentsFrom : ℕ → List ℕ → ℕ → Attached → Checked Attached
 attachmentsFrom zero s a t = ok t
 attachmentsFrom (suc turns) s a t =
@@ -171,6 +181,6 @@ attachmentsFrom (suc turns) s a t =
     let unseen = andThen (headerIn s a) (λ _. ifEq (kindAt s a) kindAT checked (ok t)) in
     ifEq a 0 (ok t) (pick (isAttached a (t .attachments)) (ok t) unseen)
 
--- the attachment chain from a on, with what is placed before it
+-- the attachment chain that HD link 4 leads to, with what is placed before it
 unfoldable pub attachmentsOf : List ℕ → ℕ → Copies → Checked Attached
 attachmentsOf s a m = attachmentsFrom (mostAttachments + 2) s a (record { attachments = []; made = m })

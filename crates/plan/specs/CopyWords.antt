@@ -1,9 +1,9 @@
--- How placing keeps copies, attachments, the history chain and the places of columns in lent words.
-use Prim.Native.Nat.{ℕ, _+_}
-use mathlib.Core.List.{List, [], _∷_, _++_}
+-- Bookkeeping: how placing keeps copies, attachments, the history chain and the places of columns in lent words.
+use Prim.Native.Nat.{ℕ}
+use mathlib.Core.List.{List, [], _∷_}
 use lib.ListN.{length}
 use Rattle.base.specs.Blit.{blit}
-use Rattle.plan.specs.Copies.{Copy, Copies, History, Attachment, Attached}
+use Rattle.plan.specs.Copies.{Copy, Attachment}
 use Rattle.plan.specs.Layout.{Placed, Layout}
 
 -- two words for a copy: where it stood, where it is placed
@@ -16,10 +16,11 @@ unfoldable pub attachmentWords : List Attachment → List ℕ
 attachmentWords [] = []
 attachmentWords (t ∷ ts) = t .from ∷ t .to ∷ length (t .own) ∷ attachmentWords ts
 
--- copies from 0 on; attachments and the history chain from here on
+-- copies from 0 on; attachments from here on
 abbrev pub attachmentsAt : ℕ
 attachmentsAt = 4096
 
+-- the history chain
 abbrev pub historyAt : ℕ
 historyAt = 4352
 
@@ -27,10 +28,12 @@ historyAt = 4352
 abbrev pub placedAt : ℕ
 placedAt = 6656
 
+-- of all columns
 unfoldable pub placedWords : List Placed → List ℕ
 placedWords [] = []
 placedWords (p ∷ ps) = p .dg ∷ p .first ∷ p .sd ∷ placedWords ps
 
+-- all of it laid over words
 unfoldable pub laidCopies : Layout → List ℕ → List ℕ
 laidCopies l w =
     blit placedAt (placedWords (l .placed)) (blit historyAt (l .past .chain)

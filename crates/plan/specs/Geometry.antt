@@ -1,9 +1,8 @@
 -- The data blocks of a column: records per block, their number and lengths (document 01, placement).
 use Prim.Native.Nat.{ℕ, _+_, _*_, _-_, _/_, _%_, max}
-use mathlib.Core.List.{List}
 use Rattle.base.specs.Choice.{ifLe, ifEq}
 
--- the next multiple of 8
+-- "the next multiple of 8"
 unfoldable pub align8 : ℕ → ℕ
 align8 x = (x + 7) / 8 * 8
 
@@ -19,7 +18,7 @@ stepOf w = 8 / powerIn w
 unfoldable pub perBlock : ℕ → ℕ → ℕ
 perBlock size w = max (stepOf w) (size / w / stepOf w * stepOf w)
 
--- the payload of a block with as many records as may be
+-- "full payload": that of a block with as many records as may be
 unfoldable pub fullPayload : ℕ → ℕ → ℕ
 fullPayload size w = perBlock size w * w
 
@@ -31,6 +30,6 @@ blockCount size w n = ifEq (w * n) 0 0 ((n + perBlock size w - 1) / perBlock siz
 unfoldable pub perFull : ℕ → ℕ → ℕ → ℕ
 perFull size w n = ifLe n (perBlock size w) n (perBlock size w)
 
--- the DL's payload: that of a block that is not the last, or of the only one
+-- "64-bit payload" of the DL: that of a block that is not the last, or of the only one
 unfoldable pub blockPayload : ℕ → ℕ → ℕ → ℕ
 blockPayload size w n = perFull size w n * w

@@ -1,23 +1,21 @@
 -- Where every block of the result is placed (document 01, placement): "From 168, each block at the next multiple of 8: HD comment; history chain; MD with
 -- the lent history text ..; a new FH ..; per column the copies ..; Then per column DG 64, CG 104 (112 with a master), CN 160, and if it has n blocks
 -- DL 24 + 8(n + 1) + 16 bytes. Then per column its blocks, 24 + payload apart, and its SD; then attachments, each after the blocks newly copied for it."
-use Prim.Native.Nat.{ℕ, zero, suc, _+_, _*_, _-_}
-use mathlib.Core.List.{List, [], _∷_, _++_}
-use mathlib.Core.Bool.{Bool, true, false}
+use Prim.Native.Nat.{ℕ, _+_, _*_}
+use mathlib.Core.List.{List, [], _∷_}
 use mathlib.Core.Option.{Option, none, some}
-use lib.ListN.{length, drop}
-use Rattle.base.specs.Choice.{pick, ifEq}
-use Rattle.base.specs.Checked.{Checked, ok, refused, andThen}
+use Rattle.base.specs.Choice.{ifEq}
+use Rattle.base.specs.Checked.{Checked, ok, andThen}
 use Rattle.mdf.specs.Block.{linkAt}
-use Rattle.mdf.specs.Chain.{Fragment}
 use Rattle.mdf.specs.Records.{sizeOf}
 use Rattle.plan.specs.Channel.{width}
-use Rattle.plan.specs.Columns.{SrcGroup, Column, Signal, unsigned, signalData}
+use Rattle.plan.specs.Columns.{Column, Signal, unsigned, signalData}
 use Rattle.plan.specs.Geometry.{align8, blockCount}
-use Rattle.plan.specs.Copies.{Copy, Copies, copies, copyRoot, History, historyOf, columnCopies, Attachment, Attached, attachmentsOf}
+use Rattle.plan.specs.Copies.{Copies, copies, copyRoot, History, historyOf, columnCopies, Attached, attachmentsOf}
 
 -- ---- one column
 
+-- its width
 unfoldable pub columnWidth : List ℕ → Column → ℕ
 columnWidth s c = width s (c .group .at) (c .channel)
 
@@ -25,44 +23,47 @@ columnWidth s c = width s (c .group .at) (c .channel)
 unfoldable pub columnBlocks : List ℕ → ℕ → Column → ℕ
 columnBlocks s size c = blockCount size (columnWidth s c) (c .group .records)
 
+-- the links of its CG: six, "seventh link" with a master
 abbrev pub cgLinks : Option ℕ → ℕ
 cgLinks none = 6
 cgLinks (some m) = 7
 
+-- "CG 104 (112 with a master)"
 abbrev pub cgSize : Option ℕ → ℕ
 cgSize none = 104
 cgSize (some m) = 112
 
--- no DL without blocks
+-- "if it has n blocks DL 24 + 8(n + 1) + 16 bytes"
 unfoldable pub dlSize : ℕ → ℕ
 dlSize n = ifEq n 0 0 (24 + 8 * (n + 1) + 16)
 
--- DG, CG, CN and DL of a column
+-- "DG 64, CG 104 (112 with a master), CN 160, and .. DL" together
 unfoldable pub structureSize : List ℕ → ℕ → Column → ℕ
 structureSize s size c = 64 + cgSize (c .master) + 160 + dlSize (columnBlocks s size c)
 
--- all bytes of its records
+-- "payload bytes": all bytes of its records
 unfoldable pub payloadSize : List ℕ → Column → ℕ
 payloadSize s c = columnWidth s c * c .group .records
 
--- past its data blocks, which begin at d
+-- "its blocks, 24 + payload apart": past them, which begin at d
 unfoldable pub blocksEnd : List ℕ → ℕ → Column → ℕ → ℕ
 blocksEnd s size c d = align8 (d + (24 * columnBlocks s size c + payloadSize s c))
 
--- past its SD, which begins at d
+-- "and its SD": past it, which begins at d
 abbrev pub signalEnd : Signal → ℕ → ℕ
 signalEnd unsigned d = d
 signalEnd (signalData fs) d = align8 (d + (24 + sizeOf fs))
 
 -- ---- all columns
 
--- a column and the places of its DG, of its first data block and of its SD; CG, CN and DL follow the DG
+-- bookkeeping: a column and the places of its DG, of its first data block and of its SD; CG, CN and DL follow the DG
 pub record Placed : Type 0 where
   pub column : Column
   pub dg : ℕ
   pub first : ℕ
   pub sd : ℕ
 
+-- "per column DG 64, CG .., CN 160, and .. DL": where CG, CN and DL begin
 abbrev pub cgOf : Placed → ℕ
 cgOf p = p .dg + 64
 
@@ -72,29 +73,30 @@ cnOf p = cgOf p + cgSize (p .column .master)
 abbrev pub dlOf : Placed → ℕ
 dlOf p = cnOf p + 160
 
--- from a on the blocks that make up columns, from d on their data
+-- "Then per column DG ..; Then per column its blocks .. and its SD": from a on the blocks that make up columns, from d on their data
 unfoldable pub placedFrom : List ℕ → ℕ → ℕ → ℕ → List Column → List Placed
 placedFrom s size a d [] = []
 placedFrom s size a d (c ∷ cs) =
     record { column = c; dg = a; first = d; sd = blocksEnd s size c d }
     ∷ placedFrom s size (a + structureSize s size c) (signalEnd (c .signalOf) (blocksEnd s size c d)) cs
 
--- past the blocks that make up columns
+-- "the metadata's end": past the blocks that make up columns
 unfoldable pub structureEnd : List ℕ → ℕ → ℕ → List Column → ℕ
 structureEnd s size a [] = a
 structureEnd s size a (c ∷ cs) = structureEnd s size (a + structureSize s size c) cs
 
--- past the data of columns
+-- bookkeeping: past the data of columns
 unfoldable pub dataEnd : List ℕ → ℕ → ℕ → List Column → ℕ
 dataEnd s size d [] = d
 dataEnd s size d (c ∷ cs) = dataEnd s size (signalEnd (c .signalOf) (blocksEnd s size c d)) cs
 
 -- ---- the file
 
--- the bytes of the MD with a text of n bytes, "a zero byte and padding to a multiple of 8"
+-- "MD with the lent history text, a zero byte and padding to a multiple of 8"
 unfoldable pub mdSize : ℕ → ℕ
 mdSize n = align8 (24 + n + 1)
 
+-- bookkeeping: the places of everything, and the copies after each stage
 pub record Layout : Type 0 where
   pub comment : Copies  -- after the HD comment
   pub past : History  -- after the history chain
@@ -106,18 +108,19 @@ pub record Layout : Type 0 where
   pub attached : Attached
   pub fileSize : ℕ
 
--- the new MD after the copies, and the new FH, 56 bytes, after that
+-- "each block at the next multiple of 8": the new MD after the copies
 unfoldable pub mdPlace : Copies → ℕ
 mdPlace m = align8 (m .next)
 
+-- the new FH after it
 unfoldable pub fhPlace : Copies → ℕ → ℕ
 fhPlace m n = mdPlace m + mdSize n
 
--- where the columns' DG, CG, CN and DL begin, and where they end
+-- where the columns' DG, CG, CN and DL begin: after the columns' copies
 unfoldable pub structurePlace : Copies → ℕ
 structurePlace m = align8 (m .next)
 
--- metadata, then attachments: their refusals in document 01's order; n bytes of history text
+-- "metadata; attachments": the places, and the refusals in document 01's order; n bytes of history text
 unfoldable pub layout : List ℕ → ℕ → ℕ → List Column → Checked Layout
 layout s size n cs =
     andThen (copyRoot s (linkAt s 64 5) (copies [] 168)) (λ m0.

@@ -1,12 +1,13 @@
--- How planning keeps columns and omissions in lent words: eight words for a column, two for an omission, and the signal data's fragments after the walk's.
+-- Bookkeeping: how planning keeps columns and omissions in lent words: eight words for a column, two for an omission, and the signal data's fragments after the walk's.
 use Prim.Native.Nat.{ℕ, _+_}
 use mathlib.Core.List.{List, [], _∷_, _++_}
 use mathlib.Core.Bool.{Bool, true, false}
 use mathlib.Core.Option.{Option, none, some}
 use Rattle.base.specs.Blit.{blit}
 use Rattle.mdf.specs.Chain.{Fragment}
-use Rattle.plan.specs.Columns.{SrcGroup, Column, Signal, unsigned, signalData, sizeOfSignal, Omission, Plan}
+use Rattle.plan.specs.Columns.{Column, Signal, unsigned, signalData, sizeOfSignal, Omission, Plan}
 
+-- 1 for a time column
 abbrev pub timeWord : Bool → ℕ
 timeWord true = 1
 timeWord false = 0
@@ -27,19 +28,22 @@ columnWords n c =
     c .channel ∷ c .group .at ∷ c .group .dataGroup .at ∷ c .group .records ∷ timeWord (c .isTime) ∷ masterWord (c .master)
     ∷ signalWord n (c .signalOf) ∷ sizeOfSignal (c .signalOf) ∷ []
 
+-- of all columns
 unfoldable pub columnsWords : ℕ → List Column → List ℕ
 columnsWords n [] = []
 columnsWords n (c ∷ cs) = columnWords n c ++ columnsWords (n + sizeOfSignal (c .signalOf)) cs
 
+-- address and reason of each omission
 unfoldable pub omissionPairs : List Omission → List ℕ
 omissionPairs [] = []
 omissionPairs (o ∷ os) = o .at ∷ o .reason ∷ omissionPairs os
 
--- the signal data's fragments of all columns, in order
+-- the fragments of a column's signal data
 abbrev pub fragmentsIn : Signal → List Fragment
 fragmentsIn unsigned = []
 fragmentsIn (signalData fs) = fs
 
+-- the same of all columns, in order
 unfoldable pub signalFragments : List Column → List Fragment
 signalFragments [] = []
 signalFragments (c ∷ cs) = fragmentsIn (c .signalOf) ++ signalFragments cs

@@ -1,5 +1,4 @@
 -- Groups whose DG is only its address: planning reads no more of it.
-use Prim.Native.Nat.{ℕ}
 use mathlib.Core.List.{List, [], _∷_}
 use mathlib.Core.Option.{Option, none, some}
 use Rattle.base.specs.Checked.{Checked, ok, refused}

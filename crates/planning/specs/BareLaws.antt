@@ -1,17 +1,16 @@
 -- Planning with bare groups gives the plan with bare columns, and the same words.
-use Prim.Native.Nat.{ℕ, suc, _+_}
+use Prim.Native.Nat.{ℕ, _+_}
 use mathlib.Core.List.{List, [], _∷_, _++_}
 use mathlib.Core.Bool.{Bool, true, false}
 use mathlib.Core.Option.{Option, none, some}
-use mathlib.Core.Path.{_≡_, refl, sym, ap, _∙_}
+use mathlib.Core.Path.{_≡_, refl, ap, _∙_}
 use lib.Dec.{eqb}
-use lib.ListN.{length}
 use Rattle.base.specs.Choice.{pick, ifEq}
 use Rattle.base.specs.Checked.{Checked, ok, refused, andThen}
 use Rattle.mdf.specs.Group.{isStorage}
 use Rattle.plan.specs.Columns.{SrcGroup, Column, Plan, unsigned, onPlanned, Decision, omitted, kept, TimeOf, time, untimed, differs, masterOf, groupAt, remoteLink, onGroup, onMaster, remoteTime, timeOf, timeColumn, withColumn, withOmission, withTime, decide, decided, ownMaster, planChannels, planTimed, planGroup, planGroups, plan, sizeOfSignal}
 use Rattle.plan.specs.PlanWords.{columnWords, columnsWords, signalFragments, laidPlan}
-use Rattle.plan.specs.Data.{isNonempty, anyNonempty, signalIn, signalsIn, blocksIn}
+use Rattle.plan.specs.Data.{isNonempty, anyNonempty, signalsIn, blocksIn}
 use Rattle.planning.specs.Bare.{bare, bares, bareColumn, bareColumns, barePlan, bareChecked, bareGroup, bareTime}
 
 group-bare : (a : ℕ) (gs : List SrcGroup) → groupAt a (bares gs) ≡ bareGroup (groupAt a gs)

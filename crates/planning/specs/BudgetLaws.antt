@@ -1,19 +1,18 @@
 -- Time columns in a list that grows, and the groups that wait for one.
-use Prim.Native.Nat.{ℕ, zero, suc, _+_, _*_, _-_, _≤_, _<_}
+use Prim.Native.Nat.{ℕ, suc, _+_, _-_, _≤_}
 use mathlib.Core.List.{List, [], _∷_, _++_}
 use mathlib.Core.Bool.{Bool, true, false}
 use mathlib.Core.Option.{Option, none, some}
-use mathlib.Core.Path.{_≡_, refl, sym, ap, _∙_}
+use mathlib.Core.Path.{_≡_, refl, sym, ap}
 use native.Mathlib.Nat.{le-refl}
 use native.Mathlib.Omega.{arith}
-use lib.ListN.{length, length-append}
+use lib.ListN.{length}
 use lib.Dec.{eqb}
 use borrow.Author.Tests.{eq-eqb}
 use Rattle.base.specs.Choice.{pick}
 use Rattle.plan.specs.Channel.{both}
 use Rattle.plan.specs.Columns.{SrcGroup, Column, masterOf, timeColumn}
 use Rattle.result.specs.Guarantee.{In, here, there}
-use Rattle.plan_laws.specs.Answers.{pick-cases}
 use Rattle.plan_laws.specs.DecideLaws.{none≢some}
 use Rattle.planning.specs.Timing.{lack, waiting}
 

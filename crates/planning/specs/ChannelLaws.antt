@@ -1,20 +1,19 @@
 -- Laws of planning the channels of a group, one for each way of the code.
-use Prim.{Unit, tt}
-use Prim.Native.Nat.{ℕ, zero, suc, _+_, _*_, _-_, _≤_, _<_}
+use Prim.{tt}
+use Prim.Native.Nat.{ℕ, _+_, _*_, _-_, _≤_, _<_}
 use mathlib.Core.List.{List, [], _∷_}
 use mathlib.Core.Bool.{Bool, true, false}
-use mathlib.Core.Option.{Option, none, some}
+use mathlib.Core.Option.{Option}
 use mathlib.Core.Path.{_≡_, refl, sym, ap, _∙_}
-use native.Mathlib.Nat.{add-zero, zero-add}
+use native.Mathlib.Nat.{zero-add}
 use native.Mathlib.Omega.{arith}
-use lib.ListN.{length, getD}
+use lib.ListN.{getD}
 use Rattle.base.specs.Choice.{ifEq}
 use Rattle.base.specs.ChoiceLaws.{eq-yes, eq-no}
 use Rattle.base.specs.Blit.{blit}
 use Rattle.base.specs.Checked.{Checked, ok, refused, andThen}
 use Rattle.chains.specs.Kept.{kept}
-use Rattle.chains.specs.KeptLaws.{kept-none}
-use Rattle.plan.specs.Columns.{SrcGroup, Plan, Signal, unsigned, signalData, sizeOfSignal, omitted, decide, decided, planChannels, withColumn, withOmission}
+use Rattle.plan.specs.Columns.{SrcGroup, Plan, Signal, unsigned, signalData, sizeOfSignal, omitted, decide, decided, planChannels}
 use Rattle.plan.specs.Columns as columns
 use Rattle.plan.specs.PlanWords.{masterWord, signalWord, columnWords, fragmentsIn}
 use Rattle.plan_laws.specs.DecideLaws.{decide-kept, signal-few}
@@ -23,10 +22,10 @@ use Rattle.planning.specs.declared.decide.Decision.the-variants.{Omitted
 use Rattle.planning.specs.declared.decide.Decision.the-variants as decisions
 use Rattle.planning.specs.declared.column.Progress.{Progress}
 use Rattle.planning.specs.declared.column.Progress.the-variants.{Refused, Done}
-use Rattle.planning.specs.Decided.{Left, stops, leaves, left, isSigned, laidDecision}
+use Rattle.planning.specs.Decided.{stops, leaves, left, isSigned, laidDecision}
 use Rattle.planning.specs.Items.{groupOf, channelsIn}
 use Rattle.planning.specs.ItemLaws.{channels-end, channels-next, channels-over}
-use Rattle.planning.specs.Planning.{signalIf, Base, Held, Went, gives, Gives, within, others, ChannelPlan, ChannelsPlan}
+use Rattle.planning.specs.Planning.{signalIf, Base, Held, gives, Gives, within, others, ChannelPlan, ChannelsPlan}
 use Rattle.planning.specs.HeldLaws.{held-column, held-omission}
 
 -- ---- a decision back from what the code left
@@ -132,10 +131,6 @@ module _ (s : List ℕ) (g d records master c nc no nf : ℕ) (w f : List ℕ) (
       kept-plan s g d records master c nc no nf w f (k .signal) (k .is) (k .sign) (k .counted) (k .words) (channel-bounds q t .1) y u
 
 -- ---- the channels: what is left of them gives what all of them give
-none-others : (own : ℕ) → others own [] ≡ 0
-unfolding others
-none-others own = refl
-
 pub others-own : (own : ℕ) (cs : List ℕ) → others own (own ∷ cs) ≡ others own cs
 unfolding others
 others-own own cs = let e : _≡_ {A = ℕ} 0 (ifEq own own 0 1) = eq-yes _ _ _ _ refl refl in rw (← e) (zero-add _)

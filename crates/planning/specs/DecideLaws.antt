@@ -1,19 +1,17 @@
 -- The ways through a decision, one law for each way of the code.
-use Prim.{Unit, tt}
-use Prim.Native.Nat.{ℕ, _+_}
-use mathlib.Core.List.{List, []}
-use mathlib.Core.Path.{_≡_, refl, sym, ap, _∙_}
+use Prim.Native.Nat.{ℕ}
+use mathlib.Core.List.{List}
+use mathlib.Core.Path.{_≡_, refl, sym, _∙_}
 use mathlib.Core.Bool.{Bool, true, false, not}
 use native.Mathlib.Nat.{add-zero}
 use native.Mathlib.Omega.{arith}
-use borrow.Author.Tests.{eq-eqb, ne-eqb}
-use lib.ListN.{length}
+use borrow.Author.Tests.{ne-eqb}
 use lib.Dec.{eqb}
 use Rattle.base.specs.Choice.{pick, ifEq}
 use Rattle.base.specs.ChoiceLaws.{eq-yes, eq-no}
-use Rattle.base.specs.Checked.{Checked, ok, refused, andThen, fine}
+use Rattle.base.specs.Checked.{Checked, ok, refused}
 use Rattle.mdf.specs.Block.{kindCG, kindCN, linkAt, kindAt, headerIn}
-use Rattle.mdf.specs.Chain.{Fragment, Chain.signal, Found, found, stopped, limits, chain}
+use Rattle.mdf.specs.Chain.{Chain.signal, Found, found, stopped, limits, chain}
 use Rattle.fields.specs.declared.Check.{Check}
 use Rattle.fields.specs.declared.Check.the-variants.{Fine}
 use Rattle.fields.specs.declared.Check.the-variants as checks
@@ -21,14 +19,14 @@ use Rattle.fields.specs.Answer.{verdictOf}
 use Rattle.blocks.specs.AnswerLaws.{so-fine, so-refused}
 use Rattle.chains.specs.declared.chain.Chained.{Chained}
 use Rattle.chains.specs.declared.chain.Chained.the-variants.{Stopped, Done}
-use Rattle.chains.specs.Kept.{kept, Given, given, laid}
+use Rattle.chains.specs.Kept.{kept, given, laid}
 use Rattle.chains.specs.KeptLaws.{kept-none}
-use Rattle.plan.specs.Channel.{channelType, fits, isMasterType, Treatment, keep, omit, asFixed, treatment}
-use Rattle.plan.specs.Columns.{unsigned, signalData, omitted, kindCA, keptSignal, decideSignal, decideComposition, onTreatment, decide}
+use Rattle.plan.specs.Channel.{channelType, fits, isMasterType, keep, asFixed, treatment}
+use Rattle.plan.specs.Columns.{unsigned, omitted, kindCA, keptSignal, decideSignal, decideComposition, onTreatment, decide}
 use Rattle.plan.specs.Columns as columns
 use Rattle.planning.specs.declared.decide.Decision.{Decision}
 use Rattle.planning.specs.declared.decide.Decision.the-variants.{Refused, Omitted, Kept}
-use Rattle.planning.specs.Decided.{Left, stops, leaves, left, laidDecision}
+use Rattle.planning.specs.Decided.{Left, stops, leaves, laidDecision}
 
 -- ---- from a decision to what it leaves
 module _ {d : Checked columns.Decision} (n : ℕ) (w : List ℕ) where

@@ -1,19 +1,18 @@
 -- The groups in words are those of the recording, bare.
-use Prim.{Unit, tt}
-use Prim.Native.Nat.{ℕ, zero, suc, _+_, _-_, _≤_, _<_}
+use Prim.Native.Nat.{ℕ, suc, _+_, _-_, _≤_, _<_}
 use mathlib.Core.List.{List, [], _∷_, _++_}
-use mathlib.Core.Path.{_≡_, refl, sym, ap, _∙_}
+use mathlib.Core.Path.{_≡_, refl, ap}
 use native.Mathlib.Numerals.{add-one}
 use native.Mathlib.Omega.{arith}
 use lib.ListN.{length, getD, drop}
 use lib.Seq.{drop-cons}
 use Rattle.mdf.specs.Chain.{Fragment}
 use Rattle.mdf.specs.Walk.{Item, dg, cg, cn, levelCG, tally, Source}
-use Rattle.mdf.specs.Group.{Group, DataGroup, groupsOf, channelsOf, dataGroupsOf, dataGroups}
+use Rattle.mdf.specs.Group.{DataGroup, groupsOf, channelsOf, dataGroupsOf, dataGroups}
 use Rattle.plan.specs.Columns.{SrcGroup, withCounts, srcGroups}
 use Rattle.plan_laws.specs.WalkLaws.{Open}
 use Rattle.planning.specs.Items.{groupOf, itemsFrom, flat, groupsIn}
-use Rattle.planning.specs.Bare.{bare, bares}
+use Rattle.planning.specs.Bare.{bares}
 
 append-bares : (gs hs : List SrcGroup) → bares (gs ++ hs) ≡ bares gs ++ bares hs
 unfolding bares

@@ -1,17 +1,14 @@
 -- One column or omission more in the words of a plan.
-use Prim.Native.Nat.{ℕ, zero, suc, _+_, _*_, _-_, _≤_, _<_}
+use Prim.Native.Nat.{ℕ, _+_, _*_, _-_, _≤_, _<_}
 use mathlib.Core.List.{List, [], _∷_, _++_, append-assoc, append-nil}
-use mathlib.Core.Bool.{Bool, true, false}
-use mathlib.Core.Option.{Option, none, some}
-use mathlib.Core.Path.{_≡_, refl, sym, ap, _∙_}
+use mathlib.Core.Path.{_≡_, refl, _∙_}
 use native.Mathlib.Nat.{zero-add, add-assoc, add-zero}
 use native.Mathlib.Omega.{arith}
 use lib.ListN.{length, length-append}
 use Rattle.base.specs.Blit.{blit}
 use Rattle.base.specs.BlitLaws.{blit-append, blit-comm}
-use Rattle.mdf.specs.Chain.{Fragment}
 use Rattle.chains.specs.Kept.{kept}
-use Rattle.chains.specs.KeptLaws.{kept-append, kept-none}
+use Rattle.chains.specs.KeptLaws.{kept-append}
 use Rattle.plan.specs.Columns.{Column, Omission, Plan, Signal, unsigned, signalData, sizeOfSignal, withColumn, withOmission}
 use Rattle.plan.specs.PlanWords.{columnWords, columnsWords, omissionPairs, fragmentsIn, signalFragments, laidPlan}
 use Rattle.planning.specs.Planning.{Base, Held}

@@ -1,7 +1,6 @@
 -- What planning a recording leaves: the answer and the words.
 use Prim.Native.Nat.{ℕ}
 use mathlib.Core.List.{List}
-use mathlib.Core.Path.{_≡_}
 use lib.ListN.{length}
 use Rattle.base.specs.Checked.{Checked, ok, refused}
 use Rattle.chains.specs.Kept.{kept}

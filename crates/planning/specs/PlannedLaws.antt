@@ -1,19 +1,19 @@
 -- Laws of planning groups, one for each way of the code.
-use Prim.{Unit, tt}
-use Prim.Native.Nat.{ℕ, zero, suc, _+_, _*_, _-_, _≤_, _<_}
+use Prim.{tt}
+use Prim.Native.Nat.{ℕ, _+_, _*_, _-_, _≤_, _<_}
 use mathlib.Core.List.{List, [], _∷_, _++_, append-assoc}
 use mathlib.Core.Bool.{Bool, true, false}
-use mathlib.Core.Option.{Option, none, some}
+use mathlib.Core.Option.{Option, none}
 use mathlib.Core.Path.{_≡_, refl, sym, ap, _∙_}
 use native.Mathlib.Nat.{le-refl}
 use native.Mathlib.Omega.{arith}
 use lib.ListN.{length, length-append, getD}
-use Rattle.base.specs.Choice.{pick, ifEq}
+use Rattle.base.specs.Choice.{ifEq}
 use Rattle.base.specs.ChoiceLaws.{eq-no}
-use Rattle.base.specs.Checked.{Checked, ok, refused, andThen}
+use Rattle.base.specs.Checked.{ok, refused, andThen}
 use Rattle.mdf.specs.Group.{isStorage}
-use Rattle.plan.specs.Columns.{SrcGroup, Column, Plan, Decision, omitted, kept, TimeOf, time, untimed, differs, masterOf, timeOf, ownMaster, decide, decided, withColumn, withOmission, withTime, planChannels, planTimed, planGroup, planGroups}
-use Rattle.result.specs.Guarantee.{In, here, there}
+use Rattle.plan.specs.Columns.{SrcGroup, Plan, Decision, omitted, kept, TimeOf, time, untimed, differs, masterOf, timeOf, ownMaster, decide, decided, withOmission, withTime, planChannels, planTimed, planGroup, planGroups}
+use Rattle.result.specs.Guarantee.{In, here}
 use Rattle.plan_laws.specs.Answers.{with-ok, eq-cases, pick-cases, ok-same}
 use Rattle.plan_laws.specs.Lists.{in-right}
 use Rattle.plan_laws.specs.DecideLaws.{time-known}
@@ -24,8 +24,8 @@ use Rattle.planning.specs.Items.{groupOf, groupsIn, groupsFrom, channels
 use Rattle.planning.specs.ItemLaws.{groups-all, groups-none, groups-cn, groups-cg, groups-dg}
 use Rattle.planning.specs.Times.{masterIn}
 use Rattle.planning.specs.TimeLaws.{master-group}
-use Rattle.planning.specs.Planning.{Base, Held, Went, gives, Gives, within, others, ChannelsPlan}
-use Rattle.planning.specs.ChannelLaws.{others-own, others-more, Onward, gives-refused, gives-done}
+use Rattle.planning.specs.Planning.{Base, Held, gives, Gives, within, others, ChannelsPlan}
+use Rattle.planning.specs.ChannelLaws.{gives-refused, gives-done}
 use Rattle.planning.specs.Timing.{waiting, SettlePlan}
 use Rattle.planning.specs.BudgetLaws.{waiting-plain}
 use Rattle.planning.specs.SettleLaws.{time-budget}

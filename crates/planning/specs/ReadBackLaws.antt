@@ -1,19 +1,17 @@
 -- What reading kept, out of its words: blocks and counts.
-use Prim.Native.Nat.{ℕ, zero, suc, _+_, _*_, _-_, _≤_, _<_}
-use mathlib.Core.List.{List, [], _∷_, _++_}
-use mathlib.Core.Path.{_≡_, refl, sym, ap, _∙_}
-use native.Mathlib.Nat.{add-zero, zero-add}
+use Prim.Native.Nat.{ℕ, suc, _+_, _-_, _≤_, _<_}
+use mathlib.Core.List.{List, [], _∷_}
+use mathlib.Core.Path.{_≡_, refl, ap, _∙_}
+use native.Mathlib.Nat.{add-zero}
 use native.Mathlib.Omega.{arith}
-use lib.ListN.{length, getD, set, length-set}
+use lib.ListN.{length, getD, set}
 use lib.Seq.{getD-set-other}
-use Rattle.base.specs.Choice.{ifEq}
-use Rattle.base.specs.ChoiceLaws.{eq-yes, eq-no}
 use Rattle.base.specs.Blit.{blit}
 use Rattle.base.specs.BlitLaws.{length-blit}
 use Rattle.mdf.specs.Chain.{Fragment}
-use Rattle.mdf.specs.Walk.{Item, dg, cg, cn, address, Source, levelDG, levelCG, levelCN, tally}
+use Rattle.mdf.specs.Walk.{Item, dg, cg, cn, address, levelDG, levelCG, levelCN, tally}
 use Rattle.mdf.specs.Group.{groupsOf, dataGroupsOf}
-use Rattle.mdf.specs.Words.{mark, addressWords, markWords, groupWords, laidItems, marksAt, groupsAt, countsAt}
+use Rattle.mdf.specs.Words.{mark, addressWords, markWords, groupWords, laidItems, marksAt, countsAt}
 use Rattle.plan_laws.specs.WalkLaws.{Open}
 use Rattle.plan_laws.specs.GroupLaws.{groupCount}
 use Rattle.planning.specs.Items.{item, itemsFrom}

@@ -1,9 +1,9 @@
 -- There is room for the columns: before planning no more are reserved than there are channels.
-use Prim.Native.Nat.{ℕ, zero, suc, _+_, _-_, _≤_, _<_}
-use mathlib.Core.List.{List, [], _∷_, _++_}
+use Prim.Native.Nat.{ℕ, _+_, _-_, _≤_}
+use mathlib.Core.List.{List, [], _∷_}
 use mathlib.Core.Bool.{Bool, true, false}
 use mathlib.Core.Option.{Option, none, some}
-use mathlib.Core.Path.{_≡_, refl, sym, ap, _∙_}
+use mathlib.Core.Path.{_≡_, refl}
 use native.Mathlib.Omega.{arith}
 use lib.ListN.{length, length-append}
 use lib.Dec.{eqb}
@@ -16,7 +16,7 @@ use Rattle.plan_laws.specs.DecideLaws.{master-known}
 use Rattle.planning.specs.Planning.{others}
 use Rattle.planning.specs.Timing.{lack, waiting}
 use Rattle.planning.specs.Planned.{othersOf, othersIn}
-use Rattle.planning.specs.Bare.{bare, bares}
+use Rattle.planning.specs.Bare.{bares}
 
 pick-few : (t : Bool) → pick t 0 1 ≤ 1
 pick-few true = omega arith

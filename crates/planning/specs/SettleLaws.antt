@@ -1,26 +1,25 @@
 -- Laws of a group's time, one for each way of the code.
-use Prim.Native.Nat.{ℕ, zero, suc, _+_, _*_, _-_, _≤_, _<_}
-use mathlib.Core.List.{List, [], _∷_, _++_}
-use mathlib.Core.Bool.{Bool, true, false}
+use Prim.Native.Nat.{ℕ, _+_, _*_, _-_, _≤_, _<_}
+use mathlib.Core.List.{List, [], _∷_}
+use mathlib.Core.Bool.{true}
 use mathlib.Core.Option.{Option, none, some}
 use mathlib.Core.Path.{_≡_, refl, sym, ap, _∙_}
 use native.Mathlib.Nat.{add-zero, zero-add, le-refl}
 use native.Mathlib.Omega.{arith}
 use lib.ListN.{length, length-append}
 use Rattle.base.specs.Blit.{blit}
-use Rattle.chains.specs.Kept.{kept}
 use Rattle.chains.specs.KeptLaws.{kept-none}
-use Rattle.plan.specs.Columns.{SrcGroup, Column, Plan, Signal, unsigned, TimeOf, time, untimed, differs, masterOf, timeOf, timeColumn, withColumn, withOmission, withTime, planChannels, planTimed, ownMaster}
+use Rattle.plan.specs.Columns.{SrcGroup, Column, Plan, unsigned, TimeOf, time, untimed, differs, masterOf, timeOf, timeColumn, withColumn, withOmission, withTime, ownMaster}
 use Rattle.plan.specs.PlanWords.{masterWord, columnWords}
 use Rattle.result.specs.Guarantee.{In}
-use Rattle.plan_laws.specs.DecideLaws.{none≢some, Timed, time-known}
+use Rattle.plan_laws.specs.DecideLaws.{time-known}
 use Rattle.planning.specs.declared.masters.Master.{Master}
 use Rattle.planning.specs.declared.masters.Master.the-variants.{Without, Channel}
 use Rattle.planning.specs.declared.masters.Time.{Time}
 use Rattle.planning.specs.declared.masters.Time.the-variants.{Untimed, Differs, At}
 use Rattle.planning.specs.declared.timing.Settled.{Settled}
 use Rattle.planning.specs.Items.{groupOf, groupsIn, channelsIn}
-use Rattle.planning.specs.Times.{masterFrom, masterIn, timeWords}
+use Rattle.planning.specs.Times.{masterFrom, timeWords}
 use Rattle.planning.specs.TimeIn.{timeIn}
 use Rattle.planning.specs.Planning.{Base, Held}
 use Rattle.planning.specs.HeldLaws.{held-column, held-omission}

@@ -1,8 +1,7 @@
 -- Laws of the items past a DG: what is left of them gives what all of them give.
-use Prim.Native.Nat.{ℕ, zero, suc, _+_, _-_, _≤_, _<_, min}
+use Prim.Native.Nat.{ℕ, zero, suc, _+_, _-_, _≤_, _<_}
 use mathlib.Core.List.{List, [], _∷_}
 use mathlib.Core.Path.{_≡_, refl, sym, _∙_}
-use native.Mathlib.Nat.{le-of-lt, min-eq-left, min-eq-right, le-refl}
 use native.Mathlib.Omega.{arith}
 use lib.ListN.{length, getD}
 use Rattle.base.specs.ChoiceLaws.{eq-yes, eq-no}
@@ -11,12 +10,6 @@ use Rattle.mdf.specs.Group.{addresses, groupsOf, upTo}
 use Rattle.planning.specs.Items.{itemsFrom}
 use Rattle.planning.specs.ItemLaws.{item-cn, item-cg, item-dg, items-open}
 use Rattle.planning.specs.Span.{pastDG}
-
-pub least-left : {a b : ℕ} → a < b → (a ≡ min a b) × (a ≤ a) × (a ≤ b)
-least-left h = (sym (min-eq-left (le-of-lt h)), le-refl _, le-of-lt h)
-
-pub least-right : {a b : ℕ} → b ≤ a → (b ≡ min a b) × (b ≤ a) × (b ≤ b)
-least-right h = (sym (min-eq-right h), h, le-refl _)
 
 pub no-items : (w : List ℕ) (n k : ℕ) → n ≤ k → itemsFrom w k (n - k) ≡ []
 unfolding itemsFrom

@@ -4,20 +4,17 @@ use mathlib.Core.List.{List, [], _∷_}
 use mathlib.Core.Option.{Option, none, some}
 use mathlib.Core.Bool.{Bool, true, false}
 use mathlib.Core.Path.{_≡_, refl, sym, ap, _∙_}
-use native.Mathlib.Omega.{arith}
-use lib.ListN.{length, getD}
-use Rattle.base.specs.Choice.{pick, ifEq, ifLt}
+use lib.ListN.{getD}
+use Rattle.base.specs.Choice.{pick}
 use Rattle.base.specs.ChoiceLaws.{eq-yes, eq-no, lt-yes, lt-no}
 use Rattle.mdf.specs.Block.{linksAt, linkAt}
 use Rattle.mdf.specs.Group.{groupFlags, isStorage}
 use Rattle.plan.specs.Channel.{both, isMasterType, fits}
-use Rattle.plan.specs.Columns.{SrcGroup, firstMaster, masterOf, remoteLink, groupAt, TimeOf, time, untimed, differs, remoteTime, timeOf}
+use Rattle.plan.specs.Columns.{firstMaster, masterOf, remoteLink, groupAt, TimeOf, time, untimed, differs, remoteTime, timeOf}
 use Rattle.planning.specs.declared.groups.Sought.{Sought}
 use Rattle.planning.specs.declared.groups.Sought.the-variants.{Nothing, Group}
 use Rattle.planning.specs.declared.masters.Master.{Master}
 use Rattle.planning.specs.declared.masters.Master.the-variants.{Without, Channel}
-use Rattle.planning.specs.declared.masters.Time.{Time}
-use Rattle.planning.specs.declared.masters.Time.the-variants.{Untimed, Differs, At}
 use Rattle.planning.specs.Items.{groupOf, groupsIn, channelsIn, soughtIn}
 use Rattle.planning.specs.ItemLaws.{channels-end, channels-next, channels-over}
 use Rattle.planning.specs.Times.{masterFrom, masterIn, timeWords, remoteIn}

@@ -4,7 +4,6 @@ use mathlib.Core.List.{List, [], _∷_}
 use mathlib.Core.Option.{Option, none, some}
 use mathlib.Core.Path.{_≡_}
 use lib.ListN.{length}
-use Rattle.base.specs.Checked.{Checked}
 use Rattle.plan.specs.Columns.{SrcGroup, Column, Plan, masterOf, timeOf, timeColumn, withTime, planChannels, planTimed, ownMaster}
 use Rattle.plan.specs.PlanWords.{masterWord}
 use Rattle.result.specs.Guarantee.{In}

@@ -1,12 +1,8 @@
 -- The laws of checks that follow each other.
-use Prim.{Unit, tt}
-use Prim.Native.Nat.{ℕ, _<_, _≤_}
-use mathlib.Core.Path.{_≡_, refl, sym, _∙_}
-use mathlib.Core.Bool.{Bool, true, false}
+use Prim.Native.Nat.{ℕ}
+use mathlib.Core.Path.{_≡_, refl}
 use native.Mathlib.Omega.{arith}
-use lib.Dec.{ltb}
-use Rattle.base.specs.Choice.{pick, ifLt}
-use Rattle.base.specs.Checked.{Checked, ok, refused, andThen, Verdict, fine}
+use Rattle.base.specs.Checked.{Checked, ok, refused, andThen, Verdict}
 
 pub refused≢ok : {A : Type 0} {n p : ℕ} {a : A} → _≡_ {A = Checked A} (refused n p) (ok a) → ⊥
 refused≢ok e = let z : _≡_ {A = ℕ} 0 1 = cc in omega arith

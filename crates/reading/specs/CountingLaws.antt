@@ -2,29 +2,29 @@
 use Prim.Native.Nat.{ℕ, zero, suc, _+_, _*_, _-_, _≤_, _<_}
 use mathlib.Core.List.{List, [], _∷_, _++_, append-assoc}
 use mathlib.Core.Path.{_≡_, refl, sym, ap, _∙_}
-use native.Mathlib.Nat.{add-zero, zero-add, le-refl}
+use native.Mathlib.Nat.{add-zero, zero-add}
 use native.Mathlib.Omega.{arith}
-use lib.ListN.{length, take, drop, getD, length-append}
+use lib.ListN.{length, getD, length-append}
 use borrow.Rule.Slice.PartMut.{putMid, midOf}
 use Rattle.base.specs.Choice.{ifLt}
 use Rattle.base.specs.ChoiceLaws.{lt-yes, lt-no, lt-back}
 use Rattle.base.specs.Blit.{part, blit}
-use Rattle.base.specs.BlitLaws.{blit-lent, blit-append, length-blit}
+use Rattle.base.specs.BlitLaws.{blit-lent, blit-append}
 use Rattle.base.specs.Checked.{Checked, ok, refused, andThen}
 use Rattle.fields.specs.declared.Check.{Check}
 use Rattle.fields.specs.declared.Check.the-variants.{Fine, Refused}
 use Rattle.fields.specs.Answer.{verdictOf}
-use Rattle.records.specs.Several.{Laid, laid, laidCounts}
+use Rattle.records.specs.Several.{laid, laidCounts}
 use Rattle.mdf.specs.Chain.{Fragment}
-use Rattle.mdf.specs.Walk.{Item, dg, cg, cn, Source, levelDG, levelCG, levelCN, tally, mostItems}
+use Rattle.mdf.specs.Walk.{Item, dg, cg, cn, levelDG, levelCG, levelCN, tally, mostItems}
 use Rattle.mdf.specs.Group.{DataGroup, addresses, groupsOf, upTo, dataGroupsOf, dataGroups}
 use Rattle.mdf.specs.Count.{countOne, countGroups, tallies, countsFrom, counts}
 use Rattle.mdf.specs.Records.{Frame, unsortedFrames}
-use Rattle.mdf.specs.Words.{marksAt, groupsAt, sourceWords, addressWords, markWords, groupWords, fragmentWords, fragmentsOf}
+use Rattle.mdf.specs.Words.{marksAt, groupsAt, addressWords, markWords, groupWords, fragmentWords, fragmentsOf}
 use Rattle.chains.specs.KeptLaws.{words-back, length-words}
 use Rattle.reading.specs.declared.answer.Span.{Span}
 use Rattle.reading.specs.Steps.{after}
-use Rattle.reading.specs.Sound.{Rising, none, next-dg, Starts, empty, first-dg, SoundWith}
+use Rattle.reading.specs.Sound.{Rising, next-dg, Starts, empty, first-dg}
 use Rattle.reading.specs.Holding.{Stands, Holding}
 use Rattle.reading.specs.StandsLaws.{stands-front, stands-back, stands-head, stands-at, stands-as, stands-part}
 use Rattle.reading.specs.Spans.{ownMarks, ownGroups, marksFrom, spanAt}

@@ -1,12 +1,12 @@
 -- The data chain and the id size of a DG.
-use Prim.Native.Nat.{ℕ, zero, suc, _+_, _*_, _<_, _≤_}
+use Prim.Native.Nat.{ℕ, zero, suc, _+_, _<_, _≤_}
 use mathlib.Core.List.{List}
-use mathlib.Core.Path.{_≡_, refl, sym, ap, _∙_}
+use mathlib.Core.Path.{_≡_, refl, ap}
 use native.Mathlib.Omega.{arith}
 use lib.ListN.{length}
 use Rattle.base.specs.Choice.{ifEq}
 use Rattle.base.specs.ChoiceLaws.{eq-yes, eq-no}
-use Rattle.base.specs.Checked.{Checked, ok, refused, andThen, Verdict, fine}
+use Rattle.base.specs.Checked.{ok, refused, andThen, Verdict, fine}
 use Rattle.fields.specs.declared.Check.{Check}
 use Rattle.fields.specs.declared.Check.the-variants.{Fine}
 use Rattle.fields.specs.Answer.{verdictOf}
@@ -16,11 +16,11 @@ use Rattle.mdf.specs.Walk.{idSize, idSizeIn}
 use Rattle.records.specs.Bounded.{Bounded}
 use Rattle.chains.specs.declared.chain.Chained.{Chained}
 use Rattle.chains.specs.declared.chain.Chained.the-variants.{Stopped, Done}
-use Rattle.chains.specs.Kept.{kept, Given, Given.given, laid}
+use Rattle.chains.specs.Kept.{kept, Given.given, laid}
 use Rattle.chains.specs.FoundLaws.{chain-limit}
 use Rattle.reading.specs.Held.{mostPieces}
 use Rattle.reading.specs.Steps.{Pieces, pieces, laidFound, dataIn}
-use Rattle.reading.specs.CheckedLaws.{refused≢ok, ok≢refused, ok-same}
+use Rattle.reading.specs.CheckedLaws.{refused≢ok, ok-same}
 
 first-three : (r : ℕ) (v : Verdict) → r < 3 → fine ≡ ifEq r 0 fine (ifEq r 1 fine (ifEq r 2 fine v))
 first-three zero v h = eq-yes _ _ _ _ refl refl

@@ -4,7 +4,7 @@ use mathlib.Core.List.{List}
 use mathlib.Core.Path.{_≡_}
 use lib.ListN.{length}
 use Rattle.base.specs.Blit.{blit}
-use Rattle.base.specs.Checked.{Checked, ok, refused, andThen}
+use Rattle.base.specs.Checked.{Checked, ok, refused}
 use Rattle.mdf.specs.Walk.{Source, levelDG, levelCG, levelCN, tally, mostItems}
 use Rattle.mdf.specs.Words.{fragmentWords, laidItems, sourceWords}
 

@@ -1,18 +1,16 @@
 -- One block more: what its checks over the words give is what the walk's definition gives.
-use Prim.{Unit, tt}
-use Prim.Native.Nat.{ℕ, _+_, _*_, _≤_, _<_}
-use mathlib.Core.List.{List, [], _∷_, _++_}
+use Prim.Native.Nat.{ℕ, _+_, _≤_, _<_}
+use mathlib.Core.List.{List, _++_}
 use mathlib.Core.Bool.{Bool, true, false}
 use mathlib.Core.Path.{_≡_, refl, sym, ap, _∙_}
-use native.Mathlib.Nat.{add-zero, zero-add}
+use native.Mathlib.Nat.{zero-add}
 use native.Mathlib.Omega.{arith}
-use lib.ListN.{length, take, set, length-append, length-set}
+use lib.ListN.{length, take, set, length-append}
 use lib.Dec.{ltb}
 use Rattle.base.specs.Choice.{pick, ifLt}
-use Rattle.base.specs.Blit.{blit}
 use Rattle.base.specs.BlitLaws.{blit-append}
 use Rattle.base.specs.Checked.{Checked, ok, refused, andThen, Verdict, fine}
-use Rattle.mdf.specs.Block.{Wanted, DG, CG, CN, linkAt, blockAt}
+use Rattle.mdf.specs.Block.{DG, CG, CN, linkAt, blockAt}
 use Rattle.mdf.specs.Name.{nameAt}
 use Rattle.mdf.specs.Chain.{isIn, Fragment, Chain.records, Found, found, stopped, Limits, chain}
 use Rattle.mdf.specs.Walk.{Item, dg, cg, cn, address, Source, source, isMet, Level, levelDG, levelCG, levelCN, tally, mostItems, visit, entered, idSizeIn, withFound}

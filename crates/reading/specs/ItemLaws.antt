@@ -1,18 +1,17 @@
 -- The items of one DG: those up to the next DG.
-use Prim.Native.Nat.{ℕ, zero, suc, _+_, _*_, _-_, _≤_, _<_}
+use Prim.Native.Nat.{ℕ, zero, suc, _+_, _*_, _-_, _≤_}
 use mathlib.Core.List.{List, [], _∷_, _++_}
-use mathlib.Core.Path.{_≡_, refl, sym, ap, _∙_}
-use native.Mathlib.Nat.{add-zero, zero-add, le-trans, le-refl}
+use mathlib.Core.Path.{_≡_, refl, sym, ap}
+use native.Mathlib.Nat.{le-trans, le-refl}
 use native.Mathlib.Omega.{arith}
-use lib.ListN.{length, take, drop, length-append}
+use lib.ListN.{length, take, drop}
 use lib.Seq.{drop-nil, take-nil}
-use Rattle.base.specs.Choice.{ifLt}
 use Rattle.base.specs.ChoiceLaws.{lt-yes, lt-no}
 use Rattle.base.specs.Blit.{part}
 use Rattle.mdf.specs.Chain.{Fragment}
 use Rattle.mdf.specs.Walk.{Item, dg, cg, cn, levelCG, tally}
-use Rattle.mdf.specs.Group.{DataGroup, addresses, groupsOf, upTo, dataGroupsOf}
-use Rattle.mdf.specs.Words.{mark, kindWord, addressWords, markWords, groupWords, fragmentWords}
+use Rattle.mdf.specs.Group.{addresses, groupsOf, upTo, dataGroupsOf}
+use Rattle.mdf.specs.Words.{kindWord, addressWords, markWords, groupWords, fragmentWords}
 use Rattle.reading.specs.Sound.{Rising, none, next-dg, next-cg, next-cn, Starts, empty, first-dg}
 use Rattle.reading.specs.Spans.{ownMarks, ownGroups}
 

@@ -12,7 +12,7 @@ use Rattle.mdf.specs.Block.{linkAt}
 use Rattle.mdf.specs.Name.{nameAt}
 use Rattle.mdf.specs.Chain.{Chain.records, Limits, chain}
 use Rattle.mdf.specs.Walk.{Source, Level, levelDG, levelCG, levelCN, mostItems, visit, entered, level, turns, belowCN, belowCG, belowDG, idSizeIn, withFound}
-use Rattle.reading.specs.Held.{State, Held, Within, Became, Gives, Stops}
+use Rattle.reading.specs.Held.{State, Held, Within, Gives, Stops}
 use Rattle.reading.specs.CheckedLaws.{then-assoc}
 use Rattle.reading.specs.HeldLaws.{entering, taking}
 

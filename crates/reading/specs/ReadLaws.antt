@@ -1,17 +1,16 @@
 -- From the walk and the counts to the whole of reading.
-use Prim.Native.Nat.{ℕ, zero, suc, _+_, _*_, _-_, _≤_, _<_}
+use Prim.Native.Nat.{ℕ, _+_, _-_, _≤_, _<_}
 use mathlib.Core.List.{List, [], _∷_, _++_}
 use mathlib.Core.Path.{_≡_, refl, sym, ap, _∙_}
 use native.Mathlib.Nat.{add-zero, zero-add}
 use native.Mathlib.Numerals.{add-one}
 use native.Mathlib.Omega.{arith}
-use lib.ListN.{length, take, drop, getD, set, replicate, length-append, length-set, length-replicate}
+use lib.ListN.{length, take, getD, set, length-append, length-set}
 use lib.Seq.{take-suc, length-take-le}
-use Rattle.base.specs.Choice.{ifLt}
-use Rattle.base.specs.ChoiceLaws.{lt-yes, lt-no}
+use Rattle.base.specs.ChoiceLaws.{lt-no}
 use Rattle.base.specs.Blit.{part, blit}
 use Rattle.base.specs.BlitLaws.{length-blit, part-blit}
-use Rattle.base.specs.Checked.{Checked, ok, refused, andThen, Verdict, fine}
+use Rattle.base.specs.Checked.{Checked, ok, refused, andThen}
 use Rattle.fields.specs.declared.Check.{Check}
 use Rattle.fields.specs.declared.Check.the-variants.{Fine}
 use Rattle.fields.specs.Answer.{verdictOf}
@@ -26,16 +25,16 @@ use Rattle.chains.specs.KeptLaws.{length-words}
 use Rattle.reading.specs.declared.answer.Read.{Read}
 use Rattle.reading.specs.declared.answer.Read.the-variants.{Refused, Done}
 use Rattle.reading.specs.Steps.{after}
-use Rattle.reading.specs.Sound.{Starts, empty, first-dg, SoundWith}
+use Rattle.reading.specs.Sound.{Starts, empty, first-dg}
 use Rattle.reading.specs.SoundLaws.{walk-sound}
-use Rattle.reading.specs.Holding.{Stands, Holding}
+use Rattle.reading.specs.Holding.{Holding}
 use Rattle.reading.specs.WordsLaws.{blit-snoc, addresses-stand, marks-stand, groups-stand, length-laid, length-groups, tally-append}
 use Rattle.reading.specs.ItemLaws.{own, later, own-later, own-addresses}
 use Rattle.reading.specs.CheckedLaws.{refused≢ok, ok≢refused, ok-same}
 use Rattle.reading.specs.Counting.{countedAll, Counted, CountedIn}
 use Rattle.reading.specs.CountingLaws.{total, length-counts, tally-dg}
 use Rattle.reading.specs.Walked.{Kept, given, keptOf, walked}
-use Rattle.reading.specs.Reading.{Recording, reading, keptBy, readOver, zeros, left, leftBy, fragmentRoom, readInto}
+use Rattle.reading.specs.Reading.{reading, keptBy, readOver, zeros, left, leftBy, fragmentRoom, readInto}
 
 -- ---- the counts, word by word
 pub record Storing (w₀ counts : List ℕ) (n i : ℕ) (w : List ℕ) : Type 0 where

@@ -1,5 +1,5 @@
 -- What holds of every source that the walk gives: the limits, and that each DG's fragments follow those before it.
-use Prim.Native.Nat.{ℕ, _+_, _≤_}
+use Prim.Native.Nat.{ℕ, _≤_}
 use mathlib.Core.List.{List, [], _∷_}
 use lib.ListN.{length}
 use Rattle.mdf.specs.Chain.{Limits, limits}

@@ -1,13 +1,12 @@
 -- The marks up to the next DG's, one by one; and what they say of the items.
 use Prim.Native.Nat.{ℕ, zero, suc, _+_, _-_, _≤_, _<_}
-use mathlib.Core.List.{List, [], _∷_, _++_}
-use mathlib.Core.Path.{_≡_, refl, sym, ap, _∙_}
-use native.Mathlib.Nat.{add-zero, zero-add}
+use mathlib.Core.List.{List, _∷_}
+use mathlib.Core.Path.{_≡_, refl, sym, _∙_}
+use native.Mathlib.Nat.{add-zero}
 use native.Mathlib.Numerals.{add-one, sub-one}
 use native.Mathlib.Omega.{arith}
-use lib.ListN.{length, take, drop, getD}
+use lib.ListN.{length, getD}
 use lib.Seq.{drop-cons}
-use Rattle.base.specs.Choice.{ifLt}
 use Rattle.base.specs.ChoiceLaws.{lt-yes, lt-no}
 use Rattle.base.specs.Blit.{part}
 use Rattle.mdf.specs.Words.{marksAt, sourceWords}

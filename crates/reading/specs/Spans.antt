@@ -1,5 +1,5 @@
 -- The blocks of one DG among those met: up to the next DG. A DG's mark is above 1, a CG's is 1, a CN's 0.
-use Prim.Native.Nat.{ℕ, suc, _+_, _-_}
+use Prim.Native.Nat.{ℕ, _+_, _-_}
 use mathlib.Core.List.{List, [], _∷_}
 use Rattle.base.specs.Choice.{ifLt}
 use Rattle.base.specs.Blit.{part}

@@ -2,11 +2,11 @@
 use Prim.Native.Nat.{ℕ, _+_, _≤_, _<_}
 use mathlib.Core.List.{List}
 use mathlib.Core.Bool.{Bool, true, false}
-use mathlib.Core.Path.{_≡_, refl, sym, _∙_, ap}
-use lib.ListN.{length, take, set}
+use mathlib.Core.Path.{_≡_, refl, sym, _∙_}
+use lib.ListN.{take, set}
 use Rattle.base.specs.Choice.{pick, ifLt}
 use Rattle.base.specs.ChoiceLaws.{lt-yes, lt-no, lt-first}
-use Rattle.base.specs.Checked.{Checked, ok, refused, andThen, Verdict, fine}
+use Rattle.base.specs.Checked.{ok, refused, andThen, Verdict}
 use Rattle.fields.specs.declared.Check.{Check}
 use Rattle.fields.specs.declared.Check.the-variants.{Fine, Refused}
 use Rattle.fields.specs.Answer.{verdictOf}

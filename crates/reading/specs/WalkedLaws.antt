@@ -5,7 +5,7 @@ use mathlib.Core.Path.{_≡_, refl, sym, ap, _∙_}
 use native.Mathlib.Omega.{arith}
 use lib.ListN.{length}
 use Rattle.base.specs.Blit.{blit}
-use Rattle.base.specs.Checked.{Checked, ok, refused, andThen, Verdict, fine}
+use Rattle.base.specs.Checked.{Checked, ok, refused}
 use Rattle.fields.specs.declared.Check.{Check}
 use Rattle.fields.specs.Answer.{verdictOf}
 use Rattle.mdf.specs.Block.{HD, linkAt, blockAt}

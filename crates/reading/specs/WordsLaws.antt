@@ -1,17 +1,14 @@
 -- The words that hold what was met: one more block is two stores, for a CG three, and the addresses stand in front.
-use Prim.Native.Nat.{ℕ, zero, suc, _+_, _-_, _≤_, _<_}
+use Prim.Native.Nat.{ℕ, suc, _+_, _-_, _≤_, _<_}
 use mathlib.Core.List.{List, [], _∷_, _++_, append-nil}
-use mathlib.Core.Bool.{Bool, true, false}
 use mathlib.Core.Path.{_≡_, refl, sym, ap, _∙_}
-use native.Mathlib.Nat.{add-zero, zero-add, add-suc, suc-add}
+use native.Mathlib.Nat.{add-zero, zero-add}
 use native.Mathlib.Omega.{arith}
-use lib.ListN.{length, take, drop, set, length-append, length-set}
-use lib.Dec.{eqb}
-use Rattle.base.specs.Choice.{pick}
+use lib.ListN.{length, take, set}
 use Rattle.base.specs.Blit.{blit, part}
 use Rattle.base.specs.BlitLaws.{length-blit, blit-append, blit-one, blit-comm, part-blit, part-blit-before}
 use Rattle.mdf.specs.Chain.{isIn}
-use Rattle.mdf.specs.Walk.{Item, dg, cg, cn, address, isMet, Level, levelDG, levelCG, levelCN, tally, mostItems}
+use Rattle.mdf.specs.Walk.{Item, dg, cg, cn, address, isMet, levelCG, tally, mostItems}
 use Rattle.reading.specs.Holding.{Stands}
 use Rattle.mdf.specs.Words.{mark, addressWords, markWords, groupWords, marksAt, groupsAt, sourceWords, laidItems}
 

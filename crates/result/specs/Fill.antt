@@ -1,24 +1,23 @@
 -- The bytes of every block of the result: "Field values are those of `build_layout` and `copy_attachments`. DL data (ASAM MDF 4.2 ..): byte 1,
 -- three zeros, 32-bit n, 64-bit payload. Identification block, history text and time are lent."
-use Prim.Native.Nat.{ℕ, zero, suc, _+_, _*_, _-_, _/_, _%_, _^_, min}
+use Prim.Native.Nat.{ℕ, zero, suc, _+_, _*_, _-_, _/_}
 use mathlib.Core.List.{List, [], _∷_, _++_}
 use mathlib.Core.Bool.{Bool, true, false}
 use mathlib.Core.Option.{Option, none, some}
-use lib.ListN.{length, take, drop, getD, replicate}
+use lib.ListN.{length, take, replicate}
 use Rattle.base.specs.Choice.{pick, ifEq}
 use Rattle.base.specs.Field.{leAt, le}
 use Rattle.base.specs.Blit.{part}
 use Rattle.mdf.specs.Block.{kindHD, kindDG, kindCG, kindCN, kindDT, kindDV, kindDL, kindSD, kindMD, kindAt, sizeAt, linksAt, linkAt, dataAt}
 use Rattle.mdf.specs.Group.{groupFlags}
-use Rattle.mdf.specs.Records.{sizeOf}
 use Rattle.plan.specs.Channel.{channelType, channelBytes, channelFlags, keepsInval, bit, Treatment, treatment}
-use Rattle.plan.specs.Columns.{SrcGroup, Column, Signal, unsigned, signalData}
-use Rattle.plan.specs.Geometry.{align8, blockPayload}
-use Rattle.plan.specs.Copies.{kindFH, Copy, copyOf, lostLinks, Attachment}
+use Rattle.plan.specs.Columns.{Column, Signal, unsigned, signalData}
+use Rattle.plan.specs.Geometry.{blockPayload}
+use Rattle.plan.specs.Copies.{kindFH, Copy, copyOf, Attachment}
 use Rattle.plan.specs.Layout.{columnWidth, columnBlocks, cgLinks, cgSize, dlSize, Placed, cgOf, cnOf, dlOf, mdSize}
 use Rattle.result.specs.Payload.{columnPayloads, signalBytes}
 
--- a block of the result: its address and its bytes
+-- bookkeeping: a block of the result: its address and its bytes
 pub record Block : Type 0 where
   pub at : ℕ
   pub bytes : List ℕ
@@ -26,25 +25,27 @@ pub record Block : Type 0 where
 abbrev pub block : ℕ → List ℕ → Block
 block a bs = record { at = a; bytes = bs }
 
--- kind, four zero bytes, length, number of links
+-- ASAM MDF 4.2, block header: kind, four zero bytes, length, number of links
 unfoldable pub header : ℕ → ℕ → ℕ → List ℕ
 header kind size links = le 4 kind ++ le 4 0 ++ le 8 size ++ le 8 links
 
+-- bookkeeping: 64-bit fields one after the other
 unfoldable pub words : List ℕ → List ℕ
 words [] = []
 words (x ∷ xs) = le 8 x ++ words xs
 
 -- ---- copies
 
--- a link to a block that isn't copied becomes 0
+-- "Kinds other than TX, MD, CC, SI, FH become link 0."
 abbrev pub orZero : Option ℕ → ℕ
 orZero none = 0
 orZero (some a) = a
 
+-- where a link leads in the result
 unfoldable pub newLink : List Copy → ℕ → ℕ
 newLink memo a = orZero (copyOf a memo)
 
--- the links that stand at p, so many of them, led to the copies
+-- bookkeeping: the links that stand at p, so many of them, led to the copies
 unfoldable pub newLinks : List ℕ → List Copy → ℕ → ℕ → List ℕ
 newLinks s memo zero p = []
 newLinks s memo (suc k) p = le 8 (newLink memo (leAt 8 s p)) ++ newLinks s memo k (p + 8)
@@ -60,18 +61,21 @@ abbrev pub firstNew : List ℕ → List Copy → ℕ → Option ℕ → ℕ
 firstNew s memo a (some x) = x
 firstNew s memo a none = ifEq (kindAt s a) kindFH 0 (newLink memo (linkAt s a 0))
 
+-- the links of a copied block
 unfoldable pub copiedLinks : List ℕ → List ℕ → List Copy → ℕ → ℕ → ℕ → List ℕ
 copiedLinks s chain memo fh a zero = []
 copiedLinks s chain memo fh a (suc k) = le 8 (firstNew s memo a (historyLink a chain memo fh)) ++ newLinks s memo k (a + 32)
 
--- what follows the links of the block at a
+-- bookkeeping: what follows the links of the block at a
 unfoldable pub dataOf : List ℕ → ℕ → List ℕ
 dataOf s a = part (dataAt s a) (sizeAt s a - (24 + 8 * linksAt s a)) s
 
+-- a copied block: reserved bytes zero, links led to the copies, data as it was (`build_layout`)
 unfoldable pub copiedBytes : List ℕ → List ℕ → List Copy → ℕ → ℕ → List ℕ
 copiedBytes s chain memo fh a =
     header (kindAt s a) (sizeAt s a) (linksAt s a) ++ copiedLinks s chain memo fh a (linksAt s a) ++ dataOf s a
 
+-- bookkeeping: copied blocks at their places
 unfoldable pub copiedBlocks : List ℕ → List ℕ → List Copy → ℕ → List Copy → List Block
 copiedBlocks s chain memo fh [] = []
 copiedBlocks s chain memo fh (c ∷ cs) = block (c .to) (copiedBytes s chain memo fh (c .from)) ∷ copiedBlocks s chain memo fh cs
@@ -80,6 +84,7 @@ copiedBlocks s chain memo fh (c ∷ cs) = block (c .to) (copiedBytes s chain mem
 unfoldable pub mdBytes : List ℕ → List ℕ
 mdBytes text = header kindMD (mdSize (length text)) 0 ++ text ++ replicate (mdSize (length text) - (24 + length text)) 0
 
+-- "a new FH with the lent time": 56 bytes, links to no next FH and to the MD, time, zeros
 unfoldable pub fhBytes : ℕ → ℕ → List ℕ
 fhBytes md time = header kindFH 56 2 ++ le 8 0 ++ le 8 md ++ le 8 time ++ le 8 0
 
@@ -88,6 +93,7 @@ abbrev pub nextDG : List Placed → ℕ
 nextDG [] = 0
 nextDG (p ∷ ps) = p .dg
 
+-- DG: the next DG, its CG, its DL, the DG comment; id size 0
 unfoldable pub dgBytes : List ℕ → ℕ → List Copy → Placed → ℕ → List ℕ
 dgBytes s size memo p next =
     header kindDG 64 4 ++ le 8 next ++ le 8 (cgOf p) ++ le 8 (ifEq (columnBlocks s size (p .column)) 0 0 (dlOf p))
@@ -98,24 +104,28 @@ abbrev pub cgFlags : ℕ → Option ℕ → ℕ
 cgFlags f none = f / 16 * 16
 cgFlags f (some m) = f / 16 * 16 + 8
 
--- the CG of column number m
+-- bookkeeping: the CG of column number m
 unfoldable pub cgAt : ℕ → List Placed → ℕ
 cgAt m [] = 0
 cgAt zero (p ∷ ps) = cgOf p
 cgAt (suc m) (p ∷ ps) = cgAt m ps
 
+-- the CG's "seventh link"
 abbrev pub masterLink : List Placed → Option ℕ → List ℕ
 masterLink ps none = []
 masterLink ps (some m) = le 8 (cgAt m ps)
 
+-- bookkeeping: 1 for true
 abbrev pub one : Bool → ℕ
 one b = pick b 1 0
 
+-- the CG's data: record id 0, records, flags, path separator as it was, data bytes, invalidation byte
 unfoldable pub cgData : List ℕ → Column → List ℕ
 cgData s c =
     le 8 0 ++ le 8 (c .group .records) ++ le 2 (cgFlags (groupFlags s (c .group .at)) (c .master)) ++ part (dataAt s (c .group .at) + 18) 2 s
     ++ le 4 0 ++ le 4 (channelBytes s (c .channel)) ++ le 4 (one (keepsInval s (c .group .at) (c .channel)))
 
+-- CG: no next CG, its CN, links 3, 4, 6 led to the copies, no first sample reduction
 unfoldable pub cgBytes : List ℕ → List Copy → List Placed → Placed → List ℕ
 cgBytes s memo ps p =
     header kindCG (cgSize (p .column .master)) (cgLinks (p .column .master))
@@ -140,10 +150,12 @@ cnData s g c =
     le 1 (storedType (treatment (channelType s c)) (channelType s c)) ++ part (dataAt s c + 1) 3 s ++ le 4 0 ++ part (dataAt s c + 8) 4 s
     ++ le 4 (cnFlags (channelFlags s c) (keepsInval s g c)) ++ le 4 0 ++ part (dataAt s c + 20) 2 s ++ le 2 0 ++ part (dataAt s c + 24) 48 s
 
+-- CN link 6: its SD
 abbrev pub sdLink : Signal → ℕ → ℕ
 sdLink unsigned a = 0
 sdLink (signalData fs) a = a
 
+-- CN: no next CN, no composition, links 3, 4, 5, 7, 8 led to the copies, its SD
 unfoldable pub cnBytes : List ℕ → List Copy → Placed → List ℕ
 cnBytes s memo p =
     header kindCN 160 8
@@ -152,24 +164,27 @@ cnBytes s memo p =
     ++ le 8 (newLink memo (linkAt s (p .column .channel) 6)) ++ le 8 (newLink memo (linkAt s (p .column .channel) 7))
     ++ cnData s (p .column .group .at) (p .column .channel)
 
--- the places of data blocks, 24 + payload apart
+-- "24 + payload apart": the places of data blocks
 unfoldable pub blockLinks : ℕ → ℕ → ℕ → List ℕ
 blockLinks payload zero a = []
 blockLinks payload (suc n) a = le 8 a ++ blockLinks payload n (a + (24 + payload))
 
+-- "64-bit payload" of a column's DL
 unfoldable pub columnPayload : List ℕ → ℕ → Column → ℕ
 columnPayload s size c = blockPayload size (columnWidth s c) (c .group .records)
 
+-- DL: no next DL, its blocks; "byte 1, three zeros, 32-bit n, 64-bit payload"
 unfoldable pub dlBytes : List ℕ → ℕ → Placed → List ℕ
 dlBytes s size p =
     header kindDL (dlSize (columnBlocks s size (p .column))) (columnBlocks s size (p .column) + 1)
     ++ le 8 0 ++ blockLinks (columnPayload s size (p .column)) (columnBlocks s size (p .column)) (p .first)
     ++ le 4 1 ++ le 4 (columnBlocks s size (p .column)) ++ le 8 (columnPayload s size (p .column))
 
+-- "if it has n blocks": no DL without
 unfoldable pub dlBlocks : List ℕ → ℕ → Placed → List Block
 dlBlocks s size p = ifEq (columnBlocks s size (p .column)) 0 [] (block (dlOf p) (dlBytes s size p) ∷ [])
 
--- DG, CG, CN and DL of every column; all is the list that master numbers count
+-- "Then per column DG, CG, CN, and .. DL"; all is the list that master numbers count
 unfoldable pub structureBlocks : List ℕ → ℕ → List Copy → List Placed → List Placed → List Block
 structureBlocks s size memo all [] = []
 structureBlocks s size memo all (p ∷ ps) =
@@ -181,17 +196,21 @@ abbrev pub dataKind : Bool → ℕ
 dataKind true = kindDT
 dataKind false = kindDV
 
+-- a data block: header and payload
 unfoldable pub framed : ℕ → List ℕ → List ℕ
 framed kind bytes = header kind (24 + length bytes) 0 ++ bytes
 
+-- "its blocks, 24 + payload apart"
 unfoldable pub payloadBlocks : ℕ → ℕ → List (List ℕ) → List Block
 payloadBlocks kind a [] = []
 payloadBlocks kind a (p ∷ ps) = block a (framed kind p) ∷ payloadBlocks kind (a + (24 + length p)) ps
 
+-- "and its SD"
 abbrev pub sdBlocks : List ℕ → Signal → ℕ → List Block
 sdBlocks s unsigned a = []
 sdBlocks s (signalData fs) a = block a (framed kindSD (signalBytes s (signalData fs))) ∷ []
 
+-- "Then per column its blocks .. and its SD"
 unfoldable pub dataBlocks : List ℕ → ℕ → List Placed → List Block
 dataBlocks s size [] = []
 dataBlocks s size (p ∷ ps) =
@@ -203,9 +222,11 @@ abbrev pub nextAttachment : List Attachment → ℕ
 nextAttachment [] = 0
 nextAttachment (t ∷ ts) = t .to
 
+-- an AT: its header as it was, the next AT, its other links led to the copies, its data
 unfoldable pub atBytes : List ℕ → List Copy → ℕ → ℕ → List ℕ
 atBytes s memo a next = part a 24 s ++ le 8 next ++ newLinks s memo (linksAt s a - 1) (a + 32) ++ dataOf s a
 
+-- "attachments, each after the blocks newly copied for it"
 unfoldable pub attachmentBlocks : List ℕ → List ℕ → List Copy → ℕ → List Attachment → List Block
 attachmentBlocks s chain memo fh [] = []
 attachmentBlocks s chain memo fh (t ∷ ts) =
@@ -215,6 +236,7 @@ attachmentBlocks s chain memo fh (t ∷ ts) =
 unfoldable pub hdData : List ℕ → List ℕ
 hdData s = take 32 (dataOf s 64 ++ replicate 32 0)
 
+-- HD: the first DG, history and attachment, no hierarchy, no events, the comment
 unfoldable pub hdBytes : List ℕ → ℕ → ℕ → ℕ → ℕ → List ℕ
 hdBytes s firstDG firstFH firstAT comment =
     header kindHD 104 6 ++ le 8 firstDG ++ le 8 firstFH ++ le 8 0 ++ le 8 firstAT ++ le 8 0 ++ le 8 comment ++ hdData s

@@ -1,24 +1,24 @@
 -- What the program `columns` prints, as bytes (document 01, placement, the example).
-use Prim.Native.Nat.{ℕ, zero, suc, _+_, _*_, _/_, _%_}
+use Prim.Native.Nat.{ℕ, zero, suc, _+_, _/_, _%_}
 use mathlib.Core.List.{List, [], _∷_, _++_}
 use mathlib.Core.Bool.{Bool, true, false}
 use mathlib.Core.Option.{Option, none, some}
 use lib.ListN.{length}
-use Rattle.base.specs.Choice.{pick, ifEq}
+use Rattle.base.specs.Choice.{ifEq}
 use Rattle.base.specs.Checked.{Checked, ok, refused}
 use Rattle.plan.specs.Channel.{channelBytes, keepsInval}
-use Rattle.plan.specs.Columns.{SrcGroup, Column, Omission, Plan}
+use Rattle.plan.specs.Columns.{Column, Omission, Plan}
 use Rattle.plan.specs.Layout.{columnBlocks, payloadSize}
 use Rattle.result.specs.Fill.{one}
 use Rattle.result.specs.Payload.{signalBytes}
 use Rattle.result.specs.Result.{Args, Decided}
 
--- the decimal digits of n, at most so many
+-- bookkeeping: the decimal digits of n, at most so many
 unfoldable pub digitsOf : ℕ → ℕ → List ℕ
 digitsOf zero n = []
 digitsOf (suc k) n = let more = digitsOf k (n / 10) in ifEq (n / 10) 0 [] more ++ ((48 + n % 10) ∷ [])
 
--- a number of at most 64 bits
+-- bookkeeping: a number of at most 64 bits
 unfoldable pub decimal : ℕ → List ℕ
 decimal n = digitsOf 20 n
 
@@ -49,6 +49,7 @@ columnLine s size k c =
     ++ decimal (one (keepsInval s (c .group .at) (c .channel))) ++ blank ++ decimal (c .group .records) ++ blank
     ++ decimal (columnBlocks s size c) ++ blank ++ decimal (listedBytes s c) ++ blank ++ masterText (c .master) ++ newline
 
+-- a line for each column, from number k on
 unfoldable pub columnLines : List ℕ → ℕ → ℕ → List Column → List ℕ
 columnLines s size k [] = []
 columnLines s size k (c ∷ cs) = columnLine s size k c ++ columnLines s size (k + 1) cs
@@ -71,6 +72,7 @@ refusedText = 114 ∷ 101 ∷ 102 ∷ 117 ∷ 115 ∷ 101 ∷ 100 ∷ 32 ∷ []
 abbrev placeText : List ℕ
 placeText = 32 ∷ 112 ∷ 108 ∷ 97 ∷ 99 ∷ 101 ∷ 32 ∷ []
 
+-- "columns N", a line per column, "omitted N", a line per omission
 unfoldable pub planLines : List ℕ → ℕ → Plan → List ℕ
 planLines s size p =
     columnsText ++ decimal (length (p .columns)) ++ newline ++ columnLines s size 0 (p .columns)

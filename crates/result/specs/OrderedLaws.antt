@@ -1,5 +1,5 @@
 -- Laws of blocks in the order of their addresses.
-use Prim.Native.Nat.{ℕ, _≤_}
+use Prim.Native.Nat.{ℕ}
 use mathlib.Core.List.{List, [], _∷_, _++_}
 use native.Mathlib.Omega.{arith}
 use Rattle.result.specs.Fill.{Block}

@@ -1,8 +1,6 @@
 -- The result: its blocks in the order of their addresses, zeros between them; the report; the answer in document 01's order.
-use Prim.Native.Nat.{ℕ, zero, suc, _+_, _*_, _-_}
+use Prim.Native.Nat.{ℕ, _+_, _-_}
 use mathlib.Core.List.{List, [], _∷_, _++_}
-use mathlib.Core.Bool.{Bool, true, false}
-use mathlib.Core.Option.{Option, none, some}
 use lib.ListN.{length, drop, replicate}
 use Rattle.base.specs.Choice.{pick, ifLt, ifEq}
 use Rattle.base.specs.Field.{leAt}
@@ -10,16 +8,16 @@ use Rattle.base.specs.Blit.{blit}
 use Rattle.base.specs.Checked.{Checked, ok, refused, andThen, Verdict, fine}
 use Rattle.mdf.specs.Block.{linkAt}
 use Rattle.mdf.specs.Identification.{fileMark, identified}
-use Rattle.mdf.specs.Walk.{Source, walk}
-use Rattle.mdf.specs.Group.{DataGroup, dataGroups, isStorage}
+use Rattle.mdf.specs.Walk.{walk}
+use Rattle.mdf.specs.Group.{dataGroups, isStorage}
 use Rattle.mdf.specs.Count.{counts}
-use Rattle.plan.specs.Columns.{SrcGroup, srcGroups, Column, Signal, unsigned, signalData, Omission, Plan, plan, omissionWords}
+use Rattle.plan.specs.Columns.{SrcGroup, srcGroups, Column, Signal, unsigned, signalData, Plan, plan, omissionWords}
 use Rattle.plan.specs.Data.{allDataIn, blocksIn}
-use Rattle.plan.specs.Copies.{Copy, Copies, History, Attached}
-use Rattle.plan.specs.Layout.{Layout, layout, Placed, columnBlocks}
+use Rattle.plan.specs.Copies.{Copy}
+use Rattle.plan.specs.Layout.{Layout, layout, columnBlocks}
 use Rattle.result.specs.Fill.{Block, block, newLink, copiedBlocks, mdBytes, fhBytes, nextDG, structureBlocks, dataBlocks, nextAttachment, attachmentBlocks, hdBytes}
 
--- what a call is given besides output, list and work words
+-- bookkeeping: what a call is given besides output, list and work words
 pub record Args : Type 0 where
   pub image : List ℕ
   pub blockSize : ℕ
@@ -34,16 +32,17 @@ abbrev pub firstFH : List Copy → List ℕ → ℕ → ℕ
 firstFH memo [] fh = fh
 firstFH memo (a ∷ l) fh = newLink memo a
 
--- all blocks copied
+-- bookkeeping: all blocks copied
 abbrev pub memoOf : Layout → List Copy
 memoOf l = l .attached .made .memo
 
+-- HD, with the first DG, history entry and attachment and the comment's copy
 unfoldable pub hdBlock : List ℕ → Layout → Block
 hdBlock s l =
     block 64 (hdBytes s (nextDG (l .placed)) (firstFH (memoOf l) (l .past .chain) (l .fh)) (nextAttachment (l .attached .attachments))
     (newLink (memoOf l) (linkAt s 64 5)))
 
--- every block, in the order of addresses
+-- "From 168, each block ..": every block, in the order of addresses
 unfoldable pub blocksOf : Args → Layout → List Block
 blocksOf x l =
     block 0 (x .ident) ∷ hdBlock (x .image) l
@@ -59,6 +58,7 @@ unfoldable pub flat : ℕ → List Block → ℕ → List ℕ
 flat a [] e = replicate (e - a) 0
 flat a (b ∷ bs) e = replicate (b .at - a) 0 ++ b .bytes ++ flat (b .at + length (b .bytes)) bs e
 
+-- "the file's size": the whole file, up to it
 unfoldable pub fileOf : Args → Layout → List ℕ
 fileOf x l = flat 0 (blocksOf x l) (l .fileSize)
 
@@ -73,18 +73,22 @@ pub record Report : Type 0 where
   pub metadataSize : ℕ
   pub fileSize : ℕ
 
+-- "source groups (not VLSD storage)"
 unfoldable pub sourceGroupsOf : List ℕ → List SrcGroup → ℕ
 sourceGroupsOf s [] = 0
 sourceGroupsOf s (g ∷ gs) = pick (isStorage s (g .at)) 0 1 + sourceGroupsOf s gs
 
+-- "time columns"
 unfoldable pub timeColumns : List Column → ℕ
 timeColumns [] = 0
 timeColumns (c ∷ cs) = pick (c .isTime) 1 0 + timeColumns cs
 
+-- "one for each SD written"
 abbrev pub signalBlocks : Signal → ℕ
 signalBlocks unsigned = 0
 signalBlocks (signalData fs) = 1
 
+-- "data blocks (DT and DV, and one for each SD written)"
 unfoldable pub blocksWritten : List ℕ → ℕ → List Column → ℕ
 blocksWritten s size [] = 0
 blocksWritten s size (c ∷ cs) = columnBlocks s size c + signalBlocks (c .signalOf) + blocksWritten s size cs
@@ -95,6 +99,7 @@ pub record Decided : Type 0 where
   pub planned : Plan
   pub laidOut : Layout
 
+-- the seven counts
 unfoldable pub report : Args → Decided → Report
 report x d =
     record {
@@ -143,14 +148,14 @@ answer x out list =
     ifLt out (d .laidOut .fileSize) (refused 20 (d .laidOut .fileSize))
     (ifLt list (length (omissionWords (d .planned .omissions))) (refused 21 (length (omissionWords (d .planned .omissions)))) (ok d)))
 
--- what a call answers, and what it leaves in output, list and work slices
+-- bookkeeping: what a call answers, and what it leaves in output, list and work slices
 pub record Outcome : Type 0 where
   pub answered : Checked Report
   pub output : List ℕ
   pub list : List ℕ
   pub work : List (List ℕ)
 
--- the words that each work slice needs
+-- "A work slice has at most 8,192 words, its needed length a constant"
 abbrev pub workWords : ℕ
 workWords = 8192
 
@@ -159,6 +164,7 @@ unfoldable pub workIn : List (List ℕ) → Verdict
 workIn [] = fine
 workIn (w ∷ ws) = ifLt (length w) workWords (refused 1 0) (workIn ws)
 
+-- "Work slices are zero": as many words, each 0
 unfoldable pub zeros : List (List ℕ) → List (List ℕ)
 zeros [] = []
 zeros (w ∷ ws) = replicate (length w) 0 ∷ zeros ws
@@ -180,7 +186,7 @@ outcome x out list work (ok d) =
       work = work;
     }
 
--- a whole call
+-- a whole call: "1: a work slice too short" first, then the answer
 unfoldable pub convert : Args → List ℕ → List ℕ → List (List ℕ) → Outcome
 convert x out list work =
     outcome x out list (workLeft (andThen (workIn work) (λ _. lentIn x)) work) (andThen (workIn work) (λ _. answer x (length out) (length list)))

@@ -9,7 +9,7 @@ use placing::decide::decide;
 use placing::layout::Numbers;
 use reading::recording::clear;
 ghost use mathlib.Core.Path.{_≡_};
-ghost use lib.ListN.{length, replicate};
+ghost use lib.ListN.{length};
 ghost use Rattle.result.specs.Result as result;
 ghost use Rattle.placing.specs.Decision.{four};
 ghost use Rattle.writing.specs.Answer.{args, left, Bytes, Promised};

@@ -6,7 +6,7 @@ use planning::words::word;
 ghost use mathlib.Core.Path.{_≡_};
 ghost use Prim.Native.Nat.{ℕ, _≤_, _<_};
 ghost use Rattle.writing.specs.Sum.{sumOf};
-ghost use Rattle.writing.specs.Counted.{groupAt, timeAt, dataBlocksAt, signalAt, blocksAt, Few};
+ghost use Rattle.writing.specs.Counted.{groupAt, timeAt, dataBlocksAt, blocksAt, Few};
 
 // 1 where item i is a CG that is not VLSD storage.
 fn group_at(image: &[u8], source: &[u64], i: u64) -> u64

@@ -22,7 +22,7 @@ ghost use Rattle.plan.specs.Layout.{dlSize};
 ghost use Rattle.placing.specs.Standing.{copiesIn};
 ghost use Rattle.result.specs.Fill.{block, newLink, structureBlocks};
 ghost use Rattle.writing.specs.PlacedIn.{placedIn};
-ghost use Rattle.writing.specs.Structure.{columnDG, columnCG, columnCN, columnDL, columnDLs, columnParts, cgLength, Room, StructureReady};
+ghost use Rattle.writing.specs.Structure.{columnDG, columnCG, columnCN, columnDLs, columnParts, cgLength, Room, StructureReady};
 ghost use Rattle.writing.specs.Wrote.{Wrote};
 
 // Link i of the block at a, led to its copy.
