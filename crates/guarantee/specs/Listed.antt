@@ -5,20 +5,25 @@ use mathlib.Core.List.{List, [], _∷_, map}
 use mathlib.Core.Path.{_≡_, refl, sym, _∙_, ap, subst}
 use lib.ListN.{length}
 use Rattle.base.specs.Blit.{blit}
-use Rattle.base.specs.Checked.{ok}
+use Rattle.base.specs.Checked.{Checked, ok, andThen}
 use Rattle.plan.specs.Columns.{Column}
 use Rattle.plan.specs.Layout.{Placed, payloadSize}
 use Rattle.result.specs.Payload.{signalBytes}
 use Rattle.result.specs.Listing.{listedBytes}
 use Rattle.result.specs.Result.{Args, Decided, answer, fileOf}
-use Rattle.result.specs.Guarantee.{In, here, there, Shown, shown, due, dueAll, duePayload, columnsPlaced}
+use Rattle.result.specs.Links.{Shown, shown}
+use Rattle.result.specs.Due.{due, dueAll, duePayload}
+use Rattle.result.specs.Guarantee.{In, here, there, columnsPlaced}
 use Rattle.payload_laws.specs.ColumnLaws.{column-joined, column-bytes}
 use Rattle.plan_laws.specs.Known.{Known, answer-known}
 use Rattle.guarantee.specs.Theorem.{AllBytes, sized, guaranteed}
 
 -- what links show of a column: bytes of payload and signal data, no block header among them
-abbrev pub shownBytes : Shown → ℕ
-shownBytes h = length (h .payload) + length (h .signalData)
+abbrev pub shownBytes : Shown → Checked ℕ
+shownBytes h = andThen (h .payload) (λ p. andThen (h .signalData) (λ t. ok (length p + length t)))
+
+abbrev pub dueBytes : List ℕ → Column → Checked ℕ
+dueBytes s c = ok (listedBytes s c)
 
 -- the payload due to a planned column has its payload bytes
 due-bytes : (x : Args) (d : Decided) (k : Known x d) (c : Column) → In c (d .planned .columns) → length (duePayload (x .image) c) ≡ payloadSize (x .image) c
@@ -26,19 +31,19 @@ due-bytes x d k c i =
     let r = sized x d k c i .ready in
     ap length (sym (column-joined (x .image) (x .blockSize) c r)) ∙ column-bytes (x .image) (x .blockSize) c r
 
-all-due : (s : List ℕ) (all ps : List Placed) → ((c : Column) → In c (columnsPlaced ps) → length (duePayload s c) ≡ payloadSize s c)
-    → map shownBytes (dueAll s all ps) ≡ map (listedBytes s) (columnsPlaced ps)
+all-due : (s : List ℕ) (size : ℕ) (all ps : List Placed) → ((c : Column) → In c (columnsPlaced ps) → length (duePayload s c) ≡ payloadSize s c)
+    → map shownBytes (dueAll s size all ps) ≡ map (dueBytes s) (columnsPlaced ps)
 unfolding dueAll due columnsPlaced
-all-due s all [] h = refl
-all-due s all (p ∷ ps) h = rw (h (p .column) here, all-due s all ps (λ c i. h c (there i)))
+all-due s size all [] h = refl
+all-due s size all (p ∷ ps) h = rw (h (p .column) here, all-due s size all ps (λ c i. h c (there i)))
 
 -- of every accepted call: the fields, in order, are the bytes that its file shows
 pub listed-shown : (x : Args) (out list : List ℕ) (d : Decided) → AllBytes (x .image) → answer x (length out) (length list) ≡ ok d
     → (k : ℕ) → length (d .laidOut .placed) ≤ k
-    → map shownBytes (shown (blit 0 (fileOf x (d .laidOut)) out) k) ≡ map (listedBytes (x .image)) (d .planned .columns)
+    → map shownBytes (shown (blit 0 (fileOf x (d .laidOut)) out) k) ≡ map (dueBytes (x .image)) (d .planned .columns)
 listed-shown x out list d bytes e k h =
     let g = guaranteed x out list d bytes e in
     ap (map shownBytes) (g .shows k h)
-    ∙ all-due (x .image) (d .laidOut .placed) (d .laidOut .placed)
+    ∙ all-due (x .image) (x .blockSize) (d .laidOut .placed) (d .laidOut .placed)
     (λ c i. due-bytes x d (answer-known x (length out) (length list) d e) c (subst (In c) (g .planned) i))
-    ∙ ap (map (listedBytes (x .image))) (g .planned)
+    ∙ ap (map (dueBytes (x .image))) (g .planned)

@@ -198,6 +198,6 @@ guaranteed x out list d bytes e =
       framed = λ g i. group-framed g (member (x .image) (dataGroups (k .steps .source)) (k .steps .counted) g (subst (In g) (k .steps .groups) i));
       signals = λ c i. (k .planned .sourced c i .signal, signal-whole (x .image) (c .signalOf) (k .signalFine c i));
       masters = k .masters;
-      history = history-followed (x .image) _ _ _ (o x d k .past) (few-comment x d k);
-      attachments = attachments-followed (x .image) _ _ _ (o x d k .attached);
+      historyEnds = history-followed (x .image) _ _ _ (o x d k .past) (few-comment x d k);
+      attachmentsEnd = attachments-followed (x .image) _ _ _ (o x d k .attached);
     }

@@ -152,5 +152,5 @@ pub record Guaranteed (x : Args) (d : Decided) (f l : List ℕ) : Type 0 where
   -- ---- "masters are named as planned"
   pub masters : (c : Column) → In c (d .planned .columns) → NamesMaster (x .image) (d .groups) (d .planned .columns) c (c .isTime)
   -- ---- the chains of history and attachments are followed to their end
-  pub history : Followed (x .image) isCopied (linkAt (x .image) 64 1) (d .laidOut .past .chain)
-  pub attachments : Followed (x .image) isAT (linkAt (x .image) 64 3) (attachedFrom (d .laidOut .attached .attachments))
+  pub historyEnds : Followed (x .image) isCopied (linkAt (x .image) 64 1) (d .laidOut .past .chain)
+  pub attachmentsEnd : Followed (x .image) isAT (linkAt (x .image) 64 3) (attachedFrom (d .laidOut .attached .attachments))
