@@ -1,4 +1,5 @@
--- Wrong converters that document 01's c excludes, at the worked example: what each leaves does not have the guarantee, whatever the list.
+-- Wrong converters that document 01's c excludes, at the worked example: what each leaves does not have the guarantee, whatever the list, or its answer
+-- is not the one defined.
 use Prim.Native.Nat.{ℕ, _+_}
 use mathlib.Core.Bool.{Bool, true, false}
 use mathlib.Core.List.{List, [], _∷_, _++_}
@@ -7,6 +8,7 @@ use native.Mathlib.Omega.{arith}
 use lib.Dec.{eqb}
 use lib.ListN.{replicate, length, getD, take, set}
 use borrow.Author.Tests.{eqb-true, eqb-false}
+use Rattle.base.specs.CheckedLaws.{refused≢ok, ok-same}
 use Rattle.base.specs.ChoiceLaws.{eq-no}
 use Rattle.base.specs.Blit as baseBlit
 use Rattle.base.specs.Checked as baseChecked
@@ -248,3 +250,55 @@ unfolding
 omits-each os n p f l g =
     let r = about 336 os (omega (arith, g .once _ here refl 336 (there here))) in
     no-reason _ (r .omission) (λ h i. one-at _ h i) (r .isAt) refl (g .omitted (r .omission) (r .isIn))
+
+-- ---- the answer: "one that refuses every recording", "\"too small\" before anything was measured", "a report of invented blocks"
+abbrev pub Answers : Type 0
+Answers =
+    ((number place : ℕ) → resultResult.answer args 1288 1 ≡ baseChecked.refused number place → ⊥)
+    × ((place : ℕ) → resultResult.answer args 0 0 ≡ baseChecked.refused 20 place → place ≡ 1288)
+    × ((r : resultResult.Report) → resultResult.convert args (replicate 1288 0) (0 ∷ []) [] .answered ≡ baseChecked.ok r → r .dataBlocks ≡ 4)
+
+place-same : {n p q : ℕ} → _≡_ {A = baseChecked.Checked resultResult.Decided} (baseChecked.refused n p) (baseChecked.refused n q) → p ≡ q
+place-same e = cc
+
+pub answers : Answers
+unfolding
+    baseBlit.part baseBlit.blit baseChoice.ifLt baseChoice.ifLe baseChoice.ifEq baseField.leAt baseField.le mdfBlock.kindAt mdfBlock.sizeAt
+    mdfBlock.linksAt mdfBlock.linkAt mdfBlock.firstLink mdfBlock.dataAt mdfBlock.headerIn mdfBlock.lengthIn mdfBlock.wholeAt mdfBlock.wantedAt
+    mdfBlock.blockAt mdfChain.leafOf mdfChain.added mdfChain.fragmentAt mdfChain.listed mdfChain.isIn mdfChain.listIn mdfChain.chainFrom
+    mdfChain.chain mdfCount.sizeDT mdfCount.sizeDV mdfCount.quotient mdfCount.sortedCount mdfCount.countOne mdfCount.ofGroup mdfCount.tallies
+    mdfCount.countGroups mdfCount.countsFrom mdfCount.counts mdfGroup.addresses mdfGroup.channelsOf mdfGroup.groupsOf mdfGroup.upTo
+    mdfGroup.dataGroupsOf mdfGroup.dataGroups mdfGroup.recordId mdfGroup.groupFlags mdfGroup.samples mdfGroup.invalBytes mdfGroup.isStorage
+    mdfIdentification.dropWhile mdfIdentification.trimmed mdfIdentification.firstPart mdfIdentification.pastDot mdfIdentification.digitsFrom
+    mdfIdentification.digits mdfIdentification.number mdfIdentification.versionOf mdfIdentification.isAscii mdfIdentification.versionIn
+    mdfIdentification.identified mdfName.textIn mdfName.nameAt mdfRecords.rangesIn mdfRecords.joined mdfRecords.placeOf mdfRecords.anyDV
+    mdfRecords.inFront mdfRecords.runs mdfRecords.sizeOf mdfRecords.runWhole mdfRecords.runsWhole mdfRecords.pieces mdfRecords.withoutIds
+    mdfRecords.runRecords mdfRecords.sortedRecords mdfRecords.sortedIn mdfRecords.withId mdfRecords.ofBytes mdfRecords.frameOf mdfRecords.frameAt
+    mdfRecords.framesFrom mdfRecords.frames mdfRecords.isIdOf mdfRecords.equalIds mdfRecords.unsortedFrames mdfRecords.unsortedRecords mdfWalk.isMet
+    mdfWalk.tally mdfWalk.visit mdfWalk.entered mdfWalk.level mdfWalk.belowCN mdfWalk.belowCG mdfWalk.idSize mdfWalk.idSizeIn mdfWalk.belowDG
+    mdfWalk.walk planChannel.channelType planChannel.bitOffset planChannel.byteOffset planChannel.bitCount planChannel.channelFlags
+    planChannel.invalPosition planChannel.channelBytes planChannel.fits planChannel.isMasterType planChannel.keepsInval planChannel.width
+    planChannel.invalBit planChannel.treatment planColumns.withCounts planColumns.srcGroups planColumns.firstMaster planColumns.masterOf
+    planColumns.remoteLink planColumns.groupAt planColumns.remoteTime planColumns.timeOf planColumns.timeColumn planColumns.withTime
+    planColumns.decideSignal planColumns.decideComposition planColumns.decide planColumns.planChannels planColumns.planGroup planColumns.planGroups
+    planColumns.plan planColumns.omissionAddresses planColumns.omissionReasons planColumns.omissionWords planCopies.copyOf planCopies.placed
+    planCopies.isCopied planCopies.lostLinks planCopies.copyLinks planCopies.copyAt planCopies.copyRoot planCopies.copyRoots planCopies.historyFrom
+    planCopies.historyOf planCopies.columnCopies planCopies.isAttached planCopies.attachmentIn planCopies.attach planCopies.attachmentsFrom
+    planCopies.attachmentsOf planData.isNonempty planData.anyNonempty planData.signalsIn planData.dataIn planData.allDataIn planData.blocksIn
+    planGeometry.align8 planGeometry.powerIn planGeometry.stepOf planGeometry.perBlock planGeometry.fullPayload planGeometry.blockCount
+    planGeometry.perFull planGeometry.blockPayload planLayout.columnWidth planLayout.columnBlocks planLayout.dlSize planLayout.structureSize
+    planLayout.payloadSize planLayout.blocksEnd planLayout.placedFrom planLayout.structureEnd planLayout.dataEnd planLayout.mdSize
+    planLayout.mdPlace planLayout.fhPlace planLayout.structurePlace planLayout.layout resultFill.header resultFill.words resultFill.newLink
+    resultFill.newLinks resultFill.historyLink resultFill.copiedLinks resultFill.dataOf resultFill.copiedBytes resultFill.copiedBlocks
+    resultFill.mdBytes resultFill.fhBytes resultFill.dgBytes resultFill.cgAt resultFill.cgData resultFill.cgBytes resultFill.cnData
+    resultFill.cnBytes resultFill.blockLinks resultFill.columnPayload resultFill.dlBytes resultFill.dlBlocks resultFill.structureBlocks
+    resultFill.framed resultFill.payloadBlocks resultFill.dataBlocks resultFill.atBytes resultFill.attachmentBlocks resultFill.hdData
+    resultFill.hdBytes resultPayload.recordsOf resultPayload.cell resultPayload.cells resultPayload.payloads resultPayload.columnPayloads
+    resultResult.hdBlock resultResult.blocksOf resultResult.flat resultResult.fileOf resultResult.sourceGroupsOf resultResult.timeColumns
+    resultResult.blocksWritten resultResult.report resultResult.lentIn resultResult.decided resultResult.answer resultResult.workIn
+    resultResult.zeros resultResult.convert
+answers = (
+  λ number place e. refused≢ok (sym e),
+  λ place e. sym (place-same e),
+  λ r e. sym (ap (λ (x : resultResult.Report). x .dataBlocks) (ok-same e)),
+)
