@@ -3,7 +3,7 @@ use Prim.Native.Nat.{ℕ, zero, suc, _+_, _*_, _^_, _≤_, _<_}
 use mathlib.Core.List.{List, [], _∷_, _++_, append-nil, append-assoc}
 use mathlib.Core.Bool.{Bool, true, false, false≢true}
 use mathlib.Core.Option.{Option, none, some}
-use mathlib.Core.Path.{_≡_, refl, sym, ap, _∙_, subst}
+use mathlib.Core.Path.{_≡_, refl, sym, ap, _∙_}
 use native.Mathlib.Omega.{arith}
 use lib.Dec.{lit<, eqb}
 use lib.ListN.{length, getD, length-append}
@@ -18,10 +18,10 @@ use Rattle.plan.specs.Copies.{kindFH, Copy, copyOf}
 use Rattle.plan.specs.Layout.{Layout, mdSize}
 use Rattle.result.specs.Fill.{Block, block, header, orZero, newLink, historyLink, firstNew, mdBytes, fhBytes}
 use Rattle.result.specs.Links.{headAt}
-use Rattle.result.specs.Names.{Leads, SameBlock, ChainDue, HistoryDue, NewHistory}
+use Rattle.result.specs.Names.{SameBlock, HistoryDue, NewHistory}
 use Rattle.result.specs.Result.{Args, memoOf, firstFH, blocksOf}
 use Rattle.result.specs.Guarantee.{Stands, In, here, there}
-use Rattle.copies_laws.specs.MemoLaws.{kind-copied, Followed}
+use Rattle.copies_laws.specs.MemoLaws.{kind-copied, Fresh, Past}
 use Rattle.shown_laws.specs.Standing.{stands-front, stands-at, read}
 use Rattle.shown_laws.specs.Header.{length-header, header-kind, header-size, header-links}
 use Rattle.guarantee.specs.Named.{CopyStands, new-small, same-block, copy-first}
@@ -57,21 +57,18 @@ module _ (s f : List ℕ) (bytes : (i : ℕ) → getD s i 0 < 256) (chain : List
       let first : firstNew s memo b (historyLink b chain memo fh) ≡ x = rw h in
       copy-first s f bytes chain memo fh all b t e l (rw first small') ∙ first
 
-  pub history-due : (pre suf : List ℕ) (a : ℕ) → chain ≡ pre ++ suf → ChainDue s pre suf a
-      → ((b : ℕ) → In b suf → Followed s memo b) → ((b : ℕ) → In b suf → 0 < linksAt s b)
+  pub history-due : (pre suf : List ℕ) → chain ≡ pre ++ suf → Fresh pre suf → ((b : ℕ) → In b suf → Past s memo b)
       → HistoryDue s f fh suf (firstFH memo suf fh)
-  unfolding HistoryDue ChainDue newLink
-  history-due pre [] a e d follows links = refl
-  history-due pre (b ∷ suf) a e d follows links =
-      let leads : Leads s b = subst (Leads s) (sym (d .0)) (d .1) in
-      let apart : isIn b pre ≡ false = subst (λ (z : ℕ). isIn z pre ≡ false) (sym (d .0)) (d .2) in
-      let found = follows b here (leads .nonzero) (kind-copied (kindAt s b) (leads .kind)) in
-      let hist : historyLink b chain memo fh ≡ some (firstFH memo suf fh) = rw e (history-at pre suf b memo fh apart) in
+  unfolding HistoryDue Fresh newLink
+  history-due pre [] e d each = refl
+  history-due pre (b ∷ suf) e d each =
+      let p : Past s memo b = each b here in
+      let found = p .followed (p .leads .nonzero) (kind-copied (kindAt s b) (p .leads .kind)) in
+      let hist : historyLink b chain memo fh ≡ some (firstFH memo suf fh) = rw e (history-at pre suf b memo fh (d .0)) in
       let next : linkAt f (found .0) 0 ≡ firstFH memo suf fh =
-      history-next b (found .0) (firstFH memo suf fh) (found .1) hist (first-small suf) (links b here) in
+      history-next b (found .0) (firstFH memo suf fh) (found .1) hist (first-small suf) (p .linked) in
       let more : HistoryDue s f fh suf (firstFH memo suf fh) =
-      history-due (pre ++ (b ∷ [])) suf (linkAt s b 0) (e ∙ sym (append-assoc pre (b ∷ []) suf))
-      (subst (λ (z : ℕ). ChainDue s (pre ++ (z ∷ [])) suf (linkAt s z 0)) (sym (d .0)) (d .3)) (λ c i. follows c (there i)) (λ c i. links c (there i)) in
+      history-due (pre ++ (b ∷ [])) suf (e ∙ sym (append-assoc pre (b ∷ []) suf)) (d .1) (λ c i. each c (there i)) in
       rw (found .1) (same-block s f bytes chain memo fh all b (found .0) (found .1), rw next more)
 
 -- ---- the new FH and its MD
