@@ -124,7 +124,7 @@ module _ (x : Args) (cs : List Column) (l : Layout) (o : LaidOut (x .image) (x .
     comment-due k = rw (hd-link x l f filled 5 (lit< tt) (led-small _)) (link-led k _ comment-followed)
 
     -- the history
-    pub past-due : HistoryDue (x .image) f (l .fh) (l .past .chain) (linkAt f 64 1)
+    pub past-due : HistoryDue (x .image) f (l .past .chain) (l .fh) (l .past .chain) (linkAt f 64 1)
     unfolding hdLinks
     past-due =
         let s : List ℕ = x .image in
@@ -132,7 +132,7 @@ module _ (x : Args) (cs : List Column) (l : Layout) (o : LaidOut (x .image) (x .
         let small : l .fh < 256 ^ 8 = omega (arith, rest-within x l order (in-fh x l) .1, small) in
         let chained : l .past .chain ≡ m .more = m .chain in
         let keeps = kept-then (columns-kept s cs _ _ (o .metadata) .0) columns-all in
-        let due : HistoryDue s f (l .fh) (l .past .chain) (firstFH (memoOf l) (l .past .chain) (l .fh)) =
+        let due : HistoryDue s f (l .past .chain) (l .fh) (l .past .chain) (firstFH (memoOf l) (l .past .chain) (l .fh)) =
         history-due s f bytes (l .past .chain) (memoOf l) (l .fh) copy-stands small [] (l .past .chain) refl (rw chained (m .fresh))
         (λ b i. past-kept-to keeps b (m .each b (subst (In b) chained i))) in
         rw (hd-link x l f filled 1 (lit< tt)

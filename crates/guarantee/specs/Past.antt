@@ -3,7 +3,7 @@ use Prim.Native.Nat.{ℕ, zero, suc, _+_, _*_, _^_, _≤_, _<_}
 use mathlib.Core.List.{List, [], _∷_, _++_, append-nil, append-assoc}
 use mathlib.Core.Bool.{Bool, true, false, false≢true}
 use mathlib.Core.Option.{Option, none, some}
-use mathlib.Core.Path.{_≡_, refl, sym, ap, _∙_}
+use mathlib.Core.Path.{_≡_, refl, sym, ap, _∙_, subst}
 use native.Mathlib.Omega.{arith}
 use lib.Dec.{lit<, eqb}
 use lib.ListN.{length, getD, length-append}
@@ -18,13 +18,13 @@ use Rattle.plan.specs.Copies.{kindFH, Copy, copyOf}
 use Rattle.plan.specs.Layout.{Layout, mdSize}
 use Rattle.result.specs.Fill.{Block, block, header, orZero, newLink, historyLink, firstNew, mdBytes, fhBytes}
 use Rattle.result.specs.Links.{headAt}
-use Rattle.result.specs.Names.{SameBlock, HistoryDue, NewHistory}
+use Rattle.result.specs.Names.{SameBlock, LinkDue, HistoryDue, NewHistory}
 use Rattle.result.specs.Result.{Args, memoOf, firstFH, blocksOf}
 use Rattle.result.specs.Guarantee.{Stands, In, here, there}
 use Rattle.copies_laws.specs.MemoLaws.{kind-copied, Fresh, Past}
 use Rattle.shown_laws.specs.Standing.{stands-front, stands-at, read}
 use Rattle.shown_laws.specs.Header.{length-header, header-kind, header-size, header-links}
-use Rattle.guarantee.specs.Named.{CopyStands, new-small, same-block, copy-first}
+use Rattle.guarantee.specs.Named.{CopyStands, new-small, same-block, copy-first, link-due}
 
 -- a block of the chain leads to the next, the last to the new FH
 history-at : (pre suf : List ℕ) (b : ℕ) (memo : List Copy) (fh : ℕ) → isIn b pre ≡ false
@@ -58,7 +58,7 @@ module _ (s f : List ℕ) (bytes : (i : ℕ) → getD s i 0 < 256) (chain : List
       copy-first s f bytes chain memo fh all b t e l (rw first small') ∙ first
 
   pub history-due : (pre suf : List ℕ) → chain ≡ pre ++ suf → Fresh pre suf → ((b : ℕ) → In b suf → Past s memo b)
-      → HistoryDue s f fh suf (firstFH memo suf fh)
+      → HistoryDue s f chain fh suf (firstFH memo suf fh)
   unfolding HistoryDue Fresh newLink
   history-due pre [] e d each = refl
   history-due pre (b ∷ suf) e d each =
@@ -67,9 +67,14 @@ module _ (s f : List ℕ) (bytes : (i : ℕ) → getD s i 0 < 256) (chain : List
       let hist : historyLink b chain memo fh ≡ some (firstFH memo suf fh) = rw e (history-at pre suf b memo fh (d .0)) in
       let next : linkAt f (found .0) 0 ≡ firstFH memo suf fh =
       history-next b (found .0) (firstFH memo suf fh) (found .1) hist (first-small suf) (p .linked) in
-      let more : HistoryDue s f fh suf (firstFH memo suf fh) =
+      let more : HistoryDue s f chain fh suf (firstFH memo suf fh) =
       history-due (pre ++ (b ∷ [])) suf (e ∙ sym (append-assoc pre (b ∷ []) suf)) (d .1) (λ c i. each c (there i)) in
-      rw (found .1) (same-block s f bytes chain memo fh all b (found .0) (found .1), rw next more)
+      let deep : (k : ℕ) → LinkDue k s f chain b (found .0) =
+      λ k. subst (LinkDue k s f chain b) (led (found .0) (found .1)) (link-due s f bytes chain memo fh all k b (p .followed)) in
+      rw (found .1) (same-block s f bytes chain memo fh all b (found .0) (found .1), deep, rw next more)
+    where
+      led : (t : ℕ) → copyOf b memo ≡ some t → newLink memo b ≡ t
+      led t e = rw e
 
 -- ---- the new FH and its MD
 module _ (x : Args) (l : Layout) (f : List ℕ) (small : l .md < 256 ^ 8) (md : Stands f (l .md) (mdBytes (x .text)))

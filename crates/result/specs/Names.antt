@@ -62,10 +62,11 @@ pub record NamesDue (k : ℕ) (s f past : List ℕ) (p : Placed) : Type 0 where
 
 -- ---- the history
 
--- from b on the result's history: the copies of the blocks of the recording's history chain in order, each leading by its first link to the next, the last to the new FH
-unfoldable pub HistoryDue : List ℕ → List ℕ → ℕ → List ℕ → ℕ → Type 0
-HistoryDue s f fh [] b = b ≡ fh
-HistoryDue s f fh (a ∷ as') b = SameBlock s f a b × HistoryDue s f fh as' (linkAt f b 0)
+-- from b on the result's history: the copies of the blocks of the recording's history chain in order, with their links, each leading by its first to
+-- the next, the last to the new FH
+unfoldable pub HistoryDue : List ℕ → List ℕ → List ℕ → ℕ → List ℕ → ℕ → Type 0
+HistoryDue s f past fh [] b = b ≡ fh
+HistoryDue s f past fh (a ∷ as') b = SameBlock s f a b × ((k : ℕ) → LinkDue k s f past a b) × HistoryDue s f past fh as' (linkAt f b 0)
 
 -- "MD with the lent history text ..; a new FH with the lent time": the last of the history
 pub record NewHistory (x : Args) (f : List ℕ) (fh : ℕ) : Type 0 where
