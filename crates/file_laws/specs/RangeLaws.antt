@@ -231,6 +231,42 @@ calls-agree s k first count buffer = go (asked s k first count) refl
     go (ok c) e = place-agrees s k first count buffer c e _ refl
     go (refused number place) e = rw e
 
+-- ---- both calls by the records themselves
+refused-as : {A B : Type 0} {n p number place : ℕ} → _≡_ {A = Checked A} (refused n p) (refused number place) → _≡_ {A = Checked B} (refused n p) (refused number place)
+refused-as {A} {B} {n} {p} {number} {place} e =
+    let a : n ≡ number = cc in
+    let b : p ≡ place = cc in
+    rw (a, b)
+
+module _ (s : List ℕ) (k first count : ℕ) where
+  pub read-ranged : (buffer bs : List ℕ) → ranged s k first count ≡ ok bs → length buffer ≡ length bs
+      → readInto s k first count buffer ≡ record { answered = fine; buffer = bs }
+  unfolding ranged
+  read-ranged buffer bs e h =
+      let a = then-ok (asked s k first count) _ e in
+      let c : FileColumn = a .0 in
+      let q : rangeOf s first count c ≡ bs = ok-same (a .2) in
+      let l = range-length s k first count c (asked-back s k first count c (a .1)) in
+      read-fits s k first count buffer c (a .1) (h ∙ ap length (sym q) ∙ l) ∙ ap (λ (b : List ℕ). record { answered = fine; buffer = b }) q
+
+  -- the column asked for was refused
+  asked-refused : (number place : ℕ) → ranged s k first count ≡ refused number place → asked s k first count ≡ refused number place
+  unfolding ranged
+  asked-refused number place e = go (asked s k first count) e
+    where
+      go : (v : Checked FileColumn) → andThen v (λ c. ok (rangeOf s first count c)) ≡ refused number place → v ≡ refused number place
+      go (ok c) h = absurd (refused≢ok (sym h))
+      go (refused n p) h = refused-as h
+
+  pub read-refused : (buffer : List ℕ) (number place : ℕ) → ranged s k first count ≡ refused number place
+      → readInto s k first count buffer ≡ record { answered = refused number place; buffer = buffer }
+  unfolding readInto intoBuffer
+  read-refused buffer number place e = rw (asked-refused number place e)
+
+  pub located-refused : (number place : ℕ) → ranged s k first count ≡ refused number place → located s k first count ≡ refused number place
+  unfolding located
+  located-refused number place e = rw (asked-refused number place e)
+
 -- "A refusal leaves the buffer unchanged."
 pub refusal-leaves : (s : List ℕ) (k first count : ℕ) (buffer : List ℕ) (number place : ℕ)
     → readInto s k first count buffer .answered ≡ refused number place → readInto s k first count buffer .buffer ≡ buffer
