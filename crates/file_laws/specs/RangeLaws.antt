@@ -6,7 +6,7 @@ use mathlib.Core.Option.{Option, none, some}
 use mathlib.Core.Path.{_≡_, refl, sym, ap, subst, _∙_}
 use native.Mathlib.Nat.{add-mul, mul-le-mul-right}
 use native.Mathlib.Omega.{arith}
-use lib.ListN.{length}
+use lib.ListN.{length, take}
 use lib.Dec.{ltb, eqb}
 use borrow.Author.Tests.{lt-ltb, le-ltb, le-leb, lt-leb, ltb-true, ltb-false, eqb-true, eqb-false}
 use Rattle.base.specs.Blit.{part}
@@ -91,6 +91,48 @@ within-part s (f ∷ fs) p n a m r e = go (ltb p (f .size)) refl (λ q. within-p
               ∙ ap (λ (k : ℕ). part (p - k) n (joined s fs)) (sym size)
               ∙ sym (part-back p n (part (f .offset) (f .size) s) (joined s fs) (rw size h));
         }
+
+-- ---- "a range inside one block": n bytes from byte p on lie in block number i
+pub record InBlock (fs : List Fragment) (p n : ℕ) : Type 0 where
+  pub number : ℕ
+  pub listed : number < length fs
+  pub begins : sizeOf (take number fs) ≤ p
+  pub ends : p + n ≤ sizeOf (take (suc number) fs)
+
+in-first : (f : Fragment) (fs : List Fragment) (p n : ℕ) → p + n ≤ f .size → InBlock (f ∷ fs) p n
+unfolding sizeOf
+in-first f fs p n h = record { number = 0; listed = omega arith; begins = omega arith; ends = omega arith }
+
+in-later : (f : Fragment) (fs : List Fragment) (p n : ℕ) → f .size ≤ p → InBlock fs (p - f .size) n → InBlock (f ∷ fs) p n
+unfolding sizeOf
+in-later f fs p n h b =
+    record { number = suc (b .number); listed = omega (arith, b .listed); begins = omega (arith, b .begins); ends = omega (arith, b .ends) }
+
+-- what is handed back lies in one block
+pub within-at : (fs : List Fragment) (p n a m : ℕ) → within fs p n ≡ at a m → InBlock fs p n
+unfolding within
+within-at [] p n a m e = absurd (split≢at e)
+within-at (f ∷ fs) p n a m e = go (ltb p (f .size)) refl (λ q. within-at fs (p - f .size) n a m q)
+  where
+    go : (t : Bool) → ltb p (f .size) ≡ t → (within fs (p - f .size) n ≡ at a m → InBlock fs (p - f .size) n) → InBlock (f ∷ fs) p n
+    go true q later = in-first f fs p n (le-first _ _ _ _ (lt-yes _ _ _ _ (ltb-true _ _ q) refl ∙ e) split≢at .0)
+    go false q later =
+        let h : f .size ≤ p = ltb-false _ _ q in
+        in-later f fs p n h (later (sym (within-later f fs p n h) ∙ e))
+
+-- and what is split lies in none
+pub within-split : (fs : List Fragment) (p n : ℕ) → 0 < n → within fs p n ≡ split → InBlock fs p n → ⊥
+unfolding within sizeOf
+within-split [] p n z e b = omega (arith, b .listed)
+within-split (f ∷ fs) p n z e b = go (b .number) (b .listed) (b .begins) (b .ends) (λ q c. within-split fs (p - f .size) n z q c)
+  where
+    go : (i : ℕ) → i < length (f ∷ fs) → sizeOf (take i (f ∷ fs)) ≤ p → p + n ≤ sizeOf (take (suc i) (f ∷ fs))
+        → (within fs (p - f .size) n ≡ split → InBlock fs (p - f .size) n → ⊥) → ⊥
+    go zero l h k later = split≢at (sym e ∙ within-here f fs p n (omega arith) z)
+    go (suc i) l h k later =
+        let s : f .size ≤ p = omega arith in
+        later (sym (within-later f fs p n s) ∙ e)
+        (record { number = i; listed = omega arith; begins = omega arith; ends = omega arith })
 
 -- ---- the column asked for
 
