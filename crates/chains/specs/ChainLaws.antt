@@ -85,7 +85,7 @@ module _ (c : Chain) (l : Limits) (s : List ℕ) where
       let rest = chain-onto k (a ∷ seen) (firstLink s a) in
       let dl = onto-found _ _ (listed-onto (linksAt s a - 1) (a + 32) n fs)
       (onto-more (λ m gs. chainFrom c l k s m (a ∷ seen) (firstLink s a) gs) rest n fs) in
-      let lists = onto-eq (onto-passed dl (listIn l s seen a))
-      (onto-eq (onto-passed (rest n fs) (listIn l s seen a)) (onto-stop fs 12 a) (kindAt s a) kindHL) (kindAt s a) kindDL in
+      let lists = onto-eq (onto-passed dl (listIn (l .dlBytes) l s seen a))
+      (onto-eq (onto-passed (rest n fs) (listIn (l .hlBytes) l s seen a)) (onto-stop fs 12 a) (kindAt s a) kindHL) (kindAt s a) kindDL in
       let node = onto-leaf lists (leafOf c (kindAt s a)) (λ k. added-onto l n a (fragment s a k) fs) in
       onto-eq (onto-end fs) (onto-pick (onto-stop fs 11 a) (onto-passed node (headerIn s a)) (isIn a seen)) a 0

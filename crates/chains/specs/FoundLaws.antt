@@ -12,7 +12,7 @@ use Rattle.base.specs.Field.{leAt}
 use Rattle.base.specs.Checked.{ok, refused, Verdict, fine}
 use Rattle.mdf.specs.Block.{kindDL, kindHL, kindAt, linksAt, firstLink, headerIn}
 use Rattle.mdf.specs.Chain.{Kind, Fragment, fragment, Chain, Leaf, leaf, none, leafOf, Found, found, stopped, onFound, onPassed, onLeaf}
-use Rattle.mdf.specs.Chain.{Limits, limits, added, fragmentAt, listed, isIn, listIn, chainFrom, chain}
+use Rattle.mdf.specs.Chain.{Limits, added, fragmentAt, listed, isIn, listIn, chainFrom, chain}
 use Rattle.blocks.specs.BlockLaws.{header-fits}
 
 -- the fragments found, also where the chain was stopped
@@ -79,15 +79,15 @@ module _ (P : List Fragment → Type 0) where
         holds-eq a 0 (record { it = p }) (holds-pick (isIn a seen) (record { it = p })
         (holds-passed (headerIn s a) p (λ e. holds-leaf (leafOf c (kindAt s a))
         (holds-eq (kindAt s a) kindDL
-        (holds-passed (listIn l s seen a) p (λ _. holds-found _ (listed-holds (linksAt s a - 1) (a + 32) fs p) on))
-        (holds-eq (kindAt s a) kindHL (holds-passed (listIn l s seen a) p (λ _. on fs p)) (record { it = p })))
+        (holds-passed (listIn (l .dlBytes) l s seen a) p (λ _. holds-found _ (listed-holds (linksAt s a - 1) (a + 32) fs p) on))
+        (holds-eq (kindAt s a) kindHL (holds-passed (listIn (l .hlBytes) l s seen a) p (λ _. on fs p)) (record { it = p })))
         (λ k. added-holds a k fs (header-fits s a e) p))))
 
--- "1,024 fragments (SD too) in the whole image"
-pub chain-limit : (c : Chain) (s : List ℕ) (n a : ℕ) → n ≤ 1024 → n + length (fragmentsIn (chain c limits s n a)) ≤ 1024
+-- the limit on fragments
+pub chain-limit : (c : Chain) (l : Limits) (s : List ℕ) (n a m : ℕ) → l .fragments ≤ m → n ≤ m → n + length (fragmentsIn (chain c l s n a)) ≤ m
 unfolding chain
-chain-limit c s n a h =
-    chain-holds (λ fs. n + length fs ≤ 1024) c limits s n (λ b k fs i j p. simp length-append (omega arith)) 258 [] a [] (omega arith) .it
+chain-limit c l s n a m g h =
+    chain-holds (λ fs. n + length fs ≤ m) c l s n (λ b k fs i j p. simp length-append (omega arith)) (l .lists + 2) [] a [] (omega arith) .it
 
 -- each fragment's header lies in the image, so its data begins in it or at its end
 pub data Inside (s : List ℕ) : List Fragment → Type 0 where
@@ -98,11 +98,11 @@ pub inside-append : {s : List ℕ} {fs gs : List Fragment} → Inside s fs → I
 inside-append no-more q = q
 inside-append (inside h p) q = inside h (inside-append p q)
 
-pub chain-inside : (c : Chain) (s : List ℕ) (n a : ℕ) → Inside s (fragmentsIn (chain c limits s n a))
+pub chain-inside : (c : Chain) (l : Limits) (s : List ℕ) (n a : ℕ) → Inside s (fragmentsIn (chain c l s n a))
 unfolding chain
-chain-inside c s n a = chain-holds (Inside s) c limits s n (λ b k fs i j p. inside-append p (inside i no-more)) 258 [] a [] no-more .it
+chain-inside c l s n a = chain-holds (Inside s) c l s n (λ b k fs i j p. inside-append p (inside i no-more)) (l .lists + 2) [] a [] no-more .it
 
--- from 1,024 on nothing is found
-pub chain-full : (c : Chain) (s : List ℕ) (n a : ℕ) → 1024 ≤ n → fragmentsIn (chain c limits s n a) ≡ []
+-- at the limit nothing is found
+pub chain-full : (c : Chain) (l : Limits) (s : List ℕ) (n a : ℕ) → l .fragments ≤ n → fragmentsIn (chain c l s n a) ≡ []
 unfolding chain
-chain-full c s n a h = chain-holds (λ fs. fs ≡ []) c limits s n (λ b k fs i j p. absurd (omega arith)) 258 [] a [] refl .it
+chain-full c l s n a h = chain-holds (λ fs. fs ≡ []) c l s n (λ b k fs i j p. absurd (omega arith)) (l .lists + 2) [] a [] refl .it

@@ -5,7 +5,7 @@ use mathlib.Core.Bool.{Bool, true, false}
 use Rattle.base.specs.Choice.{ifEq}
 use Rattle.base.specs.Checked.{Checked, ok, refused, andThen}
 use Rattle.mdf.specs.Block.{kindDL, kindHL, kindAt, headerIn}
-use Rattle.mdf.specs.Chain.{dt, dv, fragment, Chain, records, signal, leaf, none, leafOf}
+use Rattle.mdf.specs.Chain.{dt, dv, fragment, Chain, records, signal, leaf, none, leafOf, Limits, limits, fileLimits}
 use Rattle.mdf.specs.Chain as mdf
 use Rattle.chains.specs.declared.node.Kind as kinds
 use Rattle.chains.specs.declared.node.Kind.the-variants.{Dt, Dv}
@@ -19,6 +19,11 @@ use Rattle.chains.specs.declared.node.Node.the-variants.{Refused, Fragme
 abbrev pub which : Bool → Chain
 which false = records
 which true = signal
+
+-- false: a recording's limits; true: those of a file whose columns are read
+abbrev pub limitsFor : Bool → Limits
+limitsFor false = limits
+limitsFor true = fileLimits
 
 -- the code's kinds, fragments and leaves
 abbrev pub kindOf : kinds.Kind → mdf.Kind

@@ -10,7 +10,7 @@ use Rattle.base.specs.ChoiceLaws.{eq-yes, eq-no}
 use Rattle.base.specs.Checked.{Checked, ok, refused, andThen, Verdict}
 use Rattle.mdf.specs.Block.{kindDT, kindDV, kindDL, kindHL, kindSD, kindAt, sizeAt, linksAt, firstLink, headerIn}
 use Rattle.mdf.specs.Chain.{dt, dv, Kind, Fragment, fragment, Chain, Leaf, leaf, none, leafOf, Found, found, stopped}
-use Rattle.mdf.specs.Chain.{onFound, onPassed, onLeaf, limits, added, fragmentAt, listed, isIn, listIn, chainFrom}
+use Rattle.mdf.specs.Chain.{onFound, onPassed, onLeaf, Limits, added, fragmentAt, listed, isIn, listIn, chainFrom}
 use Rattle.fields.specs.declared.Check.{Check}
 use Rattle.fields.specs.declared.Check.the-variants.{Fine, Refused}
 use Rattle.fields.specs.Answer.{verdictOf}
@@ -73,16 +73,16 @@ module _ (c : Chain) (s : List ℕ) (a : ℕ) {o : Check} (e : verdictOf o ≡ h
       node-other i j = rw (so-fine e q, ← g, ← f, h) (eq-no _ _ _ _ i (eq-no _ _ _ _ j refl))
 
 -- ---- a fragment that a DL lists, by what stands there
-abbrev pub listedNode : ℕ → ℕ → Checked Standing → Found
-listedNode n a (refused x p) = stopped x p []
-listedNode n a (ok (data-block f)) = added limits n a f []
-listedNode n a (ok data-list) = stopped 12 a []
-listedNode n a (ok list-header) = stopped 12 a []
+abbrev pub listedNode : Limits → ℕ → ℕ → Checked Standing → Found
+listedNode l n a (refused x p) = stopped x p []
+listedNode l n a (ok (data-block f)) = added l n a f []
+listedNode l n a (ok data-list) = stopped 12 a []
+listedNode l n a (ok list-header) = stopped 12 a []
 
-module _ (c : Chain) (s : List ℕ) (n a : ℕ) where
+module _ (c : Chain) (l : Limits) (s : List ℕ) (n a : ℕ) where
   by-cases : (v : Verdict) (x : Leaf) (t u : Bool)
-      → onPassed v [] (onLeaf x (stopped 12 a []) (λ k. added limits n a (fragment s a k) []))
-      ≡ listedNode n a
+      → onPassed v [] (onLeaf x (stopped 12 a []) (λ k. added l n a (fragment s a k) []))
+      ≡ listedNode l n a
       (andThen v (λ _. byLeaf x (pick t (ok data-list) (pick u (ok list-header) (refused 12 a))) (λ k. ok (data-block (fragment s a k)))))
   by-cases (refused x p) y t u = refl
   by-cases (ok i) (leaf k) t u = refl
@@ -90,7 +90,7 @@ module _ (c : Chain) (s : List ℕ) (n a : ℕ) where
   by-cases (ok i) none false true = refl
   by-cases (ok i) none false false = refl
 
-  pub fragment-node : fragmentAt c limits s n a [] ≡ listedNode n a (nodeAt c s a)
+  pub fragment-node : fragmentAt c l s n a [] ≡ listedNode l n a (nodeAt c s a)
   unfolding fragmentAt nodeAt ifEq
   fragment-node = by-cases (headerIn s a) (leafOf c (kindAt s a)) (eqb (kindAt s a) kindDL) (eqb (kindAt s a) kindHL)
 
@@ -107,23 +107,23 @@ on-listed : (g : Found) (a : ℕ) (f : ℕ → List Fragment → Found) → onFo
 on-listed (found fs) a f = refl
 on-listed (stopped x p fs) a f = refl
 
-module _ (c : Chain) (s : List ℕ) (n a : ℕ) (seen : List ℕ) (f : ℕ → List Fragment → Found) where
-  dl-turn : onPassed (listIn limits s seen a) [] (onFound (listed c limits s n (linksAt s a - 1) (a + 32) []) (f (firstLink s a)))
-      ≡ resumed (listTurn c s n (length seen) a) f
+module _ (c : Chain) (l : Limits) (s : List ℕ) (n a : ℕ) (seen : List ℕ) (f : ℕ → List Fragment → Found) where
+  dl-turn : onPassed (listIn (l .dlBytes) l s seen a) [] (onFound (listed c l s n (linksAt s a - 1) (a + 32) []) (f (firstLink s a)))
+      ≡ resumed (listTurn c l s n (length seen) a) f
   unfolding listTurn listIn listAt
   dl-turn =
-      ap (onPassed (listIn limits s seen a) []) (on-listed (listed c limits s n (linksAt s a - 1) (a + 32) []) (firstLink s a) f)
-      ∙ on-read (listIn limits s seen a) (onListed (listed c limits s n (linksAt s a - 1) (a + 32) []) (next (firstLink s a))) f
+      ap (onPassed (listIn (l .dlBytes) l s seen a) []) (on-listed (listed c l s n (linksAt s a - 1) (a + 32) []) (firstLink s a) f)
+      ∙ on-read (listIn (l .dlBytes) l s seen a) (onListed (listed c l s n (linksAt s a - 1) (a + 32) []) (next (firstLink s a))) f
 
-  hl-turn : onPassed (listIn limits s seen a) [] (f (firstLink s a) []) ≡ resumed (headerTurn s (length seen) a) f
+  hl-turn : onPassed (listIn (l .hlBytes) l s seen a) [] (f (firstLink s a) []) ≡ resumed (headerTurn l s (length seen) a) f
   unfolding headerTurn listIn listAt
-  hl-turn = on-read (listIn limits s seen a) (next (firstLink s a) []) f
+  hl-turn = on-read (listIn (l .hlBytes) l s seen a) (next (firstLink s a) []) f
 
   turn-cases : (v : Verdict) (x : Leaf) (t u : Bool) (tl th : Turn) {dl hl : Found} → dl ≡ resumed tl f → hl ≡ resumed th f
-      → onPassed v [] (onLeaf x (pick t dl (pick u hl (stopped 12 a []))) (λ k. added limits n a (fragment s a k) []))
+      → onPassed v [] (onLeaf x (pick t dl (pick u hl (stopped 12 a []))) (λ k. added l n a (fragment s a k) []))
       ≡ resumed (onStanding
       (andThen v (λ _. byLeaf x (pick t (ok data-list) (pick u (ok list-header) (refused 12 a))) (λ k. ok (data-block (fragment s a k)))))
-      (λ g. over (added limits n a g [])) tl th) f
+      (λ g. over (added l n a g [])) tl th) f
   turn-cases (refused x p) y t u tl th d h = refl
   turn-cases (ok i) (leaf k) t u tl th d h = refl
   turn-cases (ok i) none true u tl th d h = d
@@ -131,12 +131,12 @@ module _ (c : Chain) (s : List ℕ) (n a : ℕ) (seen : List ℕ) (f : ℕ → L
   turn-cases (ok i) none false false tl th d h = refl
 
 -- the chain, one block at a time
-pub chain-open : (c : Chain) (turns : ℕ) (s : List ℕ) (n : ℕ) (seen : List ℕ) (a : ℕ) → chainFrom c limits (suc turns) s n seen a []
+pub chain-open : (c : Chain) (l : Limits) (turns : ℕ) (s : List ℕ) (n : ℕ) (seen : List ℕ) (a : ℕ) → chainFrom c l (suc turns) s n seen a []
     ≡ ifEq a 0 (found []) (pick (isIn a seen) (stopped 11 a [])
-    (resumed (turnAt c s n (length seen) a) (λ b gs. chainFrom c limits turns s n (a ∷ seen) b gs)))
+    (resumed (turnAt c l s n (length seen) a) (λ b gs. chainFrom c l turns s n (a ∷ seen) b gs)))
 unfolding chainFrom turnAt nodeAt ifEq
-chain-open c turns s n seen a =
-    let f : ℕ → List Fragment → Found = λ b gs. chainFrom c limits turns s n (a ∷ seen) b gs in
+chain-open c l turns s n seen a =
+    let f : ℕ → List Fragment → Found = λ b gs. chainFrom c l turns s n (a ∷ seen) b gs in
     ap (λ (g : Found). ifEq a 0 (found []) (pick (isIn a seen) (stopped 11 a []) g))
-    (turn-cases c s n a seen f (headerIn s a) (leafOf c (kindAt s a)) (eqb (kindAt s a) kindDL) (eqb (kindAt s a) kindHL) _ _
-    (dl-turn c s n a seen f) (hl-turn c s n a seen f))
+    (turn-cases c l s n a seen f (headerIn s a) (leafOf c (kindAt s a)) (eqb (kindAt s a) kindDL) (eqb (kindAt s a) kindHL) _ _
+    (dl-turn c l s n a seen f) (hl-turn c l s n a seen f))

@@ -5,7 +5,7 @@ use lib.ListN.{length, getD}
 use Rattle.base.specs.Choice.{ifLt, ifEq}
 use Rattle.base.specs.Checked.{Checked, ok, refused, andThen, Verdict, fine}
 use Rattle.mdf.specs.Block.{linksAt, firstLink, lengthIn}
-use Rattle.mdf.specs.Chain.{Fragment, Chain, Found, found, stopped, limits, added, fragmentAt, listed}
+use Rattle.mdf.specs.Chain.{Fragment, Chain, Found, found, stopped, Limits, added, fragmentAt, listed}
 use Rattle.chains.specs.declared.chain.Step.{Step}
 use Rattle.chains.specs.declared.chain.Step.the-variants.{Over, Next}
 use Rattle.chains.specs.Node.{Standing, data-block, data-list, list-header, nodeAt}
@@ -16,13 +16,13 @@ unfoldable pub metIn : List ℕ → ℕ → List ℕ
 metIn w zero = []
 metIn w (suc k) = getD w k 0 ∷ metIn w k
 
--- a DL or HL that is read, with k of them before it: 8, 9, range, then the limit (19)
-unfoldable pub listAt : ℕ → List ℕ → ℕ → Verdict
-listAt k s a = andThen (lengthIn (limits .bytes) s a) (λ _. ifLt k (limits .lists) fine (refused 19 a))
+-- a DL or HL that is read, with k of them before it: 8, 9 over the most bytes, range, then the most DL and HL (19)
+unfoldable pub listAt : ℕ → ℕ → ℕ → List ℕ → ℕ → Verdict
+listAt most lists k s a = andThen (lengthIn most s a) (λ _. ifLt k lists fine (refused 19 a))
 
 -- a link of a DL: "zero links passed over"
-unfoldable pub entryAt : Chain → List ℕ → ℕ → ℕ → Found
-entryAt c s n x = ifEq x 0 (found []) (fragmentAt c limits s n x [])
+unfoldable pub entryAt : Chain → Limits → List ℕ → ℕ → ℕ → Found
+entryAt c l s n x = ifEq x 0 (found []) (fragmentAt c l s n x [])
 
 -- the chain ends, or goes on at an address
 pub data Turn : Type 0 where
@@ -38,11 +38,12 @@ onListed (found fs) f = f fs
 onListed (stopped number place fs) f = over (stopped number place fs)
 
 -- "DL lists fragments, zero links passed over; HL leads to its first link"
-unfoldable pub listTurn : Chain → List ℕ → ℕ → ℕ → ℕ → Turn
-listTurn c s n k a = onRead (listAt k s a) (onListed (listed c limits s n (linksAt s a - 1) (a + 32) []) (next (firstLink s a)))
+unfoldable pub listTurn : Chain → Limits → List ℕ → ℕ → ℕ → ℕ → Turn
+listTurn c l s n k a =
+    onRead (listAt (l .dlBytes) (l .lists) k s a) (onListed (listed c l s n (linksAt s a - 1) (a + 32) []) (next (firstLink s a)))
 
-unfoldable pub headerTurn : List ℕ → ℕ → ℕ → Turn
-headerTurn s k a = onRead (listAt k s a) (next (firstLink s a) [])
+unfoldable pub headerTurn : Limits → List ℕ → ℕ → ℕ → Turn
+headerTurn l s k a = onRead (listAt (l .hlBytes) (l .lists) k s a) (next (firstLink s a) [])
 
 abbrev pub onStanding : Checked Standing → (Fragment → Turn) → Turn → Turn → Turn
 onStanding (refused number place) f dl hl = over (stopped number place [])
@@ -51,8 +52,8 @@ onStanding (ok data-list) f dl hl = dl
 onStanding (ok list-header) f dl hl = hl
 
 -- the block at a, with k DL and HL before it; n fragments were found before it. "DT or DV ends a chain"
-unfoldable pub turnAt : Chain → List ℕ → ℕ → ℕ → ℕ → Turn
-turnAt c s n k a = onStanding (nodeAt c s a) (λ f. over (added limits n a f [])) (listTurn c s n k a) (headerTurn s k a)
+unfoldable pub turnAt : Chain → Limits → List ℕ → ℕ → ℕ → ℕ → Turn
+turnAt c l s n k a = onStanding (nodeAt c s a) (λ f. over (added l n a f [])) (listTurn c l s n k a) (headerTurn l s k a)
 
 -- what a turn leaves: the code's answer and the words
 pub data Moved : Type 0 where

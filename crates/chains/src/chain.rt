@@ -14,9 +14,9 @@ ghost use Prim.Native.Nat.{_+_, _-_, _≤_, _<_};
 ghost use lib.ListN.{set};
 ghost use Rattle.fields.specs.Answer.{verdictOf};
 ghost use Rattle.mdf.specs.Block.{linksAt};
-ghost use Rattle.mdf.specs.Chain.{limits, added, fragmentAt, listed, isIn, chain};
+ghost use Rattle.mdf.specs.Chain.{added, fragmentAt, listed, isIn, chain};
 ghost use Rattle.mdf.specs.Words.{kindWord};
-ghost use Rattle.chains.specs.Node.{which, kindOf, fragmentOf};
+ghost use Rattle.chains.specs.Node.{which, limitsFor, kindOf, fragmentOf};
 ghost use Rattle.chains.specs.Kept.{kept, Given, laid};
 ghost use Rattle.chains.specs.Turn.{metIn, entryAt, listAt, listTurn, headerTurn, turnAt, Moved, laidTurn};
 
@@ -51,16 +51,37 @@ fn kind_word(kind: Kind) -> u64
     }
 }
 
-// The three words of a fragment, past those of n others.
+// The three words of a fragment, past those of n others; what would lie past the slice's end is lost.
 fn keep(fragments: &mut [u64], n: u64, b: SrcBlock)
-    requires { ⌜ n < 1024 ⌝ }
     ensures { λ _. ⌜ now (fragments .exit) ≡ kept n (fragmentOf b ∷ []) (now (fragments .entry)) ⌝ }
 {
-    let kind = b.kind;
-    let i = 3 * n;
-    put(fragments, i, b.offset);
-    put(fragments, i + 1, b.size);
-    put(fragments, i + 2, kind_word(kind));
+    let most = fragments.len() as u64;
+    if n < most {
+        let kind = b.kind;
+        let i = 3 * n;
+        put(fragments, i, b.offset);
+        put(fragments, i + 1, b.size);
+        put(fragments, i + 2, kind_word(kind));
+    }
+}
+
+// The most bytes of a DL (9), and the most fragments (19).
+fn dl_bytes(file: bool) -> u64
+    ensures { λ r. ⌜ r ≡ limitsFor file .dlBytes ⌝ }
+{
+    if file {
+        return 18446744073709551615;
+    }
+    268435456
+}
+
+fn most_fragments(file: bool) -> u64
+    ensures { λ r. ⌜ r ≡ limitsFor file .fragments ⌝ }
+{
+    if file {
+        return 4611686018427387904;
+    }
+    1024
 }
 
 // Whether a stands among the first k addresses.
@@ -79,10 +100,11 @@ fn seen(met: &[u64; 256], k: usize, a: u64) -> bool
 }
 
 // A fragment more, whose header stands at a, after n others: within the limit (19).
-fn add(fragments: &mut [u64], n: u64, a: u64, b: SrcBlock) -> Chained
-    ensures { λ r. ⌜ Given.given r (now (fragments .exit)) ≡ laid (added limits n a (fragmentOf b) []) n (now (fragments .entry)) ⌝ }
+fn add(file: bool, fragments: &mut [u64], n: u64, a: u64, b: SrcBlock) -> Chained
+    ensures { λ r. ⌜ Given.given r (now (fragments .exit)) ≡ laid (added (limitsFor file) n a (fragmentOf b) []) n (now (fragments .entry)) ⌝ }
 {
-    if n < 1024 {
+    let most = most_fragments(file);
+    if n < most {
         keep(fragments, n, b);
         return Chained::Done { count: n + 1 };
     }
@@ -94,9 +116,9 @@ fn add(fragments: &mut [u64], n: u64, a: u64, b: SrcBlock) -> Chained
 }
 
 // A fragment that a DL lists: header range, 12 for another kind, 19.
-fn fragment_at(signal: bool, image: &[u8], fragments: &mut [u64], n: u64, a: u64) -> Chained
+fn fragment_at(signal: bool, file: bool, image: &[u8], fragments: &mut [u64], n: u64, a: u64) -> Chained
     ensures { λ r. ⌜ Given.given r (now (fragments .exit)) ≡
-        laid (fragmentAt (which signal) limits (now (image .entry)) n a []) n (now (fragments .entry)) ⌝ }
+        laid (fragmentAt (which signal) (limitsFor file) (now (image .entry)) n a []) n (now (fragments .entry)) ⌝ }
 {
     let node = node_at(signal, image, a);
     match node {
@@ -105,7 +127,7 @@ fn fragment_at(signal: bool, image: &[u8], fragments: &mut [u64], n: u64, a: u64
             place,
             count: n,
         },
-        Node::Fragment(b) => add(fragments, n, a, b),
+        Node::Fragment(b) => add(file, fragments, n, a, b),
         Node::Dl => Chained::Stopped {
             number: 12,
             place: a,
@@ -120,20 +142,20 @@ fn fragment_at(signal: bool, image: &[u8], fragments: &mut [u64], n: u64, a: u64
 }
 
 // A link of a DL; zero is passed over.
-fn entry_at(signal: bool, image: &[u8], fragments: &mut [u64], n: u64, link: u64) -> Chained
+fn entry_at(signal: bool, file: bool, image: &[u8], fragments: &mut [u64], n: u64, link: u64) -> Chained
     ensures { λ r. ⌜ Given.given r (now (fragments .exit)) ≡
-        laid (entryAt (which signal) (now (image .entry)) n link) n (now (fragments .entry)) ⌝ }
+        laid (entryAt (which signal) (limitsFor file) (now (image .entry)) n link) n (now (fragments .entry)) ⌝ }
 {
     if link == 0 {
         return Chained::Done { count: n };
     }
-    fragment_at(signal, image, fragments, n, link)
+    fragment_at(signal, file, image, fragments, n, link)
 }
 
 // The fragments that the DL at a lists: its links but the first.
-fn list(signal: bool, image: &[u8], fragments: &mut [u64], n: u64, a: u64) -> Chained
+fn list(signal: bool, file: bool, image: &[u8], fragments: &mut [u64], n: u64, a: u64) -> Chained
     ensures { λ r. ⌜ Given.given r (now (fragments .exit)) ≡
-        laid (listed (which signal) limits (now (image .entry)) n (linksAt (now (image .entry)) a - 1) (a + 32) []) n
+        laid (listed (which signal) (limitsFor file) (now (image .entry)) n (linksAt (now (image .entry)) a - 1) (a + 32) []) n
         (now (fragments .entry)) ⌝ }
 {
     let links = links_at(image, a);
@@ -141,7 +163,7 @@ fn list(signal: bool, image: &[u8], fragments: &mut [u64], n: u64, a: u64) -> Ch
     let mut i: u64 = 1;
     while i < links {
         let link = link_at(image, a, i);
-        let entry = entry_at(signal, image, fragments, count, link);
+        let entry = entry_at(signal, file, image, fragments, count, link);
         match entry {
             Chained::Stopped {
                 number,
@@ -164,10 +186,10 @@ fn list(signal: bool, image: &[u8], fragments: &mut [u64], n: u64, a: u64) -> Ch
 }
 
 // 8, 9, range, then the limit (19), of a DL or HL with k of them before it.
-fn list_in(image: &[u8], k: usize, a: u64) -> Check
-    ensures { λ r. ⌜ verdictOf r ≡ listAt k (now (image .entry)) a ⌝ }
+fn list_in(most: u64, image: &[u8], k: usize, a: u64) -> Check
+    ensures { λ r. ⌜ verdictOf r ≡ listAt most 256 k (now (image .entry)) a ⌝ }
 {
-    let length = length_in(268435456, image, a);
+    let length = length_in(most, image, a);
     if let Check::Refused { number, place } = length {
         return Check::Refused { number, place };
     }
@@ -181,11 +203,12 @@ fn list_in(image: &[u8], k: usize, a: u64) -> Check
 }
 
 // A DL: its fragments, then its first link.
-fn list_step(signal: bool, image: &[u8], fragments: &mut [u64], n: u64, k: usize, a: u64) -> Step
+fn list_step(signal: bool, file: bool, image: &[u8], fragments: &mut [u64], n: u64, k: usize, a: u64) -> Step
     ensures { λ r. ⌜ Moved.moved r (now (fragments .exit)) ≡
-        laidTurn (listTurn (which signal) (now (image .entry)) n k a) n (now (fragments .entry)) ⌝ }
+        laidTurn (listTurn (which signal) (limitsFor file) (now (image .entry)) n k a) n (now (fragments .entry)) ⌝ }
 {
-    let check = list_in(image, k, a);
+    let most = dl_bytes(file);
+    let check = list_in(most, image, k, a);
     if let Check::Refused { number, place } = check {
         return Step::Over(Chained::Stopped {
             number,
@@ -194,7 +217,7 @@ fn list_step(signal: bool, image: &[u8], fragments: &mut [u64], n: u64, k: usize
         });
     }
     let next = first_link(image, a);
-    let all = list(signal, image, fragments, n, a);
+    let all = list(signal, file, image, fragments, n, a);
     match all {
         Chained::Stopped {
             number,
@@ -210,10 +233,10 @@ fn list_step(signal: bool, image: &[u8], fragments: &mut [u64], n: u64, k: usize
 }
 
 // An HL: its first link.
-fn header_step(image: &[u8], fragments: &mut [u64], n: u64, k: usize, a: u64) -> Step
-    ensures { λ r. ⌜ Moved.moved r (now (fragments .exit)) ≡ laidTurn (headerTurn (now (image .entry)) k a) n (now (fragments .entry)) ⌝ }
+fn header_step(file: bool, image: &[u8], fragments: &mut [u64], n: u64, k: usize, a: u64) -> Step
+    ensures { λ r. ⌜ Moved.moved r (now (fragments .exit)) ≡ laidTurn (headerTurn (limitsFor file) (now (image .entry)) k a) n (now (fragments .entry)) ⌝ }
 {
-    let check = list_in(image, k, a);
+    let check = list_in(268435456, image, k, a);
     if let Check::Refused { number, place } = check {
         return Step::Over(Chained::Stopped {
             number,
@@ -226,9 +249,9 @@ fn header_step(image: &[u8], fragments: &mut [u64], n: u64, k: usize, a: u64) ->
 }
 
 // The block at a, with k DL and HL before it.
-fn node_step(signal: bool, image: &[u8], fragments: &mut [u64], n: u64, k: usize, a: u64) -> Step
+fn node_step(signal: bool, file: bool, image: &[u8], fragments: &mut [u64], n: u64, k: usize, a: u64) -> Step
     ensures { λ r. ⌜ Moved.moved r (now (fragments .exit)) ≡
-        laidTurn (turnAt (which signal) (now (image .entry)) n k a) n (now (fragments .entry)) ⌝ }
+        laidTurn (turnAt (which signal) (limitsFor file) (now (image .entry)) n k a) n (now (fragments .entry)) ⌝ }
 {
     let node = node_at(signal, image, a);
     match node {
@@ -237,17 +260,17 @@ fn node_step(signal: bool, image: &[u8], fragments: &mut [u64], n: u64, k: usize
             place,
             count: n,
         }),
-        Node::Fragment(b) => Step::Over(add(fragments, n, a, b)),
-        Node::Dl => list_step(signal, image, fragments, n, k, a),
-        Node::Hl => header_step(image, fragments, n, k, a),
+        Node::Fragment(b) => Step::Over(add(file, fragments, n, a, b)),
+        Node::Dl => list_step(signal, file, image, fragments, n, k, a),
+        Node::Hl => header_step(file, image, fragments, n, k, a),
     }
 }
 
-// The data chain from a on; signal: a channel's signal data. n fragments are kept already, and those found are kept past them,
+// The data chain from a on; signal: a channel's signal data; file: within the limits of a file whose columns are read. n fragments are kept already, and those found are kept past them,
 // three words for each.
-pub fn chain(signal: bool, image: &[u8], fragments: &mut [u64], n: u64, a: u64) -> Chained
+pub fn chain(signal: bool, file: bool, image: &[u8], fragments: &mut [u64], n: u64, a: u64) -> Chained
     ensures { λ r. ⌜ Given.given r (now (fragments .exit)) ≡
-        laid (chain (which signal) limits (now (image .entry)) n a) n (now (fragments .entry)) ⌝ }
+        laid (chain (which signal) (limitsFor file) (now (image .entry)) n a) n (now (fragments .entry)) ⌝ }
 {
     let mut met = [0u64; 256];
     let mut k: usize = 0;
@@ -261,7 +284,7 @@ pub fn chain(signal: bool, image: &[u8], fragments: &mut [u64], n: u64, a: u64) 
                 count,
             };
         }
-        let turn = node_step(signal, image, fragments, count, k, at);
+        let turn = node_step(signal, file, image, fragments, count, k, at);
         match turn {
             Step::Over(answer) => {
                 return answer;

@@ -29,7 +29,7 @@ fn signal_at(image: &[u8], fragments: &mut [u64], n: u64, a: u64) -> Decision
     ensures { λ r. ⌜ left r (now (fragments .exit))
         ≡ laidDecision (keptSignal (chain signal limits (now (image .entry)) n a)) n (now (fragments .entry)) ⌝ }
 {
-    let walked = chain(true, image, fragments, n, a);
+    let walked = chain(true, false, image, fragments, n, a);
     match walked {
         Chained::Stopped {
             number,

@@ -11,13 +11,14 @@ use Rattle.fields.specs.declared.Check.{Check}
 use Rattle.fields.specs.declared.Check.the-variants.{Fine}
 use Rattle.fields.specs.Answer.{verdictOf}
 use Rattle.mdf.specs.Block.{linkAt}
-use Rattle.mdf.specs.Chain.{Chain.records, Found, found, stopped, limits, chain}
+use Rattle.mdf.specs.Chain.{Chain.records, Found, found, stopped, Limits, chain}
 use Rattle.mdf.specs.Walk.{idSize, idSizeIn}
 use Rattle.records.specs.Bounded.{Bounded}
 use Rattle.chains.specs.declared.chain.Chained.{Chained}
 use Rattle.chains.specs.declared.chain.Chained.the-variants.{Stopped, Done}
 use Rattle.chains.specs.Kept.{kept, Given, Given.given, laid}
 use Rattle.chains.specs.FoundLaws.{chain-limit}
+use Rattle.reading.specs.Held.{mostPieces}
 use Rattle.reading.specs.Steps.{Pieces, pieces, laidFound, dataIn}
 use Rattle.reading.specs.CheckedLaws.{refused≢ok, ok≢refused, ok-same}
 
@@ -63,36 +64,37 @@ laid-done (found fs) n w {w'} {c} e =
     rw (i, j)
 laid-done (stopped y p fs) n w e = absurd (let z : _≡_ {A = ℕ} 0 1 = cc in omega arith)
 
-module _ (s w : List ℕ) (n a : ℕ) {x : ℕ} (l : x ≡ linkAt s a 2) {r : Chained} {w' : List ℕ} (e : given r w' ≡ laid (chain records limits s n x) n w) where
-  pub data-chain-stopped : {y p c : ℕ} → r ≡ Stopped y p c → refused y p ≡ dataIn s w n a
+module _ (l : Limits) (s w : List ℕ) (n a : ℕ) {x : ℕ} (h : x ≡ linkAt s a 2) {r : Chained} {w' : List ℕ} (e : given r w' ≡ laid (chain records l s n x) n w) where
+  pub data-chain-stopped : {y p c : ℕ} → r ≡ Stopped y p c → refused y p ≡ dataIn l s w n a
   unfolding dataIn
   data-chain-stopped {y} {p} {c} q =
-      let f : given (Stopped y p c) w' ≡ laid (chain records limits s n (linkAt s a 2)) n w = rw (← q, ← l) e in
+      let f : given (Stopped y p c) w' ≡ laid (chain records l s n (linkAt s a 2)) n w = rw (← q, ← h) e in
       rw (laid-stopped _ n w f)
 
-  chained : {c : ℕ} → r ≡ Done c → laidFound (chain records limits s n (linkAt s a 2)) n w ≡ ok (pieces c w')
+  chained : {c : ℕ} → r ≡ Done c → laidFound (chain records l s n (linkAt s a 2)) n w ≡ ok (pieces c w')
   chained {c} q =
-      let f : given (Done c) w' ≡ laid (chain records limits s n (linkAt s a 2)) n w = rw (← q, ← l) e in
+      let f : given (Done c) w' ≡ laid (chain records l s n (linkAt s a 2)) n w = rw (← q, ← h) e in
       laid-done _ n w f
 
   module _ {c : ℕ} (q : r ≡ Done c) {o : Check} (g : verdictOf o ≡ idSizeIn s a) where
-    pub data-unsized : {y p : ℕ} → o ≡ Check.Refused y p → refused y p ≡ dataIn s w n a
+    pub data-unsized : {y p : ℕ} → o ≡ Check.Refused y p → refused y p ≡ dataIn l s w n a
     unfolding dataIn
     data-unsized i = rw (chained q, ← g, i)
 
-    pub data-taken : o ≡ Fine → ok (pieces c w') ≡ dataIn s w n a
+    pub data-taken : o ≡ Fine → ok (pieces c w') ≡ dataIn l s w n a
     unfolding dataIn
     data-taken i = rw (chained q, ← g, i)
 
--- "1,024 fragments (SD too) in the whole image"
-pub data-room : (s w : List ℕ) (n a : ℕ) {c : ℕ} {w' : List ℕ} → dataIn s w n a ≡ ok (pieces c w') → n ≤ 1024 → c ≤ 1024
+-- the limit on fragments
+pub data-room : (l : Limits) (s w : List ℕ) (n a : ℕ) {c : ℕ} {w' : List ℕ} → dataIn l s w n a ≡ ok (pieces c w') → l .fragments ≤ mostPieces
+    → n ≤ mostPieces → c ≤ mostPieces
 unfolding dataIn
-data-room s w n a {c} {w'} e h = go (chain records limits s n (linkAt s a 2)) refl (idSizeIn s a) e
+data-room l s w n a {c} {w'} e m h = go (chain records l s n (linkAt s a 2)) refl (idSizeIn s a) e
   where
-    go : (v : Found) → chain records limits s n (linkAt s a 2) ≡ v → (u : Verdict) → andThen (laidFound v n w) (λ k. andThen u (λ _. ok k)) ≡ ok (pieces c w') → c ≤ 1024
+    go : (v : Found) → chain records l s n (linkAt s a 2) ≡ v → (u : Verdict) → andThen (laidFound v n w) (λ k. andThen u (λ _. ok k)) ≡ ok (pieces c w') → c ≤ mostPieces
     go (found fs) i (ok t) f =
-        let l = chain-limit records s n (linkAt s a 2) h in
-        let m : n + length fs ≤ 1024 = rw i at l in
+        let b = chain-limit records l s n (linkAt s a 2) mostPieces m h in
+        let d : n + length fs ≤ mostPieces = rw i at b in
         let k : n + length fs ≡ c = ap Pieces.count (ok-same f) in
         omega arith
     go (found fs) i (refused y p) f = absurd (refused≢ok f)

@@ -31,6 +31,10 @@ pub record Held (e f : List ℕ) (st : Source) (x : State) : Type 0 where
   pub cns : x .ncn ≡ tally (levelCN .own) (st .items)
   pub pieces : x .nf ≡ length (st .fragments)
 
+-- no fewer than the most fragments of any limits
+abbrev pub mostPieces : ℕ
+mostPieces = 4611686018427387904
+
 -- within the limits
 pub record Within (x : State) : Type 0 where
   pub long : sourceWords ≤ length (x .words)
@@ -38,7 +42,7 @@ pub record Within (x : State) : Type 0 where
   pub dg-room : x .ndg ≤ mostItems
   pub cg-room : x .ncg ≤ mostItems
   pub cn-room : x .ncn ≤ mostItems
-  pub nf-room : x .nf ≤ 1024
+  pub nf-room : x .nf ≤ mostPieces
 
 -- a part of the walk leads from what x₀ holds to what x holds
 pub record Became (F : Source → Checked Source) (e f : List ℕ) (st₀ : Source) (x : State) : Type 0 where

@@ -14,7 +14,7 @@ use Rattle.base.specs.BlitLaws.{blit-append}
 use Rattle.base.specs.Checked.{Checked, ok, refused, andThen, Verdict, fine}
 use Rattle.mdf.specs.Block.{Wanted, DG, CG, CN, linkAt, blockAt}
 use Rattle.mdf.specs.Name.{nameAt}
-use Rattle.mdf.specs.Chain.{isIn, Fragment, Chain.records, Found, found, stopped, limits, chain}
+use Rattle.mdf.specs.Chain.{isIn, Fragment, Chain.records, Found, found, stopped, Limits, chain}
 use Rattle.mdf.specs.Walk.{Item, dg, cg, cn, address, Source, source, isMet, Level, levelDG, levelCG, levelCN, tally, mostItems, visit, entered, idSizeIn, withFound}
 use Rattle.mdf.specs.Words.{mark, addressWords, marksAt, groupsAt, sourceWords, laidItems, fragmentWords, kindWord}
 use Rattle.reading.specs.Steps.{after, visited, metCG, metCN, Pieces, pieces, afterData, laidFound, dataIn}
@@ -22,7 +22,7 @@ use Rattle.reading.specs.declared.answer.Taken.{Taken}
 use Rattle.reading.specs.declared.answer.Taken.the-variants.{Done}
 use Rattle.fields.specs.declared.Check.{Check}
 use Rattle.fields.specs.declared.Check.the-variants.{Fine}
-use Rattle.reading.specs.Held.{State, state, Held, Within, Became, Gives, Stops}
+use Rattle.reading.specs.Held.{mostPieces, State, state, Held, Within, Became, Gives, Stops}
 use Rattle.reading.specs.CheckedLaws.{refused≢ok, ok≢refused, ok-same, then-ok, both-stop, both-pass}
 use Rattle.chains.specs.KeptLaws.{words-append, length-words}
 use Rattle.reading.specs.DataLaws.{data-room}
@@ -222,13 +222,13 @@ module _ (s : List ℕ) (a : ℕ) (x : State) (r : Within x) where
 
 -- ---- the data of a DG
 -- the data chain, then the id size
-unfoldable pub taking : List ℕ → ℕ → Source → Checked Source
-taking s a st = andThen (withFound (chain records limits s (length (st .fragments)) (linkAt s a 2)) st) (λ st'. andThen (idSizeIn s a) (λ _. ok st'))
+unfoldable pub taking : Limits → List ℕ → ℕ → Source → Checked Source
+taking l s a st = andThen (withFound (chain records l s (length (st .fragments)) (linkAt s a 2)) st) (λ st'. andThen (idSizeIn s a) (λ _. ok st'))
 
-module _ (s : List ℕ) (a : ℕ) (x : State) {o : Checked Pieces} where
-  pub data-stops : {y p : ℕ} → o ≡ dataIn s (x .frags) (x .nf) a → o ≡ refused y p → Stops (taking s a) x y p
+module _ (l : Limits) (s : List ℕ) (a : ℕ) (x : State) {o : Checked Pieces} where
+  pub data-stops : {y p : ℕ} → o ≡ dataIn l s (x .frags) (x .nf) a → o ≡ refused y p → Stops (taking l s a) x y p
   unfolding dataIn taking
-  data-stops {y} {p} g q = record { at = λ e f st h. rw (← h .pieces) (go st (chain records limits s (x .nf) (linkAt s a 2)) (idSizeIn s a) (sym g ∙ q)) }
+  data-stops {y} {p} g q = record { at = λ e f st h. rw (← h .pieces) (go st (chain records l s (x .nf) (linkAt s a 2)) (idSizeIn s a) (sym g ∙ q)) }
     where
       go : (st : Source) (v : Found) (c : Verdict) → andThen (laidFound v (x .nf) (x .frags)) (λ k. andThen c (λ _. ok k)) ≡ refused y p
           → andThen (withFound v st) (λ st'. andThen c (λ _. ok st')) ≡ refused y p
@@ -236,14 +236,14 @@ module _ (s : List ℕ) (a : ℕ) (x : State) {o : Checked Pieces} where
       go st (found fs) (refused z i) e = cc
       go st (stopped z i fs) c e = cc
 
-  pub data-gives : {n : ℕ} {w : List ℕ} → o ≡ dataIn s (x .frags) (x .nf) a → o ≡ ok (pieces n w)
-      → Gives (taking s a) x (state (x .words) w (x .n) (x .ndg) (x .ncg) (x .ncn) n)
+  pub data-gives : {n : ℕ} {w : List ℕ} → o ≡ dataIn l s (x .frags) (x .nf) a → o ≡ ok (pieces n w)
+      → Gives (taking l s a) x (state (x .words) w (x .n) (x .ndg) (x .ncg) (x .ncn) n)
   unfolding dataIn taking
-  data-gives {n} {w} g q = record { to = λ e f st h. go h (chain records limits s (x .nf) (linkAt s a 2)) refl (idSizeIn s a) refl (sym g ∙ q) }
+  data-gives {n} {w} g q = record { to = λ e f st h. go h (chain records l s (x .nf) (linkAt s a 2)) refl (idSizeIn s a) refl (sym g ∙ q) }
     where
-      go : {e f : List ℕ} {st : Source} → Held e f st x → (v : Found) → chain records limits s (x .nf) (linkAt s a 2) ≡ v → (c : Verdict) → idSizeIn s a ≡ c
+      go : {e f : List ℕ} {st : Source} → Held e f st x → (v : Found) → chain records l s (x .nf) (linkAt s a 2) ≡ v → (c : Verdict) → idSizeIn s a ≡ c
           → andThen (laidFound v (x .nf) (x .frags)) (λ k. andThen c (λ _. ok k)) ≡ ok (pieces n w)
-          → Became (λ st'. andThen (withFound (chain records limits s (length (st' .fragments)) (linkAt s a 2)) st') (λ st''. andThen (idSizeIn s a) (λ _. ok st'')))
+          → Became (λ st'. andThen (withFound (chain records l s (length (st' .fragments)) (linkAt s a 2)) st') (λ st''. andThen (idSizeIn s a) (λ _. ok st'')))
           e f st (state (x .words) w (x .n) (x .ndg) (x .ncg) (x .ncn) n)
       go {f = f} {st = st} h (found fs) i (ok u) j e = record {
         st = source (st .items) (st .fragments ++ fs);
@@ -261,6 +261,6 @@ module _ (s : List ℕ) (a : ℕ) (x : State) {o : Checked Pieces} where
       go h (found fs) i (refused z p) j e = absurd (refused≢ok e)
       go h (stopped z p fs) i c j e = absurd (refused≢ok e)
 
-  pub data-within : {n : ℕ} {w : List ℕ} → o ≡ dataIn s (x .frags) (x .nf) a → o ≡ ok (pieces n w) → Within x
+  pub data-within : {n : ℕ} {w : List ℕ} → o ≡ dataIn l s (x .frags) (x .nf) a → o ≡ ok (pieces n w) → l .fragments ≤ mostPieces → Within x
       → Within (state (x .words) w (x .n) (x .ndg) (x .ncg) (x .ncn) n)
-  data-within {n} {w} g q r = record { long = r .long; sum = r .sum; dg-room = r .dg-room; cg-room = r .cg-room; cn-room = r .cn-room; nf-room = data-room s (x .frags) (x .nf) a (sym g ∙ q) (r .nf-room) }
+  data-within {n} {w} g q m r = record { long = r .long; sum = r .sum; dg-room = r .dg-room; cg-room = r .cg-room; cn-room = r .cn-room; nf-room = data-room l s (x .frags) (x .nf) a (sym g ∙ q) m (r .nf-room) }

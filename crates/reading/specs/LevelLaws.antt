@@ -10,7 +10,7 @@ use Rattle.base.specs.ChoiceLaws.{eq-yes, eq-no}
 use Rattle.base.specs.Checked.{Checked, ok, refused, andThen, Verdict, fine}
 use Rattle.mdf.specs.Block.{linkAt}
 use Rattle.mdf.specs.Name.{nameAt}
-use Rattle.mdf.specs.Chain.{Chain.records, limits, chain}
+use Rattle.mdf.specs.Chain.{Chain.records, Limits, chain}
 use Rattle.mdf.specs.Walk.{Source, Level, levelDG, levelCG, levelCN, mostItems, visit, entered, level, turns, belowCN, belowCG, belowDG, idSizeIn, withFound}
 use Rattle.reading.specs.Held.{State, Held, Within, Became, Gives, Stops}
 use Rattle.reading.specs.CheckedLaws.{then-assoc}
@@ -141,9 +141,9 @@ module _ (s : List ℕ) (a : ℕ) {x : State} where
   cg-block-stops f = first-stops (level levelCN (belowCN s) turns s (linkAt s a 1)) (cg-is s a (linkAt s a 1) refl) f
 
 -- ---- a DG: its data chain, its id size, then the CG chain
-below-is : (s : List ℕ) (a b : ℕ) → b ≡ linkAt s a 1 → (st : Source) → belowDG s a st ≡ andThen (taking s a st) (level levelCG (belowCG s) turns s b)
+below-is : (l : Limits) (s : List ℕ) (a b : ℕ) → b ≡ linkAt s a 1 → (st : Source) → belowDG l s a st ≡ andThen (taking l s a st) (level levelCG (belowCG s) turns s b)
 unfolding belowDG taking
-below-is s a b e st = rw e (go (withFound (chain records limits s (length (st .fragments)) (linkAt s a 2)) st) (idSizeIn s a))
+below-is l s a b e st = rw e (go (withFound (chain records l s (length (st .fragments)) (linkAt s a 2)) st) (idSizeIn s a))
   where
     go : (v : Checked Source) (c : Verdict) → andThen v (λ st'. andThen c (λ _. level levelCG (belowCG s) turns s (linkAt s a 1) st'))
         ≡ andThen (andThen v (λ st'. andThen c (λ _. ok st'))) (level levelCG (belowCG s) turns s (linkAt s a 1))
@@ -151,25 +151,25 @@ below-is s a b e st = rw e (go (withFound (chain records limits s (length (st .f
     go (ok u) (refused n p) = refl
     go (refused n p) c = refl
 
-dg-is : (s : List ℕ) (a : ℕ) (st : Source) → block levelDG (belowDG s) s a st ≡ andThen (entering levelDG s a fine st) (belowDG s a)
+dg-is : (l : Limits) (s : List ℕ) (a : ℕ) (st : Source) → block levelDG (belowDG l s) s a st ≡ andThen (entering levelDG s a fine st) (belowDG l s a)
 unfolding block entering
-dg-is s a st = go (visit levelDG s st a)
+dg-is l s a st = go (visit levelDG s st a)
   where
-    go : (v : Verdict) → andThen v (λ _. belowDG s a (entered levelDG a st)) ≡ andThen (andThen v (λ _. ok (entered levelDG a st))) (belowDG s a)
+    go : (v : Verdict) → andThen v (λ _. belowDG l s a (entered levelDG a st)) ≡ andThen (andThen v (λ _. ok (entered levelDG a st))) (belowDG l s a)
     go (ok u) = refl
     go (refused n p) = refl
 
-module _ (s : List ℕ) (a : ℕ) {x : State} where
-  pub dg-block : (b : ℕ) {y z u : State} → b ≡ linkAt s a 1 → Gives (entering levelDG s a fine) x y → Gives (taking s a) y z
-      → Gives (level levelCG (belowCG s) turns s b) z u → Gives (block levelDG (belowDG s) s a) x u
-  dg-block b e f g h = then-gives (belowDG s a) (dg-is s a) f (then-gives (level levelCG (belowCG s) turns s b) (below-is s a b e) g h)
+module _ (l : Limits) (s : List ℕ) (a : ℕ) {x : State} where
+  pub dg-block : (b : ℕ) {y z u : State} → b ≡ linkAt s a 1 → Gives (entering levelDG s a fine) x y → Gives (taking l s a) y z
+      → Gives (level levelCG (belowCG s) turns s b) z u → Gives (block levelDG (belowDG l s) s a) x u
+  dg-block b e f g h = then-gives (belowDG l s a) (dg-is l s a) f (then-gives (level levelCG (belowCG s) turns s b) (below-is l s a b e) g h)
 
-  pub dg-below-stops : (b : ℕ) {y z : State} {n p : ℕ} → b ≡ linkAt s a 1 → Gives (entering levelDG s a fine) x y → Gives (taking s a) y z
-      → Stops (level levelCG (belowCG s) turns s b) z n p → Stops (block levelDG (belowDG s) s a) x n p
-  dg-below-stops b e f g h = then-stops (belowDG s a) (dg-is s a) f (then-stops (level levelCG (belowCG s) turns s b) (below-is s a b e) g h)
+  pub dg-below-stops : (b : ℕ) {y z : State} {n p : ℕ} → b ≡ linkAt s a 1 → Gives (entering levelDG s a fine) x y → Gives (taking l s a) y z
+      → Stops (level levelCG (belowCG s) turns s b) z n p → Stops (block levelDG (belowDG l s) s a) x n p
+  dg-below-stops b e f g h = then-stops (belowDG l s a) (dg-is l s a) f (then-stops (level levelCG (belowCG s) turns s b) (below-is l s a b e) g h)
 
-  pub dg-data-stops : {y : State} {n p : ℕ} → Gives (entering levelDG s a fine) x y → Stops (taking s a) y n p → Stops (block levelDG (belowDG s) s a) x n p
-  dg-data-stops f g = then-stops (belowDG s a) (dg-is s a) f (first-stops (level levelCG (belowCG s) turns s (linkAt s a 1)) (below-is s a (linkAt s a 1) refl) g)
+  pub dg-data-stops : {y : State} {n p : ℕ} → Gives (entering levelDG s a fine) x y → Stops (taking l s a) y n p → Stops (block levelDG (belowDG l s) s a) x n p
+  dg-data-stops f g = then-stops (belowDG l s a) (dg-is l s a) f (first-stops (level levelCG (belowCG s) turns s (linkAt s a 1)) (below-is l s a (linkAt s a 1) refl) g)
 
-  pub dg-block-stops : {n p : ℕ} → Stops (entering levelDG s a fine) x n p → Stops (block levelDG (belowDG s) s a) x n p
-  dg-block-stops f = first-stops (belowDG s a) (dg-is s a) f
+  pub dg-block-stops : {n p : ℕ} → Stops (entering levelDG s a fine) x n p → Stops (block levelDG (belowDG l s) s a) x n p
+  dg-block-stops f = first-stops (belowDG l s a) (dg-is l s a) f

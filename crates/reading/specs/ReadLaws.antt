@@ -17,6 +17,7 @@ use Rattle.fields.specs.declared.Check.the-variants.{Fine}
 use Rattle.fields.specs.Answer.{verdictOf}
 use Rattle.mdf.specs.Chain.{Fragment}
 use Rattle.mdf.specs.Identification.{identified}
+use Rattle.mdf.specs.Chain.{limits}
 use Rattle.mdf.specs.Walk.{Item, dg, cg, cn, Source, levelCG, tally, mostItems, walk}
 use Rattle.mdf.specs.Group.{DataGroup, addresses, groupsOf, dataGroupsOf, dataGroups, upTo}
 use Rattle.mdf.specs.Count.{countGroups, countsFrom, counts}
@@ -123,7 +124,7 @@ pub record Met (s w f : List ℕ) (n g k : ℕ) (w' f' : List ℕ) : Type 0 wher
   pub words : w' ≡ laidItems (st .items) w
   pub frags : f' ≡ blit 0 (fragmentWords (st .fragments)) f
 
-pub walk-met : (s w f w' f' : List ℕ) {r : Read} {n g k : ℕ} → given r w' f' ≡ walked s w f → r ≡ Done n g k → Met s w f n g k w' f'
+pub walk-met : (s w f w' f' : List ℕ) {r : Read} {n g k : ℕ} → given r w' f' ≡ walked limits s w f → r ≡ Done n g k → Met s w f n g k w' f'
 unfolding walked
 walk-met s w f w' f' {r} {n} {g} {k} e q = go (walk s) refl (sym (ap (λ (v : Read). given v w' f') q) ∙ e)
   where
@@ -186,7 +187,7 @@ module _ (s w f : List ℕ) {o : Check} (e : verdictOf o ≡ identified s) where
         go (refused y p) = refl
 
     -- the walk's refusal
-    pub all-stopped : (w' f' : List ℕ) {r : Read} {y p : ℕ} → given r w' f' ≡ walked s w f → r ≡ Refused y p → refused y p ≡ readOver s w f
+    pub all-stopped : (w' f' : List ℕ) {r : Read} {y p : ℕ} → given r w' f' ≡ walked limits s w f → r ≡ Refused y p → refused y p ≡ readOver s w f
     unfolding walked
     all-stopped w' f' {y = y} {p = p} g z = go (walk s) (sym (ap (λ (v : Read). given v w' f') z) ∙ g) ∙ sym opened
       where

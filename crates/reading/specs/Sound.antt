@@ -2,6 +2,7 @@
 use Prim.Native.Nat.{ℕ, _+_, _≤_}
 use mathlib.Core.List.{List, [], _∷_}
 use lib.ListN.{length}
+use Rattle.mdf.specs.Chain.{Limits, limits}
 use Rattle.mdf.specs.Walk.{Item, dg, cg, cn, Source, levelDG, levelCG, levelCN, tally, mostItems}
 
 -- each DG has no fewer fragments before it than the DG before, from lo up to hi
@@ -20,13 +21,13 @@ pub data Starts : List Item → Type 0 where
 pub data Begun : List Item → Type 0 where
   begun : {a n : ℕ} {is : List Item} → Begun (dg a n ∷ is)
 
-pub record SoundWith (B : List Item → Type 0) (st : Source) : Type 0 where
+pub record SoundWith (l : Limits) (B : List Item → Type 0) (st : Source) : Type 0 where
   pub dgs : tally (levelDG .own) (st .items) ≤ mostItems
   pub cgs : tally (levelCG .own) (st .items) ≤ mostItems
   pub cns : tally (levelCN .own) (st .items) ≤ mostItems
-  pub pieces : length (st .fragments) ≤ 1024
+  pub pieces : length (st .fragments) ≤ l .fragments
   pub rising : Rising 0 (st .items) (length (st .fragments))
   pub begins : B (st .items)
 
 abbrev pub Sound : Source → Type 0
-Sound = SoundWith Starts
+Sound = SoundWith limits Starts

@@ -10,7 +10,7 @@ use Rattle.fields.specs.declared.Check.the-variants.{Fine, Refused}
 use Rattle.reading.specs.declared.answer.Taken.{Taken}
 use Rattle.mdf.specs.Block.{Wanted, CG, CN, linkAt, blockAt}
 use Rattle.mdf.specs.Name.{nameAt}
-use Rattle.mdf.specs.Chain.{isIn, Chain.records, Found, found, stopped, limits, chain}
+use Rattle.mdf.specs.Chain.{isIn, Chain.records, Found, found, stopped, Limits, chain}
 use Rattle.mdf.specs.Walk.{mostItems, idSizeIn}
 use Rattle.mdf.specs.Words.{marksAt, groupsAt, fragmentWords}
 
@@ -51,5 +51,5 @@ laidFound (found fs) n w = ok (pieces (n + length fs) (blit (3 * n) (fragmentWor
 laidFound (stopped number place fs) n w = refused number place
 
 -- a DG's "data chain, id size", with n fragments found before it
-unfoldable pub dataIn : List ℕ → List ℕ → ℕ → ℕ → Checked Pieces
-dataIn s w n a = andThen (laidFound (chain records limits s n (linkAt s a 2)) n w) (λ k. andThen (idSizeIn s a) (λ _. ok k))
+unfoldable pub dataIn : Limits → List ℕ → List ℕ → ℕ → ℕ → Checked Pieces
+dataIn l s w n a = andThen (laidFound (chain records l s n (linkAt s a 2)) n w) (λ k. andThen (idSizeIn s a) (λ _. ok k))

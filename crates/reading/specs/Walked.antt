@@ -4,7 +4,8 @@ use mathlib.Core.List.{List, []}
 use lib.ListN.{length}
 use Rattle.base.specs.Blit.{blit}
 use Rattle.base.specs.Checked.{Checked, ok, refused, andThen}
-use Rattle.mdf.specs.Walk.{Source, source, levelDG, levelCG, tally, level, turns, belowDG, walk}
+use Rattle.mdf.specs.Chain.{Limits}
+use Rattle.mdf.specs.Walk.{Source, source, levelDG, levelCG, tally, level, turns, belowDG, walkOf}
 use Rattle.mdf.specs.Words.{fragmentWords, laidItems}
 use Rattle.reading.specs.declared.answer.Read.{Read}
 use Rattle.reading.specs.declared.answer.Read.the-variants.{Refused, Done}
@@ -31,8 +32,8 @@ keptOf st w f = record {
   frags = blit 0 (fragmentWords (st .fragments)) f;
 }
 
-unfoldable pub walkedFrom : List ℕ → ℕ → List ℕ → List ℕ → Checked Kept
-walkedFrom s a w f = andThen (level levelDG (belowDG s) turns s a (source [] [])) (λ st. ok (keptOf st w f))
+unfoldable pub walkedFrom : Limits → List ℕ → ℕ → List ℕ → List ℕ → Checked Kept
+walkedFrom l s a w f = andThen (level levelDG (belowDG l s) turns s a (source [] [])) (λ st. ok (keptOf st w f))
 
-unfoldable pub walked : List ℕ → List ℕ → List ℕ → Checked Kept
-walked s w f = andThen (walk s) (λ st. ok (keptOf st w f))
+unfoldable pub walked : Limits → List ℕ → List ℕ → List ℕ → Checked Kept
+walked l s w f = andThen (walkOf l s) (λ st. ok (keptOf st w f))

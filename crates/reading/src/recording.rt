@@ -16,11 +16,13 @@ use identification::identify;
 use records::group::id_size;
 use records::several::count_groups;
 ghost use mathlib.Core.Path.{_≡_};
+ghost use mathlib.Core.List.{[]};
 ghost use Prim.Native.Nat.{_+_, _≤_};
 ghost use lib.ListN.{length, take};
 ghost use Rattle.fields.specs.Answer.{verdictOf};
-ghost use Rattle.mdf.specs.Chain.{isIn};
+ghost use Rattle.mdf.specs.Chain.{isIn, fileLimits};
 ghost use Rattle.mdf.specs.Walk.{idSizeIn};
+ghost use Rattle.chains.specs.Node.{limitsFor};
 ghost use Rattle.mdf.specs.Words.{sourceWords, countsAt};
 ghost use Rattle.base.specs.Blit.{blit};
 ghost use Rattle.reading.specs.Steps.{after, visited, metCG, metCN, afterData, dataIn};
@@ -139,11 +141,11 @@ fn id_size_in(image: &[u8], a: u64) -> Check
 }
 
 // The DG at a: its data chain and id size, with n fragments before it.
-fn take_data(image: &[u8], fragments: &mut [u64], n: u64, a: u64) -> Taken
-    ensures { λ r. ⌜ afterData r (now (fragments .exit)) ≡ dataIn (now (image .entry)) (now (fragments .entry)) n a ⌝ }
+fn take_data(file: bool, image: &[u8], fragments: &mut [u64], n: u64, a: u64) -> Taken
+    ensures { λ r. ⌜ afterData r (now (fragments .exit)) ≡ dataIn (limitsFor file) (now (image .entry)) (now (fragments .entry)) n a ⌝ }
 {
     let data = link_at(image, a, 2);
-    let chained = chain(false, image, fragments, n, data);
+    let chained = chain(false, file, image, fragments, n, data);
     match chained {
         Chained::Stopped {
             number,
@@ -161,10 +163,16 @@ fn take_data(image: &[u8], fragments: &mut [u64], n: u64, a: u64) -> Taken
 }
 
 // The walk from the first DG: each DG with its data, its CG with their names, their CN with their names.
-fn walk_from(image: &[u8], source: &mut [u64], fragments: &mut [u64], first: u64) -> Read
+fn walk_from(
+    file: bool,
+    image: &[u8],
+    source: &mut [u64],
+    fragments: &mut [u64],
+    first: u64,
+) -> Read
     requires { ⌜ sourceWords ≤ length (now source) ⌝ }
     ensures { λ r. ⌜ given r (now (source .exit)) (now (fragments .exit))
-        ≡ walkedFrom (now (image .entry)) first (now (source .entry)) (now (fragments .entry)) ⌝ }
+        ≡ walkedFrom (limitsFor file) (now (image .entry)) first (now (source .entry)) (now (fragments .entry)) ⌝ }
 {
     let mut n: u64 = 0;
     let mut ndg: u64 = 0;
@@ -186,7 +194,7 @@ fn walk_from(image: &[u8], source: &mut [u64], fragments: &mut [u64], first: u64
         }
         n += 1;
         ndg += 1;
-        let taken = take_data(image, fragments, nf, dg);
+        let taken = take_data(file, image, fragments, nf, dg);
         match taken {
             Taken::Refused { number, place } => {
                 break 'walk Read::Refused { number, place };
@@ -221,17 +229,25 @@ fn walk_from(image: &[u8], source: &mut [u64], fragments: &mut [u64], first: u64
 }
 
 // HD, which stands at 64, then the walk from its first DG.
-fn walk(image: &[u8], source: &mut [u64], fragments: &mut [u64]) -> Read
+fn walk(file: bool, image: &[u8], source: &mut [u64], fragments: &mut [u64]) -> Read
     requires { ⌜ sourceWords ≤ length (now source) ⌝ }
     ensures { λ r. ⌜ given r (now (source .exit)) (now (fragments .exit))
-        ≡ walked (now (image .entry)) (now (source .entry)) (now (fragments .entry)) ⌝ }
+        ≡ walked (limitsFor file) (now (image .entry)) (now (source .entry)) (now (fragments .entry)) ⌝ }
 {
     let head = block_at(HD, 6, 0, image, 64);
     if let Check::Refused { number, place } = head {
         return Read::Refused { number, place };
     }
     let first = link_at(image, 64, 0);
-    walk_from(image, source, fragments, first)
+    walk_from(file, image, source, fragments, first)
+}
+
+// The walk of a file whose columns are read: its blocks are kept, its fragments counted only.
+pub fn walk_file(image: &[u8], source: &mut [u64; 4096]) -> Read
+    ensures { λ r. ⌜ given r (now (source .exit)) [] ≡ walked fileLimits (now (image .entry)) (now (source .entry)) [] ⌝ }
+{
+    let mut fragments = [0u64; 0];
+    walk(true, image, source, &mut fragments)
 }
 
 // Every word zero.
@@ -384,7 +400,7 @@ fn read_all(image: &[u8], source: &mut [u64], fragments: &mut [u64]) -> Read
     if let Check::Refused { number, place } = known {
         return Read::Refused { number, place };
     }
-    let met = walk(image, source, fragments);
+    let met = walk(false, image, source, fragments);
     match met {
         Read::Refused { number, place } => Read::Refused { number, place },
         Read::Done {

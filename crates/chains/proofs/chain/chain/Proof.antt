@@ -1,21 +1,21 @@
 -- The invariant: what is left of the chain gives what the whole chain gives. The room left among the DL and HL met is the measure.
-use Rattle.chains.specs.TurnLaws.{Walking, walk-begin, walk-end, walk-met, walk-over, walk-next}
+use Rattle.chains.specs.TurnLaws.{lists-for, Walking, walk-begin, walk-end, walk-met, walk-over, walk-next}
 use Prim.Native.Nat.{_-_}
-use Rattle.chains.specs.Node.{which}
+use Rattle.chains.specs.Node.{which, limitsFor}
 use borrow.Author.Needs.{needs}
 use native.Mathlib.Omega.{arith}
 use Rattle.chains.proofs.chain.chain.Statement.{statement}
 use Rattle.chains.proofs.chain.chain.Tie as tie
 
 abbrev Inv-loop : tie.InvT-loop
-Inv-loop signal image fragments₀ n a met₀ k₀ at₀ count₀ fragments met k at count =
-    Walking (which signal) image n a fragments₀ met k at count fragments
+Inv-loop signal file image fragments₀ n a met₀ k₀ at₀ count₀ fragments met k at count =
+    Walking (which signal) (limitsFor file) image n a fragments₀ met k at count fragments
 
 abbrev μ-loop : tie.MeasureT-loop
-μ-loop signal image fragments₀ n a met₀ k₀ at₀ count₀ fragments met k at count = 256 - k
+μ-loop signal file image fragments₀ n a met₀ k₀ at₀ count₀ fragments met k at count = 256 - k
 
 loop-holds : tie.Need-loop-holds Inv-loop μ-loop
-loop-holds c = walk-begin (search needs)
+loop-holds c = walk-begin (lists-for (c .before .before .args .file)) (search needs)
 
 seen-requires : tie.Need-seen-requires Inv-loop μ-loop
 seen-requires c κs = search needs

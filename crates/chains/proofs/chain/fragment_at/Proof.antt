@@ -23,21 +23,21 @@ enum-told-2 : tie.Need-enum-told-2
 enum-told-2 c = search needs
 
 returns : tie.Need-returns
-returns c = fragment-refused _ _ _ _ _ (c .before .before .before .node-at .ensures) (c .before .node .given .1)
+returns c = fragment-refused _ _ _ _ _ _ (c .before .before .before .node-at .ensures) (c .before .node .given .1)
 
 same-length : tie.Need-same-length
 same-length c = search needs
 
 returns-2 : tie.Need-returns-2
 returns-2 c =
-    fragment-found _ _ _ _ _ (c .before .before .before .before .before .before .before .node-at .ensures)
+    fragment-found _ _ _ _ _ _ (c .before .before .before .before .before .before .before .node-at .ensures)
     (c .before .before .before .before .before .node2 .given .1) (c .before .before .add .ensures)
 
 returns-3 : tie.Need-returns-3
-returns-3 c = fragment-dl _ _ _ _ _ (c .before .before .node-at .ensures) (c .enum-told .given .1)
+returns-3 c = fragment-dl _ _ _ _ _ _ (c .before .before .node-at .ensures) (c .enum-told .given .1)
 
 returns-4 : tie.Need-returns-4
-returns-4 c = fragment-hl _ _ _ _ _ (c .before .before .node-at .ensures) (c .enum-told2 .given .1)
+returns-4 c = fragment-hl _ _ _ _ _ _ (c .before .before .node-at .ensures) (c .enum-told2 .given .1)
 
 pub fragment-at-spec : {M : Type 1} → statement M
 fragment-at-spec =

@@ -1,5 +1,6 @@
 -- Three stores in a row are the three words.
-use Rattle.chains.specs.TurnLaws.{keep-three}
+use Rattle.chains.specs.TurnLaws.{keep-three, keep-past}
+use native.Mathlib.Omega.{arith}
 use borrow.Author.Needs.{needs}
 use Rattle.chains.proofs.chain.keep.Statement.{statement}
 use Rattle.chains.proofs.chain.keep.Tie as tie
@@ -34,6 +35,9 @@ returns c =
     (c .before .before .before .before .before .before .before .put2 .ensures) (c .before .before .before .kind-word .ensures)
     (c .before .before .put3 .ensures)
 
+returns-2 : tie.Need-returns-2
+returns-2 c = keep-past _ _ _ (omega arith)
+
 pub keep-spec : {M : Type 1} → statement M
 keep-spec =
     tie.close
@@ -46,4 +50,5 @@ keep-spec =
     kind-word-requires
     put-requires-3
     same-length
-    returns)
+    returns
+    returns-2)

@@ -1,17 +1,17 @@
 -- The invariant: what is left of the links gives what the whole list gives. The links left are the measure.
 use Rattle.chains.specs.TurnLaws.{Listing, list-begin, list-end, list-stop, list-on}
 use Prim.Native.Nat.{_-_}
-use Rattle.chains.specs.Node.{which}
+use Rattle.chains.specs.Node.{which, limitsFor}
 use borrow.Author.Needs.{needs}
 use Rattle.chains.proofs.chain.list.Statement.{statement}
 use Rattle.chains.proofs.chain.list.Tie as tie
 
 abbrev Inv-loop : tie.InvT-loop
-Inv-loop signal image fragments₀ n a links count₀ i₀ fragments count i = Listing (which signal) image a n fragments₀ links i
+Inv-loop signal file image fragments₀ n a links count₀ i₀ fragments count i = Listing (which signal) (limitsFor file) image a n fragments₀ links i
     count fragments
 
 abbrev μ-loop : tie.MeasureT-loop
-μ-loop signal image fragments₀ n a links count₀ i₀ fragments count i = links - i
+μ-loop signal file image fragments₀ n a links count₀ i₀ fragments count i = links - i
 
 links-at-requires : tie.Need-links-at-requires Inv-loop μ-loop
 links-at-requires c κs = search needs

@@ -13,16 +13,16 @@ enum-known-length : tie.Need-enum-known-length
 enum-known-length c = search needs
 
 returns : tie.Need-returns
-returns c = list-refused _ _ _ (c .before .before .before .length-in .ensures) (c .before .length .given .1)
+returns c = list-refused _ _ _ _ _ (c .before .before .before .length-in .ensures) (c .before .length .given .1)
 
 enum-told : tie.Need-enum-told
 enum-told c = search needs
 
 returns-2 : tie.Need-returns-2
-returns-2 c = list-fine _ _ _ (c .before .before .before .length-in .ensures) (c .before .enum-told .given .1) (omega arith)
+returns-2 c = list-fine _ _ _ _ _ (c .before .before .before .length-in .ensures) (c .before .enum-told .given .1) (omega arith)
 
 returns-3 : tie.Need-returns-3
-returns-3 c = list-full _ _ _ (c .before .before .before .length-in .ensures) (c .before .enum-told .given .1) (omega arith)
+returns-3 c = list-full _ _ _ _ _ (c .before .before .before .length-in .ensures) (c .before .enum-told .given .1) (omega arith)
 
 pub list-in-spec : {M : Type 1} → statement M
 list-in-spec =

@@ -1,8 +1,11 @@
 -- The refusal of the check is passed on, then that of the list; else the first link is next.
-use Rattle.chains.specs.TurnLaws.{dl-refused, dl-stop, dl-next}
+use Rattle.chains.specs.TurnLaws.{list-for, dl-refused, dl-stop, dl-next}
 use borrow.Author.Needs.{needs}
 use Rattle.chains.proofs.chain.list_step.Statement.{statement}
 use Rattle.chains.proofs.chain.list_step.Tie as tie
+
+dl-bytes-requires : tie.Need-dl-bytes-requires
+dl-bytes-requires c κs = search needs
 
 list-in-requires : tie.Need-list-in-requires
 list-in-requires c κs = search needs
@@ -11,7 +14,7 @@ enum-known-check : tie.Need-enum-known-check
 enum-known-check c = search needs
 
 returns : tie.Need-returns
-returns c = dl-refused _ _ _ _ _ _ (c .before .before .before .list-in .ensures) (c .before .check .given .1)
+returns c = dl-refused _ _ _ _ _ _ _ (list-for (c .before .before .before .before .before .before .before .args .file) _ _ _ (c .before .before .before .before .dl-bytes .ensures) (c .before .before .before .list-in .ensures)) (c .before .check .given .1)
 
 enum-told : tie.Need-enum-told
 enum-told c = search needs
@@ -32,25 +35,19 @@ same-length : tie.Need-same-length
 same-length c = search needs
 
 returns-2 : tie.Need-returns-2
-returns-2 c =
-    dl-stop _ _ _ _ _ _ (c .before .before .before .before .before .before .before .before .before .before .list-in .ensures)
-    (c .before .before .before .before .before .before .before .before .enum-told .given .1)
-    (c .before .before .before .before .before .list .ensures) (c .before .all .given .1)
+returns-2 c = dl-stop _ _ _ _ _ _ _ (list-for (c .before .before .before .before .before .before .before .before .before .before .before .before .before .before .args .file) _ _ _ (c .before .before .before .before .before .before .before .before .before .before .before .dl-bytes .ensures) (c .before .before .before .before .before .before .before .before .before .before .list-in .ensures)) (c .before .before .before .before .before .before .before .before .enum-told .given .1) (c .before .before .before .before .before .list .ensures) (c .before .all .given .1)
 
 same-length-2 : tie.Need-same-length-2
 same-length-2 c = search needs
 
 returns-3 : tie.Need-returns-3
-returns-3 c =
-    dl-next _ _ _ _ _ _ (c .before .before .before .before .before .before .before .before .before .before .list-in .ensures)
-    (c .before .before .before .before .before .before .before .before .enum-told .given .1)
-    (c .before .before .before .before .before .list .ensures) (c .before .all2 .given .1)
-    (c .before .before .before .before .before .before .before .first-link .ensures)
+returns-3 c = dl-next _ _ _ _ _ _ _ (list-for (c .before .before .before .before .before .before .before .before .before .before .before .before .before .before .args .file) _ _ _ (c .before .before .before .before .before .before .before .before .before .before .before .dl-bytes .ensures) (c .before .before .before .before .before .before .before .before .before .before .list-in .ensures)) (c .before .before .before .before .before .before .before .before .enum-told .given .1) (c .before .before .before .before .before .list .ensures) (c .before .all2 .given .1) (c .before .before .before .before .before .before .before .first-link .ensures)
 
 pub list-step-spec : {M : Type 1} → statement M
 list-step-spec =
     tie.close
     (tie.spec
+    dl-bytes-requires
     list-in-requires
     enum-known-check
     returns

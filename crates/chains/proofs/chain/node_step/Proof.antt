@@ -29,14 +29,14 @@ header-step-requires : tie.Need-header-step-requires
 header-step-requires c κs = search needs
 
 returns : tie.Need-returns
-returns c = turn-refused _ _ _ _ _ _ (c .before .before .before .node-at .ensures) (c .before .node .given .1)
+returns c = turn-refused _ _ _ _ _ _ _ (c .before .before .before .node-at .ensures) (c .before .node .given .1)
 
 same-length : tie.Need-same-length
 same-length c = search needs
 
 returns-2 : tie.Need-returns-2
 returns-2 c =
-    turn-block _ _ _ _ _ _ (c .before .before .before .before .before .before .before .node-at .ensures)
+    turn-block _ _ _ _ _ _ _ (c .before .before .before .before .before .before .before .node-at .ensures)
     (c .before .before .before .before .before .node2 .given .1) (c .before .before .add .ensures)
 
 same-length-2 : tie.Need-same-length-2
@@ -44,7 +44,7 @@ same-length-2 c = search needs
 
 returns-3 : tie.Need-returns-3
 returns-3 c =
-    turn-dl _ _ _ _ _ _ (c .before .before .before .before .before .before .node-at .ensures)
+    turn-dl _ _ _ _ _ _ _ (c .before .before .before .before .before .before .node-at .ensures)
     (c .before .before .before .before .enum-told .given .1) (c .before .before .list-step .ensures)
 
 same-length-3 : tie.Need-same-length-3
@@ -52,7 +52,7 @@ same-length-3 c = search needs
 
 returns-4 : tie.Need-returns-4
 returns-4 c =
-    turn-hl _ _ _ _ _ _ (c .before .before .before .before .before .before .node-at .ensures)
+    turn-hl _ _ _ _ _ _ _ (c .before .before .before .before .before .before .node-at .ensures)
     (c .before .before .before .before .enum-told2 .given .1) (c .before .before .header-step .ensures)
 
 pub node-step-spec : {M : Type 1} → statement M

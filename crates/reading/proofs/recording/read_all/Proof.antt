@@ -30,7 +30,7 @@ count-into-requires c κs =
     let p = c .before .before .before in
     let w = p .before .before .before .before .before .before in
     let q = w .before .before .before .before .before .before .before .before .before in
-    let m = (walk-met _ _ _ (w .walk .last .1 .0) (w .walk .last .1 .1 .0) (w .walk .ensures) (p .met2 .given .1)) in
+    let m = (walk-met _ _ _ (w .walk .last .1 .1 .0) (w .walk .last .1 .1 .1 .0) (w .walk .ensures) (p .met2 .given .1)) in
     (met-holding m (q .pre .0) (q .pre .1), met-few m)
 
 enum-known-counted : tie.Need-enum-known-counted
@@ -49,8 +49,8 @@ returns-2 : tie.Need-returns-2
 returns-2 c =
     let w = c .before .before .before .before .before .before .before in
     let e = w .before .before .before in
-    all-stopped _ _ _ (e .before .before .identify .ensures) (e .enum-told .given .1) (w .walk .last .1 .0)
-        (w .walk .last .1 .1 .0)
+    all-stopped _ _ _ (e .before .before .identify .ensures) (e .enum-told .given .1) (w .walk .last .1 .1 .0)
+        (w .walk .last .1 .1 .1 .0)
     (w .walk .ensures) (c .before .met .given .1)
 
 same-length-3 : tie.Need-same-length-3
@@ -67,7 +67,7 @@ returns-3 c =
     let e = w .before .before .before in
     let q = e .before .before .before .before .before .before in
     all-uncounted _ _ _ (e .before .before .identify .ensures) (e .enum-told .given .1)
-    (walk-met _ _ _ (w .walk .last .1 .0) (w .walk .last .1 .1 .0) (w .walk .ensures) (m .met2 .given .1)) (q .pre .0) (q .pre .1)
+    (walk-met _ _ _ (w .walk .last .1 .1 .0) (w .walk .last .1 .1 .1 .0) (w .walk .ensures) (m .met2 .given .1)) (q .pre .0) (q .pre .1)
     (p .count-into .ensures) (c .before .counted .given .1)
 
 same-length-5 : tie.Need-same-length-5
@@ -84,7 +84,7 @@ returns-4 c =
     let e = w .before .before .before in
     let q = e .before .before .before .before .before .before in
     all-read _ _ _ (e .before .before .identify .ensures) (e .enum-told .given .1)
-    (walk-met _ _ _ (w .walk .last .1 .0) (w .walk .last .1 .1 .0) (w .walk .ensures) (m .met2 .given .1)) (q .pre .0) (q .pre .1)
+    (walk-met _ _ _ (w .walk .last .1 .1 .0) (w .walk .last .1 .1 .1 .0) (w .walk .ensures) (m .met2 .given .1)) (q .pre .0) (q .pre .1)
     (p .count-into .ensures) (c .enum-told2 .given .1)
 
 pub read-all-spec : {M : Type 1} → statement M

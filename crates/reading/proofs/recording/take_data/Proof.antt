@@ -31,7 +31,7 @@ same-length c = search needs
 returns : tie.Need-returns
 returns c =
     let p = c .before .before .before .before .before in
-    data-chain-stopped _ _ _ _ (p .before .before .link-at .ensures) (p .chain .ensures) (c .before .chained .given .1)
+    data-chain-stopped _ _ _ _ _ (p .before .before .link-at .ensures) (p .chain .ensures) (c .before .chained .given .1)
 
 same-length-2 : tie.Need-same-length-2
 same-length-2 c = search needs
@@ -40,7 +40,7 @@ returns-2 : tie.Need-returns-2
 returns-2 c =
     let i = c .before .before .before in
     let p = i .before .before .before .before .before .before in
-    data-unsized _ _ _ _ (p .before .before .link-at .ensures) (p .chain .ensures) (i .before .before .chained2 .given .1)
+    data-unsized _ _ _ _ _ (p .before .before .link-at .ensures) (p .chain .ensures) (i .before .before .chained2 .given .1)
     (i .id-size-in .ensures) (c .before .sized .given .1)
 
 same-length-3 : tie.Need-same-length-3
@@ -50,7 +50,7 @@ returns-3 : tie.Need-returns-3
 returns-3 c =
     let p = c .before .before .before .before in
     let q = p .before .before .before .before in
-    data-taken _ _ _ _ (q .before .before .link-at .ensures) (q .chain .ensures) (p .chained2 .given .1)
+    data-taken _ _ _ _ _ (q .before .before .link-at .ensures) (q .chain .ensures) (p .chained2 .given .1)
     (c .before .before .id-size-in .ensures) (c .enum-told .given .1)
 
 pub take-data-spec : {M : Type 1} → statement M

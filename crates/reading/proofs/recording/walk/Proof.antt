@@ -11,7 +11,7 @@ enum-known-head : tie.Need-enum-known-head
 enum-known-head c = search needs
 
 returns : tie.Need-returns
-returns c = head-refused _ _ _ (c .before .before .before .block-at .ensures) (c .before .head .given .1)
+returns c = head-refused _ _ _ _ (c .before .before .before .block-at .ensures) (c .before .head .given .1)
 
 enum-told : tie.Need-enum-told
 enum-told c = search needs
@@ -33,7 +33,7 @@ returns-2 c =
     let w = c .before .before .before .before in
     let l = w .before .before .before in
     let b = l .before .before .before in
-    head-fine _ _ _ (b .block-at .ensures) (l .before .enum-told .given .1) (l .link-at .ensures) (w .walk-from .ensures)
+    head-fine _ _ _ _ (b .block-at .ensures) (l .before .enum-told .given .1) (l .link-at .ensures) (w .walk-from .ensures)
 
 pub walk-spec : {M : Type 1} → statement M
 walk-spec =

@@ -4,6 +4,8 @@ use native.Mathlib.Omega.{arith}
 use Prim.Native.Nat.{_-_}
 use mathlib.Core.Path.{refl}
 use Rattle.mdf.specs.Walk.{levelDG, levelCG, levelCN, belowDG, belowCG, belowCN, mostItems}
+use Rattle.chains.specs.Node.{limitsFor}
+use Rattle.chains.specs.TurnLaws.{fragments-for}
 use Rattle.reading.specs.Held.{state}
 use Rattle.reading.specs.HeldLaws.{after-fine, after-refused, after-done, after-stopped, dg-stops, dg-gives, dg-within, cg-stops, cg-gives, cg-within}
 use Rattle.reading.specs.HeldLaws.{cn-stops, cn-gives, cn-within, data-stops, data-gives, data-within}
@@ -14,28 +16,28 @@ use Rattle.reading.proofs.recording.walk_from.Statement.{statement}
 use Rattle.reading.proofs.recording.walk_from.Tie as tie
 
 abbrev Inv-channels : tie.InvT-channels
-Inv-channels image source₀ fragments first n₀ ndg ncg ncn₀ nf dg cg cn₀ source n ncn cn =
+Inv-channels file image source₀ fragments first n₀ ndg ncg ncn₀ nf dg cg cn₀ source n ncn cn =
     Turn levelCN (belowCN image) image cn₀ (state source₀ fragments n₀ ndg ncg ncn₀ nf) cn ncn (state source fragments n ndg ncg
         ncn nf)
 
 abbrev μ-channels : tie.MeasureT-channels
-μ-channels image source₀ fragments first n₀ ndg ncg ncn₀ nf dg cg cn₀ source n ncn cn = mostItems - ncn
+μ-channels file image source₀ fragments first n₀ ndg ncg ncn₀ nf dg cg cn₀ source n ncn cn = mostItems - ncn
 
 abbrev Inv-groups : tie.InvT-groups
-Inv-groups image source₀ fragments first n₀ ndg ncg₀ ncn₀ nf dg cg₀ source n ncg ncn cg =
+Inv-groups file image source₀ fragments first n₀ ndg ncg₀ ncn₀ nf dg cg₀ source n ncg ncn cg =
     Turn levelCG (belowCG image) image cg₀ (state source₀ fragments n₀ ndg ncg₀ ncn₀ nf) cg ncg (state source fragments n ndg ncg
         ncn nf)
 
 abbrev μ-groups : tie.MeasureT-groups
-μ-groups image source₀ fragments first n₀ ndg ncg₀ ncn₀ nf dg cg₀ source n ncg ncn cg = mostItems - ncg
+μ-groups file image source₀ fragments first n₀ ndg ncg₀ ncn₀ nf dg cg₀ source n ncg ncn cg = mostItems - ncg
 
 abbrev Inv-walk : tie.InvT-walk
-Inv-walk image source₀ fragments₀ first n₀ ndg₀ ncg₀ ncn₀ nf₀ dg₀ source fragments n ndg ncg ncn nf dg =
-    Turn levelDG (belowDG image) image dg₀ (state source₀ fragments₀ n₀ ndg₀ ncg₀ ncn₀ nf₀) dg ndg (state source fragments n ndg
+Inv-walk file image source₀ fragments₀ first n₀ ndg₀ ncg₀ ncn₀ nf₀ dg₀ source fragments n ndg ncg ncn nf dg =
+    Turn levelDG (belowDG (limitsFor file) image) image dg₀ (state source₀ fragments₀ n₀ ndg₀ ncg₀ ncn₀ nf₀) dg ndg (state source fragments n ndg
         ncg ncn nf)
 
 abbrev μ-walk : tie.MeasureT-walk
-μ-walk image source₀ fragments₀ first n₀ ndg₀ ncg₀ ncn₀ nf₀ dg₀ source fragments n ndg ncg ncn nf dg = mostItems - ndg
+μ-walk file image source₀ fragments₀ first n₀ ndg₀ ncg₀ ncn₀ nf₀ dg₀ source fragments n ndg ncg ncn nf dg = mostItems - ndg
 
 walk-holds : tie.Need-walk-holds Inv-channels μ-channels Inv-groups μ-groups Inv-walk μ-walk
 walk-holds c = begin _ _ _ _ _ (within-none _ _ (c .before .before .before .pre))
@@ -78,8 +80,8 @@ groups-holds c =
     let f = c .before .before .before .before .before .before .before in
     let v = f .before .before .before .before .before .before in
     let w = v .before .before .before in
-    begin _ _ _ _ _ (data-within _ _ _ (f .take-data .ensures) (after-done _ _ (c .before .before .before .taken2 .given .1))
-    (dg-within _ _ _ (w .walk .inv .within) (v .visit .ensures) (after-fine _ _ (f .before .before .enum-told .given .1)) (omega
+    begin _ _ _ _ _ (data-within _ _ _ _ (f .take-data .ensures) (after-done _ _ (c .before .before .before .taken2 .given .1))
+    (fragments-for (c .before .before .before .before .before .before .before .before .before .before .before .before .before .before .before .before .before .before .before .before .args .file)) (dg-within _ _ _ (w .walk .inv .within) (v .visit .ensures) (after-fine _ _ (f .before .before .enum-told .given .1)) (omega
         arith)))
 
 walk-less : tie.Need-walk-less Inv-channels μ-channels Inv-groups μ-groups Inv-walk μ-walk
@@ -99,9 +101,9 @@ walk-again c =
     let v = f .before .before .before .before .before .before in
     let w = v .before .before .before in
     turn-on (w .walk .inv) (v .before .before .if1 .left) (w .walk .inv .within .dg-room)
-    (dg-block _ _ _ (g .before .before .link-at .ensures)
+    (dg-block _ _ _ _ (g .before .before .link-at .ensures)
     (dg-gives _ _ _ (w .walk .inv .within) (v .visit .ensures) (after-fine _ _ (f .before .before .enum-told .given .1)))
-    (data-gives _ _ _ (f .take-data .ensures) (after-done _ _ (g .before .before .before .before .taken2 .given .1)))
+    (data-gives _ _ _ _ (f .take-data .ensures) (after-done _ _ (g .before .before .before .before .taken2 .given .1)))
     (turn-end (g .groups .inv) (c .groups-test .left) (g .groups .inv .within .cg-room)))
     (g .before .link-at2 .ensures) (omega arith) (g .groups .inv .within) (omega arith) (omega arith)
 
@@ -197,7 +199,7 @@ same-length-2 : tie.Need-same-length-2 Inv-channels μ-channels Inv-groups μ-gr
 same-length-2 c = search needs
 
 returns : tie.Need-returns Inv-channels μ-channels Inv-groups μ-groups Inv-walk μ-walk
-returns c = walk-gives _ _ _ _ (turn-end (c .before .walk .inv) (c .if1 .taken) (c .before .walk .inv .within .dg-room))
+returns c = walk-gives _ _ _ _ _ (turn-end (c .before .walk .inv) (c .if1 .taken) (c .before .walk .inv .within .dg-room))
 
 same-length-3 : tie.Need-same-length-3 Inv-channels μ-channels Inv-groups μ-groups Inv-walk μ-walk
 same-length-3 c = search needs
@@ -209,8 +211,8 @@ returns-2 : tie.Need-returns-2 Inv-channels μ-channels Inv-groups μ-groups Inv
 returns-2 c =
     let v = c .before .before .before .before .before in
     let w = v .before .before .before in
-    walk-stops _ _ _ _ (turn-stop (w .walk .inv) (v .before .before .if1 .left) (w .walk .inv .within .dg-room)
-    (dg-block-stops _ _ (dg-stops _ _ _ (w .walk .inv .within) (v .visit .ensures) (after-refused _ _
+    walk-stops _ _ _ _ _ (turn-stop (w .walk .inv) (v .before .before .if1 .left) (w .walk .inv .within .dg-room)
+    (dg-block-stops _ _ _ (dg-stops _ _ _ (w .walk .inv .within) (v .visit .ensures) (after-refused _ _
         (c .before .met .given .1)))))
 
 same-length-5 : tie.Need-same-length-5 Inv-channels μ-channels Inv-groups μ-groups Inv-walk μ-walk
@@ -224,10 +226,10 @@ returns-3 c =
     let f = c .before .before .before .before .before in
     let v = f .before .before .before .before .before .before in
     let w = v .before .before .before in
-    walk-stops _ _ _ _ (turn-stop (w .walk .inv) (v .before .before .if1 .left) (w .walk .inv .within .dg-room)
-    (dg-data-stops _ _
+    walk-stops _ _ _ _ _ (turn-stop (w .walk .inv) (v .before .before .if1 .left) (w .walk .inv .within .dg-room)
+    (dg-data-stops _ _ _
     (dg-gives _ _ _ (w .walk .inv .within) (v .visit .ensures) (after-fine _ _ (f .before .before .enum-told .given .1)))
-    (data-stops _ _ _ (f .take-data .ensures) (after-stopped _ _ (c .before .taken .given .1)))))
+    (data-stops _ _ _ _ (f .take-data .ensures) (after-stopped _ _ (c .before .taken .given .1)))))
 
 same-length-7 : tie.Need-same-length-7 Inv-channels μ-channels Inv-groups μ-groups Inv-walk μ-walk
 same-length-7 c = search needs
@@ -241,10 +243,10 @@ returns-4 c =
     let f = g .before .before .before .before .before .before .before .before in
     let v = f .before .before .before .before .before .before in
     let w = v .before .before .before in
-    walk-stops _ _ _ _ (turn-stop (w .walk .inv) (v .before .before .if1 .left) (w .walk .inv .within .dg-room)
-    (dg-below-stops _ _ _ (g .before .before .link-at .ensures)
+    walk-stops _ _ _ _ _ (turn-stop (w .walk .inv) (v .before .before .if1 .left) (w .walk .inv .within .dg-room)
+    (dg-below-stops _ _ _ _ (g .before .before .link-at .ensures)
     (dg-gives _ _ _ (w .walk .inv .within) (v .visit .ensures) (after-fine _ _ (f .before .before .enum-told .given .1)))
-    (data-gives _ _ _ (f .take-data .ensures) (after-done _ _ (g .before .before .before .before .taken2 .given .1)))
+    (data-gives _ _ _ _ (f .take-data .ensures) (after-done _ _ (g .before .before .before .before .taken2 .given .1)))
     (turn-stop (g .groups .inv) (c .before .before .before .before .before .before .before .groups-test .taken)
         (g .groups .inv .within .cg-room)
     (cg-block-stops _ _ (cg-stops _ _ _ (g .groups .inv .within) (c .before .before .before .before .before .met-cg .ensures)
@@ -279,10 +281,10 @@ returns-5 c =
     let f = g .before .before .before .before .before .before .before .before in
     let v = f .before .before .before .before .before .before in
     let w = v .before .before .before in
-    walk-stops _ _ _ _ (turn-stop (w .walk .inv) (v .before .before .if1 .left) (w .walk .inv .within .dg-room)
-    (dg-below-stops _ _ _ (g .before .before .link-at .ensures)
+    walk-stops _ _ _ _ _ (turn-stop (w .walk .inv) (v .before .before .if1 .left) (w .walk .inv .within .dg-room)
+    (dg-below-stops _ _ _ _ (g .before .before .link-at .ensures)
     (dg-gives _ _ _ (w .walk .inv .within) (v .visit .ensures) (after-fine _ _ (f .before .before .enum-told .given .1)))
-    (data-gives _ _ _ (f .take-data .ensures) (after-done _ _ (g .before .before .before .before .taken2 .given .1)))
+    (data-gives _ _ _ _ (f .take-data .ensures) (after-done _ _ (g .before .before .before .before .taken2 .given .1)))
     (turn-stop (g .groups .inv) (n .before .before .before .before .before .before .before .before .before .groups-test .taken)
         (g .groups .inv .within .cg-room)
     (cg-below-stops _ _ _ (n .before .before .link-at3 .ensures)
