@@ -74,6 +74,9 @@ Forms =
     -- a DT in place of the DL; an HL before it
     × (outline (opened (file (dg 0 496) (cg 1 4 0) (cn 0) (dt (1 ∷ 2 ∷ 3 ∷ 4 ∷ [])))) ≡ lacks)
     × (outline (opened (file (dg 0 496) (cg 0 4 0) (cn 0) (header kindHL 32 1 ++ linksTo (528 ∷ []) ++ dl (0 ∷ []) 8))) ≡ lacks)
+    -- the same with all else as in a DL: one link, which is 0, and data with bit 0
+    × (outline (opened (file (dg 0 496) (cg 6 4 0) (cn 0) (header kindDT 48 1 ++ linksTo (0 ∷ []) ++ (1 ∷ replicate 15 0)))) ≡ lacks)
+    × (outline (opened (file (dg 0 496) (cg 0 4 0) (cn 0) (header kindHL 48 1 ++ linksTo (0 ∷ []) ++ (1 ∷ replicate 15 0)))) ≡ lacks)
     -- the equal-length bit, the room for the length; other flags and the number of blocks are not looked at
     × (outline (opened (one sound (dv (1 ∷ 2 ∷ 3 ∷ 4 ∷ [])))) ≡ column 1)
     × (outline (opened (one (255 ∷ replicate 15 7) (dv (1 ∷ 2 ∷ 3 ∷ 4 ∷ [])))) ≡ column 1)
@@ -149,7 +152,7 @@ unfolding
     fileForm.haveLength fileForm.listFormed fileForm.allDT fileForm.allDV fileForm.oneKind fileForm.formed fileOpened.columnIn fileOpened.columnsIn
     fileOpened.opened fileRange.fileColumnAt fileRange.asked fileRange.startOf fileRange.bytesOf fileRange.rangeOf fileRange.ranged
     fileRange.intoBuffer fileRange.readInto fileRange.within fileRange.placeIn fileRange.located
-forms = (refl, refl, refl, refl, refl, refl, refl, refl, refl, refl, refl, refl, refl, refl, refl, refl, refl, refl, refl, refl, refl, refl, refl, refl, refl, refl, refl, refl, refl, refl, refl, refl, refl)
+forms = (refl, refl, refl, refl, refl, refl, refl, refl, refl, refl, refl, refl, refl, refl, refl, refl, refl, refl, refl, refl, refl, refl, refl, refl, refl, refl, refl, refl, refl, refl, refl, refl, refl, refl, refl)
 
 pub ranges : Ranges
 unfolding
