@@ -20,7 +20,7 @@ use Rattle.mdf.specs.Walk as mdfWalk
 use Rattle.file.specs.Form as fileForm
 use Rattle.file.specs.Opened as fileOpened
 use Rattle.file.specs.Range as fileRange
-use Rattle.file_cases.specs.Image.{header, linksTo, dg, cg, cn, dlOf, dl, dt, dv, file, outline}
+use Rattle.file_cases.specs.Image.{ident, header, linksTo, dg, cg, cn, dlOf, dl, dt, dv, file, outline}
 
 -- 3 records of 4 bytes in blocks of 8 and 4 bytes: DL at 496, blocks at 560 and 592
 abbrev pub two : List ℕ
@@ -74,6 +74,9 @@ Forms =
     -- a DT in place of the DL; an HL before it
     × (outline (opened (file (dg 0 496) (cg 1 4 0) (cn 0) (dt (1 ∷ 2 ∷ 3 ∷ 4 ∷ [])))) ≡ lacks)
     × (outline (opened (file (dg 0 496) (cg 0 4 0) (cn 0) (header kindHL 32 1 ++ linksTo (528 ∷ []) ++ dl (0 ∷ []) 8))) ≡ lacks)
+    -- the same with all else as in a DL: one link, which is 0, and data with bit 0
+    × (outline (opened (file (dg 0 496) (cg 6 4 0) (cn 0) (header kindDT 48 1 ++ linksTo (0 ∷ []) ++ (1 ∷ replicate 15 0)))) ≡ lacks)
+    × (outline (opened (file (dg 0 496) (cg 0 4 0) (cn 0) (header kindHL 48 1 ++ linksTo (0 ∷ []) ++ (1 ∷ replicate 15 0)))) ≡ lacks)
     -- the equal-length bit, the room for the length; other flags and the number of blocks are not looked at
     × (outline (opened (one sound (dv (1 ∷ 2 ∷ 3 ∷ 4 ∷ [])))) ≡ column 1)
     × (outline (opened (one (255 ∷ replicate 15 7) (dv (1 ∷ 2 ∷ 3 ∷ 4 ∷ [])))) ≡ column 1)
@@ -89,9 +92,11 @@ Forms =
     × (outline (opened (file (dg 0 496) (cg 2 4 0) (cn 0) (dl (0 ∷ 552 ∷ []) 4 ++ dv (1 ∷ 2 ∷ 3 ∷ 4 ∷ [])))) ≡ lacks)
     × (outline (opened (file (dg 0 496) (cg 0 4 0) (cn 0) (dl (0 ∷ 552 ∷ []) 4 ++ dv (1 ∷ 2 ∷ 3 ∷ 4 ∷ [])))) ≡ lacks)
     × (outline (opened (file (dg 0 496) (cg 1 4 0) (cn 0) (dl (0 ∷ 552 ∷ []) 5 ++ dv (1 ∷ 2 ∷ 3 ∷ 4 ∷ 5 ∷ [])))) ≡ lacks)
-    -- id size; a second CN; no CG at all
+    -- id size; a second CN; no CG; no DG at all, which is the form without columns
     × (outline (opened (file (dg 1 0) (cg 0 4 0) (cn 0) [])) ≡ lacks)
     × (outline (opened (file (dg 0 0) (cg 0 4 0) (cn 496) (cn 0))) ≡ lacks)
+    × (outline (opened (file (header mdfBlock.kindDG 64 4 ++ replicate 40 0) (cg 0 4 0) (cn 0) [])) ≡ lacks)
+    × (outline (opened (ident ++ header mdfBlock.kindHD 104 6 ++ replicate 80 0)) ≡ [])
     -- faults of the walk come before a fragment's range, that before the form: 13, 4, 24
     × (outline (opened (file (dg 3 496) (cg 5 4 0) (cn 0) (header kindDT 9000 0))) ≡ (13 ∷ 168 ∷ []) ∷ [])
     × (outline (opened (file (dg 1 496) (cg 5 4 0) (cn 0) (header kindDT 9000 0))) ≡ (4 ∷ 520 ∷ []) ∷ [])
@@ -147,7 +152,7 @@ unfolding
     fileForm.haveLength fileForm.listFormed fileForm.allDT fileForm.allDV fileForm.oneKind fileForm.formed fileOpened.columnIn fileOpened.columnsIn
     fileOpened.opened fileRange.fileColumnAt fileRange.asked fileRange.startOf fileRange.bytesOf fileRange.rangeOf fileRange.ranged
     fileRange.intoBuffer fileRange.readInto fileRange.within fileRange.placeIn fileRange.located
-forms = (refl, refl, refl, refl, refl, refl, refl, refl, refl, refl, refl, refl, refl, refl, refl, refl, refl, refl, refl, refl, refl, refl, refl, refl, refl, refl, refl, refl, refl, refl, refl)
+forms = (refl, refl, refl, refl, refl, refl, refl, refl, refl, refl, refl, refl, refl, refl, refl, refl, refl, refl, refl, refl, refl, refl, refl, refl, refl, refl, refl, refl, refl, refl, refl, refl, refl, refl, refl)
 
 pub ranges : Ranges
 unfolding

@@ -2,7 +2,7 @@
 use Prim.Native.Nat.{ℕ}
 use mathlib.Core.List.{List, [], _∷_}
 use mathlib.Core.Path.{_≡_, refl}
-use lib.ListN.{length}
+use lib.ListN.{length, set}
 use Rattle.base.specs.Checked.{ok, refused}
 use Rattle.file.specs.Opened.{opened}
 use Rattle.file.specs.Range.{ranged, intoBuffer, located, at, split}
@@ -60,6 +60,8 @@ Worked =
     × (located file 1 21 0 ≡ refused 23 0)
     × (intoBuffer file 1 16 4 11 ≡ refused 24 0)
     × (intoBuffer file 1 16 4 13 ≡ refused 24 0)
+    -- a cycle count of 21 in column 1 is 24 for column 0 too
+    × (located (set file 800 21) 0 0 1 ≡ refused 24 0)
 
 pub worked : Worked
 unfolding
@@ -102,4 +104,4 @@ unfolding
     fileForm.allDV fileForm.oneKind fileForm.formed fileOpened.columnIn fileOpened.columnsIn fileOpened.opened fileRange.fileColumnAt
     fileRange.asked fileRange.startOf fileRange.bytesOf fileRange.rangeOf fileRange.ranged fileRange.intoBuffer fileRange.readInto
     fileRange.within fileRange.placeIn fileRange.located
-worked = (refl, refl, refl, refl, refl, refl, refl, refl, refl, refl, refl, refl, refl)
+worked = (refl, refl, refl, refl, refl, refl, refl, refl, refl, refl, refl, refl, refl, refl)

@@ -15,6 +15,7 @@ use Rattle.base.specs.Checked.{refused, fine}
 use Rattle.base.specs.Field.{leAt, le}
 use Rattle.base.specs.Blit.{part}
 use Rattle.mdf.specs.Block.{Wanted, kindAt, sizeAt, linksAt, headerIn, lengthIn, wholeAt, mostBytes, wantedAt, blockAt}
+use Rattle.mdf.specs.Chain.{fileLimits}
 use Rattle.mdf.specs.Name.{textIn, nameAt}
 use Rattle.mdf.specs.Identification as identification
 use Rattle.mdf.specs.Identification.{fileMark, identified, versionIn}
@@ -25,6 +26,7 @@ use Rattle.result.specs.Guarantee.{Stands}
 use Rattle.guarantee.specs.Theorem.{AllBytes}
 use Rattle.shown_laws.specs.Standing.{stands-front, part-part}
 use Rattle.shown_laws.specs.Header.{length-header, header-size}
+use Rattle.shown_laws.specs.ImageBytes.{field-below}
 use Rattle.shown_laws.specs.Joined.{stands-inside}
 
 -- ---- the blocks of the walk
@@ -120,3 +122,10 @@ ident-fine f ident bytes long version front mark =
     let second : part 8 8 f ≡ le 8 version420 =
     sym (part-part 0 64 8 8 f (lit< tt)) ∙ ap (part 8 8) front ∙ bytes-of ident bytes 8 8 (omega arith) ∙ ap (le 8) version in
     sym (lt-no _ _ _ _ inside (eq-yes _ _ _ _ mark (sym (rw second version-fine))))
+
+-- ---- "9 for a DL .. [doesn't] apply": no length of 64 bits exceeds the reader's limit
+pub dl-unlimited : (s : List ℕ) → AllBytes s → (a : ℕ) → sizeAt s a ≤ fileLimits .dlBytes
+unfolding sizeAt
+dl-unlimited s bytes a =
+    let h : leAt 8 s (a + 8) < 18446744073709551616 = field-below s bytes 8 (a + 8) in
+    omega arith

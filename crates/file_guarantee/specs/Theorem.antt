@@ -5,12 +5,13 @@ use mathlib.Core.List.{List, [], _∷_}
 use mathlib.Core.Bool.{true}
 use mathlib.Core.Option.{Option, none, some}
 use mathlib.Core.Path.{_≡_, refl, sym, ap, subst, _∙_}
-use native.Mathlib.Nat.{one-mul}
+use native.Mathlib.Nat.{one-mul, add-mul, mul-comm, mul-le-mul-right}
 use native.Mathlib.Omega.{arith}
 use lib.Dec.{lit<}
 use lib.ListN.{length, getD}
 use Rattle.base.specs.Blit.{blit, part}
-use Rattle.base.specs.Checked.{ok, refused}
+use Rattle.base.specs.BlitLaws.{length-part}
+use Rattle.base.specs.Checked.{ok, refused, fine}
 use Rattle.mdf.specs.Block.{HD}
 use Rattle.plan.specs.Channel.{width}
 use Rattle.plan.specs.Columns.{Column}
@@ -35,10 +36,10 @@ use Rattle.guarantee.specs.Copied.{copy-stands}
 use Rattle.guarantee.specs.Theorem.{AllBytes, o, sized, in-image, ordered, column-in, file-below, sound}
 use Rattle.file.specs.Form.{FileColumn, cycles}
 use Rattle.file.specs.Opened.{opened}
-use Rattle.file.specs.Range.{fileColumnAt, startOf, bytesOf, rangeOf, ranged}
+use Rattle.file.specs.Range.{fileColumnAt, startOf, bytesOf, rangeOf, ranged, readInto}
 use Rattle.file_laws.specs.Standing.{AllStand, FileStands}
 use Rattle.file_laws.specs.StandingLaws.{opened-stands}
-use Rattle.file_laws.specs.RangeLaws.{ranged-ok, ranged-none, ranged-past}
+use Rattle.file_laws.specs.RangeLaws.{ranged-ok, ranged-none, ranged-past, read-ranged}
 use Rattle.file_guarantee.specs.Passed.{block-fine, ident-fine}
 use Rattle.file_guarantee.specs.Names.{names-fine}
 use Rattle.file_guarantee.specs.ColumnForm.{fileColumn}
@@ -198,6 +199,23 @@ module _ (x : Args) (d : Decided) (k : Known x d) (out : List ℕ) (room : d .la
   planned-in : (n : ℕ) (c : Column) → columnAt n (d .planned .columns) ≡ some c → In c (d .planned .columns)
   planned-in n c e = let a = at n c e in subst (λ (b : Column). In b (d .planned .columns)) (a .same) (column-in x d k (a .placed) (a .isIn))
 
+  -- all their bytes are there
+  part-long : (c : Column) → In c (d .planned .columns) → (first count : ℕ) → first + count ≤ c .group .records
+      → length (part (first * columnWidth (x .image) c) (count * columnWidth (x .image) c) (duePayload (x .image) c)) ≡ count * columnWidth (x .image) c
+  unfolding payloadSize
+  part-long c i first count h =
+      let w : ℕ = columnWidth (x .image) c in
+      let most : (first + count) * w ≤ c .group .records * w = mul-le-mul-right w h in
+      length-part (first * w) (count * w) (duePayload (x .image) c)
+      (omega (arith, most, add-mul first count w, due-length c i, mul-comm w (c .group .records)))
+
+  copies : (n first count : ℕ) (c : Column) (buffer : List ℕ) → columnAt n (d .planned .columns) ≡ some c → first + count ≤ c .group .records
+      → length buffer ≡ count * columnWidth (x .image) c
+      → readInto f n first count buffer
+      ≡ record { answered = fine; buffer = part (first * columnWidth (x .image) c) (count * columnWidth (x .image) c) (duePayload (x .image) c) }
+  copies n first count c buffer e h l =
+      read-ranged f n first count buffer _ (reads n first count c e h) (l ∙ sym (part-long c (planned-in n c e) first count h))
+
   -- a record of a nonempty column
   one-record : (c : Column) → In c (d .planned .columns) → isNonempty (x .image) c ≡ true → (r : ℕ) → r < c .group .records
       → part (r * columnWidth (x .image) c) (1 * columnWidth (x .image) c) (duePayload (x .image) c)
@@ -216,6 +234,7 @@ module _ (x : Args) (d : Decided) (k : Known x d) (out : List ℕ) (room : d .la
         opens = opens;
         asMany = cols-many;
         reads = reads;
+        copies = copies;
         each = λ n r c e i h. reads n r 1 c e (omega arith) ∙ ap ok (one-record c (planned-in n c e) i r h);
         noColumn = λ n first count h. ranged-none f cols opens n first count (past-none n cols (omega (arith, cols-many)));
         noRecords = no-records;

@@ -6,7 +6,7 @@ use mathlib.Core.Option.{Option, none, some}
 use mathlib.Core.Path.{_≡_, refl, sym, ap, subst, _∙_}
 use native.Mathlib.Nat.{add-mul, mul-le-mul-right}
 use native.Mathlib.Omega.{arith}
-use lib.ListN.{length}
+use lib.ListN.{length, take}
 use lib.Dec.{ltb, eqb}
 use borrow.Author.Tests.{lt-ltb, le-ltb, le-leb, lt-leb, ltb-true, ltb-false, eqb-true, eqb-false}
 use Rattle.base.specs.Blit.{part}
@@ -91,6 +91,48 @@ within-part s (f ∷ fs) p n a m r e = go (ltb p (f .size)) refl (λ q. within-p
               ∙ ap (λ (k : ℕ). part (p - k) n (joined s fs)) (sym size)
               ∙ sym (part-back p n (part (f .offset) (f .size) s) (joined s fs) (rw size h));
         }
+
+-- ---- "a range inside one block": n bytes from byte p on lie in block number i
+pub record InBlock (fs : List Fragment) (p n : ℕ) : Type 0 where
+  pub number : ℕ
+  pub listed : number < length fs
+  pub begins : sizeOf (take number fs) ≤ p
+  pub ends : p + n ≤ sizeOf (take (suc number) fs)
+
+in-first : (f : Fragment) (fs : List Fragment) (p n : ℕ) → p + n ≤ f .size → InBlock (f ∷ fs) p n
+unfolding sizeOf
+in-first f fs p n h = record { number = 0; listed = omega arith; begins = omega arith; ends = omega arith }
+
+in-later : (f : Fragment) (fs : List Fragment) (p n : ℕ) → f .size ≤ p → InBlock fs (p - f .size) n → InBlock (f ∷ fs) p n
+unfolding sizeOf
+in-later f fs p n h b =
+    record { number = suc (b .number); listed = omega (arith, b .listed); begins = omega (arith, b .begins); ends = omega (arith, b .ends) }
+
+-- what is handed back lies in one block
+pub within-at : (fs : List Fragment) (p n a m : ℕ) → within fs p n ≡ at a m → InBlock fs p n
+unfolding within
+within-at [] p n a m e = absurd (split≢at e)
+within-at (f ∷ fs) p n a m e = go (ltb p (f .size)) refl (λ q. within-at fs (p - f .size) n a m q)
+  where
+    go : (t : Bool) → ltb p (f .size) ≡ t → (within fs (p - f .size) n ≡ at a m → InBlock fs (p - f .size) n) → InBlock (f ∷ fs) p n
+    go true q later = in-first f fs p n (le-first _ _ _ _ (lt-yes _ _ _ _ (ltb-true _ _ q) refl ∙ e) split≢at .0)
+    go false q later =
+        let h : f .size ≤ p = ltb-false _ _ q in
+        in-later f fs p n h (later (sym (within-later f fs p n h) ∙ e))
+
+-- and what is split lies in none
+pub within-split : (fs : List Fragment) (p n : ℕ) → 0 < n → within fs p n ≡ split → InBlock fs p n → ⊥
+unfolding within sizeOf
+within-split [] p n z e b = omega (arith, b .listed)
+within-split (f ∷ fs) p n z e b = go (b .number) (b .listed) (b .begins) (b .ends) (λ q c. within-split fs (p - f .size) n z q c)
+  where
+    go : (i : ℕ) → i < length (f ∷ fs) → sizeOf (take i (f ∷ fs)) ≤ p → p + n ≤ sizeOf (take (suc i) (f ∷ fs))
+        → (within fs (p - f .size) n ≡ split → InBlock fs (p - f .size) n → ⊥) → ⊥
+    go zero l h k later = split≢at (sym e ∙ within-here f fs p n (omega arith) z)
+    go (suc i) l h k later =
+        let s : f .size ≤ p = omega arith in
+        later (sym (within-later f fs p n s) ∙ e)
+        (record { number = i; listed = omega arith; begins = omega arith; ends = omega arith })
 
 -- ---- the column asked for
 
@@ -230,6 +272,42 @@ calls-agree s k first count buffer = go (asked s k first count) refl
         → Agrees s k first count buffer (andThen v (λ c. ok (placeIn (c .fragments) (startOf s c first) (bytesOf s c count))))
     go (ok c) e = place-agrees s k first count buffer c e _ refl
     go (refused number place) e = rw e
+
+-- ---- both calls by the records themselves
+refused-as : {A B : Type 0} {n p number place : ℕ} → _≡_ {A = Checked A} (refused n p) (refused number place) → _≡_ {A = Checked B} (refused n p) (refused number place)
+refused-as {A} {B} {n} {p} {number} {place} e =
+    let a : n ≡ number = cc in
+    let b : p ≡ place = cc in
+    rw (a, b)
+
+module _ (s : List ℕ) (k first count : ℕ) where
+  pub read-ranged : (buffer bs : List ℕ) → ranged s k first count ≡ ok bs → length buffer ≡ length bs
+      → readInto s k first count buffer ≡ record { answered = fine; buffer = bs }
+  unfolding ranged
+  read-ranged buffer bs e h =
+      let a = then-ok (asked s k first count) _ e in
+      let c : FileColumn = a .0 in
+      let q : rangeOf s first count c ≡ bs = ok-same (a .2) in
+      let l = range-length s k first count c (asked-back s k first count c (a .1)) in
+      read-fits s k first count buffer c (a .1) (h ∙ ap length (sym q) ∙ l) ∙ ap (λ (b : List ℕ). record { answered = fine; buffer = b }) q
+
+  -- the column asked for was refused
+  asked-refused : (number place : ℕ) → ranged s k first count ≡ refused number place → asked s k first count ≡ refused number place
+  unfolding ranged
+  asked-refused number place e = go (asked s k first count) e
+    where
+      go : (v : Checked FileColumn) → andThen v (λ c. ok (rangeOf s first count c)) ≡ refused number place → v ≡ refused number place
+      go (ok c) h = absurd (refused≢ok (sym h))
+      go (refused n p) h = refused-as h
+
+  pub read-refused : (buffer : List ℕ) (number place : ℕ) → ranged s k first count ≡ refused number place
+      → readInto s k first count buffer ≡ record { answered = refused number place; buffer = buffer }
+  unfolding readInto intoBuffer
+  read-refused buffer number place e = rw (asked-refused number place e)
+
+  pub located-refused : (number place : ℕ) → ranged s k first count ≡ refused number place → located s k first count ≡ refused number place
+  unfolding located
+  located-refused number place e = rw (asked-refused number place e)
 
 -- "A refusal leaves the buffer unchanged."
 pub refusal-leaves : (s : List ℕ) (k first count : ℕ) (buffer : List ℕ) (number place : ℕ)
