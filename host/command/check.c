@@ -112,6 +112,7 @@ struct image convert_anew(const struct recording *r, const struct lent *l, const
         close(file);
     watch_mapping(MAPPED_ANEW, bytes, (size_t)size, "the conversion anew can't be written in the folder %s: its disk is full or failed", t->folder_path);
     *answer = convert(r, l, bytes, (size_t)size);
+    madvise(bytes, (size_t)size, MADV_SEQUENTIAL); /* from now on it is read from front to back */
     return (struct image){bytes, (size_t)size};
 }
 

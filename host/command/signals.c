@@ -95,6 +95,7 @@ void catch_signals(void)
     struct sigaction fault = {.sa_sigaction = on_fault, .sa_flags = SA_SIGINFO};
     ending_set(&fault.sa_mask);
     sigaction(SIGBUS, &fault, NULL);
+    signal(SIGCHLD, SIG_DFL); /* one who ignores it would not be told how a child ended */
     signal(SIGPIPE, SIG_IGN);
     signal(SIGXFSZ, SIG_IGN);
 }

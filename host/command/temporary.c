@@ -79,22 +79,26 @@ static bool is_named_so(const struct target *t, const char *name, const struct s
     return fstatat(t->folder, name, &now, AT_SYMLINK_NOFOLLOW) == 0 && same_file(&now, found);
 }
 
-/* A file that is locked belongs to a conversion that runs. */
-static void remove_leftover(const struct target *t, const char *name)
+/* Why a file with a temporary name stays, or NULL where it is gone: one that is locked belongs to a conversion that runs. */
+static const char *leftover_stays(const struct target *t, const char *name, int file)
 {
     struct stat found;
+    if (file < 0 || fstat(file, &found) != 0 || flock(file, LOCK_EX | LOCK_NB) != 0)
+        return strerror(errno);
+    if (!S_ISREG(found.st_mode) || (t->source && same_file(&found, t->source)) || !has_mark(file, &found))
+        return "it is not marked so and stays";
+    return is_named_so(t, name, &found) && unlinkat(t->folder, name, 0) == 0 ? NULL : strerror(errno);
+}
+
+static void remove_leftover(const struct target *t, const char *name)
+{
+    errno = 0;
     int file = openat(t->folder, name, O_RDWR | O_NOFOLLOW | O_NONBLOCK | O_NOCTTY | O_CLOEXEC);
-    if (file < 0 || fstat(file, &found) != 0 || !S_ISREG(found.st_mode) || (t->source && same_file(&found, t->source))) {
-        /* it is gone, or nothing that this command makes */
-    } else if (flock(file, LOCK_EX | LOCK_NB) != 0) {
-        if (errno != EWOULDBLOCK)
-            (void)say("%s/%s may be left by a conversion that was cut off: %s", t->folder_path, name, strerror(errno));
-    } else if (!has_mark(file, &found))
-        (void)say("%s/%s may be left by a conversion that was cut off; it is not marked so and stays", t->folder_path, name);
-    else if (!is_named_so(t, name, &found) || unlinkat(t->folder, name, 0) != 0)
-        (void)say("%s/%s, left by a conversion that was cut off, can't be removed: %s", t->folder_path, name, strerror(errno));
-    else
+    const char *why = leftover_stays(t, name, file);
+    if (!why)
         (void)say("removed %s/%s, left by a conversion that was cut off", t->folder_path, name);
+    else if (errno != EWOULDBLOCK && errno != ENOENT)
+        (void)say("%s/%s may be left by a conversion that was cut off: %s", t->folder_path, name, why);
     if (file >= 0)
         close(file);
 }

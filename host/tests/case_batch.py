@@ -27,7 +27,7 @@ def several_recordings():
     """A refused one stops none; each has its report; a second call passes over what is done."""
     with folder() as here:
         names = three(here)
-        r = run("-d", "out", *names, "--json", "all.json", cwd=here)
+        r = run("-d", "out", *names, "--json", "all.json", cwd=here, preexec_fn=lambda: signal.signal(signal.SIGCHLD, signal.SIG_IGN))
         ends(r, REFUSED, "b.mf4: refused 4", 'omitted "rack.1.99"')
         expect([line.split(":")[0] for line in r.printed.splitlines()] == ["out/a.mf4", "out/c.mf4"], r.printed)
         expect("reading" not in r.said and "1 of 3" not in r.said, r.said)

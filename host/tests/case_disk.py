@@ -214,7 +214,19 @@ def memory_half_of_the_recording():
         seconds = time.monotonic() - begun
         told = "at most %d MiB of memory, mapped files too, in %.1f s; %.1f s in enough" % (most() >> 20, seconds, BIG.seconds)
     expect(without_time(read("little-memory.mf4")) == BIG.result, "another result")
-    expect(seconds < 8 * BIG.seconds + 2, told)
+    expect(seconds < 12 * BIG.seconds + 5, told)
     return told
+
+
+@test
+def check_in_little_memory():
+    """The same with --check: recording, result and the conversion anew, 400 MB, in 64 MiB."""
+    out_of_memory(BIG.path)
+    with memory_limit(64 << 20) as (join, _):
+        begun = time.monotonic()
+        converts(run("--check", BIG.path, "big-columns.mf4", preexec_fn=join))
+        seconds = time.monotonic() - begun
+    expect(seconds < 24 * BIG.seconds + 10, "%.1f s" % seconds)
+    return "%.1f s; a conversion in enough %.1f s" % (seconds, BIG.seconds)
 
 

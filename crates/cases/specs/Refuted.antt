@@ -276,7 +276,7 @@ unfolding
     mdfRecords.runRecords mdfRecords.sortedRecords mdfRecords.sortedIn mdfRecords.withId mdfRecords.ofBytes mdfRecords.frameOf mdfRecords.frameAt
     mdfRecords.framesFrom mdfRecords.frames mdfRecords.isIdOf mdfRecords.equalIds mdfRecords.unsortedFrames mdfRecords.unsortedRecords mdfWalk.isMet
     mdfWalk.tally mdfWalk.visit mdfWalk.entered mdfWalk.level mdfWalk.belowCN mdfWalk.belowCG mdfWalk.idSize mdfWalk.idSizeIn mdfWalk.belowDG
-    mdfWalk.walk planChannel.channelType planChannel.bitOffset planChannel.byteOffset planChannel.bitCount planChannel.channelFlags
+    mdfWalk.walkOf planChannel.channelType planChannel.bitOffset planChannel.byteOffset planChannel.bitCount planChannel.channelFlags
     planChannel.invalPosition planChannel.channelBytes planChannel.fits planChannel.isMasterType planChannel.keepsInval planChannel.width
     planChannel.invalBit planChannel.treatment planColumns.withCounts planColumns.srcGroups planColumns.firstMaster planColumns.masterOf
     planColumns.remoteLink planColumns.groupAt planColumns.remoteTime planColumns.timeOf planColumns.timeColumn planColumns.withTime
