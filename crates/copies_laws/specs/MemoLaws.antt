@@ -1,4 +1,5 @@
 -- Which blocks are copied: whatever a link that is followed leads to, if it is of a copied kind, and nothing else.
+use Prim.{Unit, tt}
 use Prim.Native.Nat.{ℕ, zero, suc, _+_, _*_, _-_, _≤_, _<_}
 use mathlib.Core.List.{List, [], _∷_, _++_, append-nil}
 use mathlib.Core.Option.{Option, none, some}
@@ -7,11 +8,11 @@ use mathlib.Core.Path.{_≡_, refl, sym, ap, _∙_, subst}
 use mathlib.Core.Logic.{_⊎_, inl, inr}
 use native.Mathlib.Omega.{arith}
 use lib.Dec.{eqb}
-use lib.ListN.{length, length-append}
+use lib.ListN.{length}
 use lib.Seq.{append-snoc}
 use borrow.Author.Tests.{eq-eqb, eqb-true, eqb-false}
 use Rattle.base.specs.Choice.{pick, ifLt, ifEq}
-use Rattle.base.specs.ChoiceLaws.{lt-yes, lt-first, eq-yes, eq-no}
+use Rattle.base.specs.ChoiceLaws.{lt-first, eq-yes, eq-no}
 use Rattle.base.specs.Field.{leAt}
 use Rattle.base.specs.Checked.{Checked, ok, refused, andThen}
 use Rattle.mdf.specs.Block.{kindTX, kindMD, kindAt, sizeAt, linksAt, linkAt, firstLink, wholeAt, headerIn}
@@ -51,7 +52,7 @@ use Rattle.plan.specs.Copies.{
   attachmentsFrom,
   attachmentsOf,
 }
-use Rattle.result.specs.Names.{CopiedKind, isTX, isMD, isCC, isSI, isFH, Leads, Ended, noCopy, again, many, ChainDue}
+use Rattle.result.specs.Names.{CopiedKind, isTX, isMD, isCC, isSI, isFH, Leads}
 use Rattle.result.specs.Guarantee.{In, here, there}
 use Rattle.copies_laws.specs.CopyLaws.{fresh}
 use Rattle.copies_laws.specs.AnswerLaws.{refused≢ok, ok-same, then-ok, eq-back, by-eq, by-pick, pick-second, Whole, whole-fits}
@@ -194,6 +195,9 @@ on-pick : {A P : Type 0} {r : A} (t : Bool) (a b : A) → pick t a b ≡ r → (
 on-pick true a b e f g = f refl e
 on-pick false a b e f g = g refl e
 
+positive : (n : ℕ) → (n ≡ 0 → ⊥) → 0 < n
+positive n q = omega arith
+
 not-in : {A : Type 0} {a : A} → In a [] → ⊥
 not-in = elim [ ]
 
@@ -298,59 +302,65 @@ pub past-kept : (s : List ℕ) (a : ℕ) (m : Copies) (h : History) → historyO
 unfolding historyOf
 past-kept s a m h e = history-kept (mostCopies + 1) s a (history [] m) h e
 
--- the blocks of the chain, from a on
-pub record Listed (s : List ℕ) (h h' : History) (a : ℕ) : Type 0 where
+-- none of these blocks stands before itself, nor among those before
+unfoldable pub Fresh : List ℕ → List ℕ → Type 0
+Fresh before [] = Unit {0}
+Fresh before (b ∷ bs) = (isIn b before ≡ false) × Fresh (before ++ (b ∷ [])) bs
+
+-- a block of the history chain: of a copied kind, with links, and copied
+pub record Past (s : List ℕ) (memo : List Copy) (b : ℕ) : Type 0 where
+  pub leads : Leads s b
+  pub linked : 0 < linksAt s b
+  pub followed : Followed s memo b
+
+pub past-kept-to : {s : List ℕ} {m m' : List Copy} → Kept s m m' → (b : ℕ) → Past s m b → Past s m' b
+past-kept-to k b p = record { leads = p .leads; linked = p .linked; followed = followed-kept k b (p .followed) }
+
+-- the blocks by which the chain grows
+pub record Listed (s : List ℕ) (h h' : History) : Type 0 where
   pub more : List ℕ
   pub chain : h' .chain ≡ h .chain ++ more
-  pub due : ChainDue s (h .chain) more a
-  pub followed : (b : ℕ) → In b more → Followed s (h' .made .memo) b
-  pub linked : (b : ℕ) → In b more → 0 < linksAt s b
+  pub fresh : Fresh (h .chain) more
+  pub each : (b : ℕ) → In b more → Past s (h' .made .memo) b
 
-none-listed : (s : List ℕ) (a : ℕ) (h h' : History) → Ended s (h .chain) a → ok h ≡ ok h' → Listed s h h' a
-unfolding ChainDue
-none-listed s a h h' e q =
+none-listed : (s : List ℕ) (h h' : History) → ok h ≡ ok h' → Listed s h h'
+unfolding Fresh
+none-listed s h h' q =
     record {
       more = [];
       chain = ap (λ (x : History). x .chain) (sym (ok-same q)) ∙ sym (append-nil (h .chain));
-      due = e;
-      followed = λ b i. absurd (not-in i);
-      linked = λ b i. absurd (not-in i);
+      fresh = tt;
+      each = λ b i. absurd (not-in i);
     }
 
-one-listed : (s : List ℕ) (a : ℕ) (h h' : History) (m : Copies) → (a ≡ 0 → ⊥) → isCopied (kindAt s a) ≡ true → isIn a (h .chain) ≡ false
-    → (linksAt s a ≡ 0 → ⊥) → Followed s (h' .made .memo) a → Listed s (history (h .chain ++ (a ∷ [])) m) h' (firstLink s a) → Listed s h h' a
-unfolding ChainDue firstLink
-one-listed s a h h' m z k n l f r =
-    let first : firstLink s a ≡ linkAt s a 0 = sym (lt-yes _ _ _ _ (omega arith) refl) in
-    record {
-      more = a ∷ r .more;
-      chain = r .chain ∙ append-snoc (h .chain) a (r .more);
-      due = (refl, record { nonzero = z; kind = copied-kind (kindAt s a) k }, n, rw first at (r .due));
-      followed = in-each f (r .followed);
-      linked = in-each (positive (linksAt s a) l) (r .linked);
-    }
-  where
-    positive : (n : ℕ) → (n ≡ 0 → ⊥) → 0 < n
-    positive n q = omega arith
+one-listed : (s : List ℕ) (a : ℕ) (h h' : History) (m : Copies) → isIn a (h .chain) ≡ false → Past s (h' .made .memo) a
+    → Listed s (history (h .chain ++ (a ∷ [])) m) h' → Listed s h h'
+unfolding Fresh
+one-listed s a h h' m n p r =
+    record { more = a ∷ r .more; chain = r .chain ∙ append-snoc (h .chain) a (r .more); fresh = (n, r .fresh); each = in-each p (r .each) }
 
-history-listed : (turns : ℕ) (s : List ℕ) (a : ℕ) (h h' : History) → 2049 ≤ turns + length (h .chain) → historyFrom turns s a h ≡ ok h' → Listed s h h' a
+history-listed : (turns : ℕ) (s : List ℕ) (a : ℕ) (h h' : History) → historyFrom turns s a h ≡ ok h' → Listed s h h'
 unfolding historyFrom
-history-listed zero s a h h' t e = none-listed s a h h' (many (omega arith)) e
-history-listed (suc turns) s a h h' t e =
-    on-zero a 0 _ _ e (λ z q. none-listed s a h h' (noCopy (λ l. l .nonzero z)) q) (λ z q.
-    on-pick (isIn a (h .chain)) _ _ q (λ i r. none-listed s a h h' (again i) r) (λ i r.
+history-listed zero s a h h' e = none-listed s h h' e
+history-listed (suc turns) s a h h' e =
+    on-zero a 0 _ _ e (λ z q. none-listed s h h' q) (λ z q.
+    on-pick (isIn a (h .chain)) _ _ q (λ i r. none-listed s h h' r) (λ i r.
     let w = then-ok (wholeAt s a) _ r in
     on-pick (isCopied (kindAt s a)) _ _ (w .2) (λ k u.
     on-zero (linksAt s a) 0 _ _ u (λ _ v. absurd (refused≢ok v)) (λ l v.
     let m = then-ok (copyRoot s a (h .made)) _ v in
-    let more = history-listed turns s (firstLink s a) (history (h .chain ++ (a ∷ [])) (m .0)) h' (rw length-append (omega arith)) (m .2) in
-    one-listed s a h h' (m .0) z k i l
-    (followed-kept (history-kept turns s (firstLink s a) _ h' (m .2)) a (root-kept s a (h .made) (m .0) (m .1) .1)) more))
-    (λ k u. none-listed s a h h' (noCopy (λ l. false≢true (sym k ∙ kind-copied (kindAt s a) (l .kind)))) u)))
+    one-listed s a h h' (m .0) i
+    (record {
+      leads = record { nonzero = z; kind = copied-kind (kindAt s a) k };
+      linked = positive (linksAt s a) l;
+      followed = followed-kept (history-kept turns s (firstLink s a) _ h' (m .2)) a (root-kept s a (h .made) (m .0) (m .1) .1);
+    })
+    (history-listed turns s (firstLink s a) (history (h .chain ++ (a ∷ [])) (m .0)) h' (m .2))))
+    (λ k u. none-listed s h h' u)))
 
-pub past-listed : (s : List ℕ) (a : ℕ) (m : Copies) (h : History) → historyOf s a m ≡ ok h → Listed s (history [] m) h a
+pub past-listed : (s : List ℕ) (a : ℕ) (m : Copies) (h : History) → historyOf s a m ≡ ok h → Listed s (history [] m) h
 unfolding historyOf
-past-listed s a m h e = history-listed (mostCopies + 1) s a (history [] m) h (omega arith) e
+past-listed s a m h e = history-listed (mostCopies + 1) s a (history [] m) h e
 
 -- ---- attachments
 attachments-kept : (turns : ℕ) (s : List ℕ) (a : ℕ) (t t' : Attached) → attachmentsFrom turns s a t ≡ ok t' → Kept s (t .made .memo) (t' .made .memo)

@@ -18,13 +18,13 @@ use Rattle.plan.specs.Copies.{kindFH, Copy, copyOf}
 use Rattle.plan.specs.Layout.{Layout, mdSize}
 use Rattle.result.specs.Fill.{Block, block, header, orZero, newLink, historyLink, firstNew, mdBytes, fhBytes}
 use Rattle.result.specs.Links.{headAt}
-use Rattle.result.specs.Names.{Leads, SameBlock, ChainDue, HistoryDue, NewHistory}
+use Rattle.result.specs.Names.{SameBlock, LinkDue, HistoryDue, NewHistory}
 use Rattle.result.specs.Result.{Args, memoOf, firstFH, blocksOf}
 use Rattle.result.specs.Guarantee.{Stands, In, here, there}
-use Rattle.copies_laws.specs.MemoLaws.{kind-copied, Followed}
+use Rattle.copies_laws.specs.MemoLaws.{kind-copied, Fresh, Past}
 use Rattle.shown_laws.specs.Standing.{stands-front, stands-at, read}
 use Rattle.shown_laws.specs.Header.{length-header, header-kind, header-size, header-links}
-use Rattle.guarantee.specs.Named.{CopyStands, new-small, same-block, copy-first}
+use Rattle.guarantee.specs.Named.{CopyStands, new-small, same-block, copy-first, link-due}
 
 -- a block of the chain leads to the next, the last to the new FH
 history-at : (pre suf : List ℕ) (b : ℕ) (memo : List Copy) (fh : ℕ) → isIn b pre ≡ false
@@ -57,22 +57,24 @@ module _ (s f : List ℕ) (bytes : (i : ℕ) → getD s i 0 < 256) (chain : List
       let first : firstNew s memo b (historyLink b chain memo fh) ≡ x = rw h in
       copy-first s f bytes chain memo fh all b t e l (rw first small') ∙ first
 
-  pub history-due : (pre suf : List ℕ) (a : ℕ) → chain ≡ pre ++ suf → ChainDue s pre suf a
-      → ((b : ℕ) → In b suf → Followed s memo b) → ((b : ℕ) → In b suf → 0 < linksAt s b)
-      → HistoryDue s f fh suf (firstFH memo suf fh)
-  unfolding HistoryDue ChainDue newLink
-  history-due pre [] a e d follows links = refl
-  history-due pre (b ∷ suf) a e d follows links =
-      let leads : Leads s b = subst (Leads s) (sym (d .0)) (d .1) in
-      let apart : isIn b pre ≡ false = subst (λ (z : ℕ). isIn z pre ≡ false) (sym (d .0)) (d .2) in
-      let found = follows b here (leads .nonzero) (kind-copied (kindAt s b) (leads .kind)) in
-      let hist : historyLink b chain memo fh ≡ some (firstFH memo suf fh) = rw e (history-at pre suf b memo fh apart) in
+  pub history-due : (pre suf : List ℕ) → chain ≡ pre ++ suf → Fresh pre suf → ((b : ℕ) → In b suf → Past s memo b)
+      → HistoryDue s f chain fh suf (firstFH memo suf fh)
+  unfolding HistoryDue Fresh newLink
+  history-due pre [] e d each = refl
+  history-due pre (b ∷ suf) e d each =
+      let p : Past s memo b = each b here in
+      let found = p .followed (p .leads .nonzero) (kind-copied (kindAt s b) (p .leads .kind)) in
+      let hist : historyLink b chain memo fh ≡ some (firstFH memo suf fh) = rw e (history-at pre suf b memo fh (d .0)) in
       let next : linkAt f (found .0) 0 ≡ firstFH memo suf fh =
-      history-next b (found .0) (firstFH memo suf fh) (found .1) hist (first-small suf) (links b here) in
-      let more : HistoryDue s f fh suf (firstFH memo suf fh) =
-      history-due (pre ++ (b ∷ [])) suf (linkAt s b 0) (e ∙ sym (append-assoc pre (b ∷ []) suf))
-      (subst (λ (z : ℕ). ChainDue s (pre ++ (z ∷ [])) suf (linkAt s z 0)) (sym (d .0)) (d .3)) (λ c i. follows c (there i)) (λ c i. links c (there i)) in
-      rw (found .1) (same-block s f bytes chain memo fh all b (found .0) (found .1), rw next more)
+      history-next b (found .0) (firstFH memo suf fh) (found .1) hist (first-small suf) (p .linked) in
+      let more : HistoryDue s f chain fh suf (firstFH memo suf fh) =
+      history-due (pre ++ (b ∷ [])) suf (e ∙ sym (append-assoc pre (b ∷ []) suf)) (d .1) (λ c i. each c (there i)) in
+      let deep : (k : ℕ) → LinkDue k s f chain b (found .0) =
+      λ k. subst (LinkDue k s f chain b) (led (found .0) (found .1)) (link-due s f bytes chain memo fh all k b (p .followed)) in
+      rw (found .1) (same-block s f bytes chain memo fh all b (found .0) (found .1), deep, rw next more)
+    where
+      led : (t : ℕ) → copyOf b memo ≡ some t → newLink memo b ≡ t
+      led t e = rw e
 
 -- ---- the new FH and its MD
 module _ (x : Args) (l : Layout) (f : List ℕ) (small : l .md < 256 ^ 8) (md : Stands f (l .md) (mdBytes (x .text)))

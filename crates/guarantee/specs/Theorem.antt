@@ -32,7 +32,7 @@ use Rattle.plan_laws.specs.PlanLaws.{signal-due}
 use Rattle.shown_laws.specs.ColumnShown.{ColumnSound}
 use Rattle.shown_laws.specs.Final.{file-apart, file-filled, file-shows}
 use Rattle.guarantee.specs.Places.{equal-even, flatten-together, data-inside, fragments-few, signal-small, Sized, DataWithin, data-within, data-ends, in-column}
-use Rattle.guarantee.specs.Copied.{chain-due, comment-due, past-due, newest-due, names-due}
+use Rattle.guarantee.specs.Copied.{comment-due, past-due, newest-due, names-due}
 use Rattle.guarantee.specs.Front.{front-due}
 
 -- the elements of an image are bytes
@@ -168,9 +168,8 @@ guaranteed x out list d bytes e =
       comment = λ n. comment-due x (d .planned .columns) (d .laidOut) (o x d k) _ bytes (ordered x d k) (file-below x d k) filled n;
       names = λ p i n. names-due x (d .planned .columns) (d .laidOut) (o x d k) _ bytes (ordered x d k) (file-below x d k) filled p i
           (column-in x d k p i) (sound x d k bytes p i) n;
-      past = chain-due x (d .planned .columns) (d .laidOut) (o x d k);
-      history = past-due x (d .planned .columns) (d .laidOut) (o x d k) _ bytes (ordered x d k) (file-below x d k) filled;
-      newest = newest-due x (d .planned .columns) (d .laidOut) (o x d k) _ bytes (ordered x d k) (file-below x d k) filled;
+      historyKept = past-due x (d .planned .columns) (d .laidOut) (o x d k) _ bytes (ordered x d k) (file-below x d k) filled;
+      historyNew = newest-due x (d .planned .columns) (d .laidOut) (o x d k) _ bytes (ordered x d k) (file-below x d k) filled;
       filled = filled;
       apart = file-apart x (d .laidOut) out (ordered x d k);
       once = k .once;

@@ -22,7 +22,7 @@ use Rattle.result.specs.Fill.{Block}
 use Rattle.result.specs.Result.{Args, Decided, blocksOf}
 use Rattle.result.specs.Links.{shown}
 use Rattle.result.specs.Due.{dueAll, FrontDue}
-use Rattle.result.specs.Names.{LinkDue, NamesDue, ChainDue, HistoryDue, NewHistory}
+use Rattle.result.specs.Names.{LinkDue, NamesDue, HistoryDue, NewHistory}
 
 -- ---- blocks
 
@@ -106,9 +106,8 @@ pub record Guaranteed (x : Args) (d : Decided) (f : List ℕ) : Type 0 where
   pub comment : (k : ℕ) → LinkDue k (x .image) f (d .laidOut .past .chain) (linkAt (x .image) 64 5) (linkAt f 64 5)
   pub names : (p : Placed) → In p (d .laidOut .placed) → (k : ℕ) → NamesDue k (x .image) f (d .laidOut .past .chain) p
   -- the recording's history is kept, and the lent text and time follow it
-  pub past : ChainDue (x .image) [] (d .laidOut .past .chain) (linkAt (x .image) 64 1)
-  pub history : HistoryDue (x .image) f (d .laidOut .fh) (d .laidOut .past .chain) (linkAt f 64 1)
-  pub newest : NewHistory x f (d .laidOut .fh)
+  pub historyKept : HistoryDue (x .image) f (d .laidOut .past .chain) (d .laidOut .fh) (d .laidOut .past .chain) (linkAt f 64 1)
+  pub historyNew : NewHistory x f (d .laidOut .fh)
   -- every block is written as planned, and no two share a byte
   pub filled : (b : Block) → In b (blocksOf x (d .laidOut)) → Stands f (b .at) (b .bytes)
   pub apart : AllApart (blocksOf x (d .laidOut))

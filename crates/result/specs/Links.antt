@@ -110,8 +110,8 @@ joinedIn f (stopped number place fs) = refused number place
 
 -- ---- a column
 
--- a column that links show: its DG, its CG, the CG after that and sample reductions, its CN, the CN after that and a composition, each with header and fields; the CG that its CG
--- names as its master, 0 for none; its data
+-- a column that links show: its DG; its CG, the CG after that and its sample reductions; the CG named as master, 0 for none; its CN, the CN after
+-- that and its composition; its data. Blocks are shown with header and fields
 pub record Shown : Type 0 where
   pub dg : ℕ
   pub dgHead : Head

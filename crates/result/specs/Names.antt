@@ -2,8 +2,8 @@
 -- placement).
 use Prim.{Unit}
 use Prim.Native.Nat.{ℕ, zero, suc, _+_, _*_, _-_, _<_}
-use mathlib.Core.List.{List, [], _∷_, _++_}
-use mathlib.Core.Bool.{true, false}
+use mathlib.Core.List.{List, [], _∷_}
+use mathlib.Core.Bool.{false}
 use mathlib.Core.Path.{_≡_}
 use lib.ListN.{length}
 use Rattle.base.specs.Field.{le}
@@ -62,22 +62,11 @@ pub record NamesDue (k : ℕ) (s f past : List ℕ) (p : Placed) : Type 0 where
 
 -- ---- the history
 
--- why the history chain ends before a, with these blocks before: "History .. chains that return to an earlier block end quietly, also a history chain
--- at a kind not copied"; more than 2,048 blocks are refused (19)
-pub data Ended (s before : List ℕ) (a : ℕ) : Type 0 where
-  noCopy : (Leads s a → ⊥) → Ended s before a
-  again : isIn a before ≡ true → Ended s before a
-  many : 2048 < length before → Ended s before a
-
--- these are the blocks of the recording's history chain from a on, after those before: each leads by its first link to the next
-unfoldable pub ChainDue : List ℕ → List ℕ → List ℕ → ℕ → Type 0
-ChainDue s before [] a = Ended s before a
-ChainDue s before (b ∷ bs) a = (b ≡ a) × Leads s a × (isIn a before ≡ false) × ChainDue s (before ++ (a ∷ [])) bs (linkAt s a 0)
-
--- from b on the result's history: the copies of these blocks in order, each leading by its first link to the next, the last to the new FH
-unfoldable pub HistoryDue : List ℕ → List ℕ → ℕ → List ℕ → ℕ → Type 0
-HistoryDue s f fh [] b = b ≡ fh
-HistoryDue s f fh (a ∷ as') b = SameBlock s f a b × HistoryDue s f fh as' (linkAt f b 0)
+-- from b on the result's history: the copies of the blocks of the recording's history chain in order, with their links, each leading by its first to
+-- the next, the last to the new FH
+unfoldable pub HistoryDue : List ℕ → List ℕ → List ℕ → ℕ → List ℕ → ℕ → Type 0
+HistoryDue s f past fh [] b = b ≡ fh
+HistoryDue s f past fh (a ∷ as') b = SameBlock s f a b × ((k : ℕ) → LinkDue k s f past a b) × HistoryDue s f past fh as' (linkAt f b 0)
 
 -- "MD with the lent history text ..; a new FH with the lent time": the last of the history
 pub record NewHistory (x : Args) (f : List ℕ) (fh : ℕ) : Type 0 where
