@@ -2,7 +2,7 @@
 use Prim.Native.Nat.{ℕ}
 use mathlib.Core.List.{List, [], _∷_, _++_}
 use mathlib.Core.Path.{_≡_, refl}
-use lib.ListN.{replicate}
+use lib.ListN.{replicate, set}
 use Rattle.base.specs.Checked.{ok, refused, fine}
 use Rattle.mdf.specs.Block.{kindDT, kindHL}
 use Rattle.file.specs.Opened.{opened}
@@ -92,14 +92,18 @@ Forms =
     × (outline (opened (file (dg 0 496) (cg 2 4 0) (cn 0) (dl (0 ∷ 552 ∷ []) 4 ++ dv (1 ∷ 2 ∷ 3 ∷ 4 ∷ [])))) ≡ lacks)
     × (outline (opened (file (dg 0 496) (cg 0 4 0) (cn 0) (dl (0 ∷ 552 ∷ []) 4 ++ dv (1 ∷ 2 ∷ 3 ∷ 4 ∷ [])))) ≡ lacks)
     × (outline (opened (file (dg 0 496) (cg 1 4 0) (cn 0) (dl (0 ∷ 552 ∷ []) 5 ++ dv (1 ∷ 2 ∷ 3 ∷ 4 ∷ 5 ∷ [])))) ≡ lacks)
-    -- id size; a second CN; no CG; no DG at all, which is the form without columns
+    -- id size; a second CN; a second CG; no CG; no DG at all, which is the form without columns
     × (outline (opened (file (dg 1 0) (cg 0 4 0) (cn 0) [])) ≡ lacks)
     × (outline (opened (file (dg 0 0) (cg 0 4 0) (cn 496) (cn 0))) ≡ lacks)
+    × (outline (opened (set (set (file (dg 0 0) (cg 0 4 0) (cn 0) (header mdfBlock.kindCG 104 6 ++ replicate 80 0)) 256 240) 257 1)) ≡ lacks)
     × (outline (opened (file (header mdfBlock.kindDG 64 4 ++ replicate 40 0) (cg 0 4 0) (cn 0) [])) ≡ lacks)
     × (outline (opened (ident ++ header mdfBlock.kindHD 104 6 ++ replicate 80 0)) ≡ [])
     -- faults of the walk come before a fragment's range, that before the form: 13, 4, 24
     × (outline (opened (file (dg 3 496) (cg 5 4 0) (cn 0) (header kindDT 9000 0))) ≡ (13 ∷ 168 ∷ []) ∷ [])
     × (outline (opened (file (dg 1 496) (cg 5 4 0) (cn 0) (header kindDT 9000 0))) ≡ (4 ∷ 520 ∷ []) ∷ [])
+    -- also of a DG without CG
+    × (outline (opened (file (header mdfBlock.kindDG 64 4 ++ linksTo (0 ∷ 0 ∷ 496 ∷ 0 ∷ []) ++ replicate 8 0) (cg 0 4 0) (cn 0) (header kindDT 9000 0)))
+    ≡ (4 ∷ 520 ∷ []) ∷ [])
     -- an HL over 268,435,456 bytes is 9, a DL of that length is not
     × (outline (opened (file (dg 0 496) (cg 0 4 0) (cn 0) (header kindHL 268435457 1 ++ linksTo (0 ∷ [])))) ≡ (9 ∷ 496 ∷ []) ∷ [])
     × (outline (opened (file (dg 0 496) (cg 0 4 0) (cn 0) (header mdfBlock.kindDL 268435457 1 ++ linksTo (0 ∷ [])))) ≡ (4 ∷ 496 ∷ []) ∷ [])
@@ -152,7 +156,7 @@ unfolding
     fileForm.haveLength fileForm.listFormed fileForm.allDT fileForm.allDV fileForm.oneKind fileForm.formed fileOpened.columnIn fileOpened.columnsIn
     fileOpened.opened fileRange.fileColumnAt fileRange.asked fileRange.startOf fileRange.bytesOf fileRange.rangeOf fileRange.ranged
     fileRange.intoBuffer fileRange.readInto fileRange.within fileRange.placeIn fileRange.located
-forms = (refl, refl, refl, refl, refl, refl, refl, refl, refl, refl, refl, refl, refl, refl, refl, refl, refl, refl, refl, refl, refl, refl, refl, refl, refl, refl, refl, refl, refl, refl, refl, refl, refl, refl, refl)
+forms = (refl, refl, refl, refl, refl, refl, refl, refl, refl, refl, refl, refl, refl, refl, refl, refl, refl, refl, refl, refl, refl, refl, refl, refl, refl, refl, refl, refl, refl, refl, refl, refl, refl, refl, refl, refl, refl)
 
 pub ranges : Ranges
 unfolding
