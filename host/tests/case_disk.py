@@ -34,7 +34,7 @@ def fill_up(here):
     fails(run(SAMPLE, result), "no room for the result", "No space left")
     holds(here, *before)
     # the file system is asked first: nothing is taken, not even for a moment
-    fails(with_fault("tmpfile:0:before,posix_fallocate:0:before", SAMPLE, result), "no room for the result", "No space left")
+    fails(with_fault("posix_fallocate:0:before", SAMPLE, result), "no room for the result", "No space left")
     # one that promises room and has none
     fails(with_fault("fstatvfs:0:38", SAMPLE, result), "no room for the result", "No space left")
     fails(with_fault("tmpfile:0:95,fstatvfs:0:38", SAMPLE, result))

@@ -126,9 +126,15 @@ def left_over_file_is_removed():
         others = [".r.mf4.mdf-columns-", ".r.mf4.mdf-columns-1x", ".other.mf4.mdf-columns-1", "r.mf4.mdf-columns-1", ".r.mf4.mdf-columns-" + 16 * "0"]
         for name in others:
             write(os.path.join(here, name), b"")
-        r = run(SAMPLE, result, "--quiet")
+        r = with_fault(NAMED, SAMPLE, result, "--quiet")
         converts(r)
         expect("removed" in r.said and left in r.said and others[-1] + " may be left" in r.said, r.said)
+        holds(here, "r.mf4", *others)
+        # with --force too, since a file without a name gets one for a moment
+        with_fault(NAMED + "msync:1:before", SAMPLE, result, "--force")
+        r = run(SAMPLE, result, "--quiet", "--force")
+        converts(r)
+        expect("removed" in r.said, r.said)
         holds(here, "r.mf4", *others)
 
 

@@ -180,8 +180,11 @@ def failing_calls():
             ):
                 fails(with_fault(front + call, EXAMPLE, result), words, here)
                 holds(here)
+            write(result, b"old")
             fails(with_fault(front + "renameat:1:%d" % EIO, EXAMPLE, result, "--force"), "can't give the result its name")
-            holds(here)
+            expect(read(result) == b"old", "the old result is gone")
+            holds(here, "r.mf4")
+            os.remove(result)
             r = with_fault(front + "fsync:3:%d" % EIO, EXAMPLE, result)
             ends(r, STANDING, "the folder", "can't be synced", "r.mf4 is there and whole")
             check_example(read(result))
