@@ -7,13 +7,10 @@ import time
 
 from case_library import check_example
 from common import (
-    BIG, EXAMPLE, MEDIUM, SAMPLE, SMALL, NotTried, Run, any_user, converts, end, ends, expect, fails, faulty, folder, go_on, holds, is_leftover,
+    BIG, EXAMPLE, MEDIUM, NAMED, SAMPLE, SMALL, NotTried, Run, any_user, converts, end, ends, expect, fails, faulty, folder, go_on, holds, is_leftover,
     read, run, start, stopped_at, test, with_fault, write,
 )
 from mdf import without_time
-
-NAMED = "tmpfile:0:95,"  # a file system without files that have no name
-
 
 def old_or_whole(here, old, whole):
     """Under RESULT stands what stood there before, or the whole result; beside it at most one file that shows what it is."""

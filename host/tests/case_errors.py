@@ -5,7 +5,7 @@ import subprocess
 
 from case_library import check_example
 from common import (
-    EXAMPLE, SAMPLE, SMALL, STANDING, Run, any_user, as_nobody, converts, ends, expect, fails, faulty, folder, holds, is_leftover,
+    EXAMPLE, NAMED, SAMPLE, SMALL, STANDING, Run, any_user, as_nobody, converts, ends, expect, fails, folder, holds, is_leftover,
     limited_files, open_folder, place, read, run, stopped_at, go_on, test, with_fault, write,
 )
 from mdf import without_time
@@ -157,9 +157,6 @@ def omissions_that_cannot_be_said():
 
 
 # ---- calls that fail
-
-
-NAMED = "tmpfile:0:95,"  # a file system without files that have no name
 
 
 @any_user

@@ -23,6 +23,7 @@ LISTED = "columns 2\n0 t 4 0 20 1 80 -\n1 s 2 1 20 1 60 0\nomitted 0\n"
 GIB = 1 << 30
 NOBODY = 65534
 FAILED, REFUSED, STANDING, INCOMPLETE, DIFFERENT = 1, 2, 3, 4, 5
+NAMED = "tmpfile:0:95,"  # the fault of a file system that has no files without a name
 
 TESTS = []
 
