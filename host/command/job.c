@@ -4,6 +4,7 @@
 #include <errno.h>
 #include <fcntl.h>
 #include <inttypes.h>
+#include <stdlib.h>
 #include <string.h>
 #include <sys/mman.h>
 #include <unistd.h>
@@ -98,11 +99,19 @@ static int plan(struct job *j)
     return STATUS_DONE;
 }
 
+static void forget_report(struct job *j)
+{
+    free(j->done.columns);
+    free(j->done.omissions);
+    j->done.columns = j->done.omissions = NULL;
+}
+
 /* What is reported of a conversion, from its bytes while they are mapped. */
 static void keep_report(struct job *j, struct image converted)
 {
     if (!j->sink->wanted)
         return;
+    forget_report(j);
     j->done.columns = columns_json(j->listing, converted.bytes, converted.length);
     j->done.omissions = omissions_json(&j->recording);
 }
@@ -176,8 +185,8 @@ static int convert_recording(struct job *j)
     j->result.replaces = j->o->force;
     set_standing(STATUS_FAILED, "there is no new result %s", j->result.path);
     check_target(&j->result);
-    remove_leftovers(&j->result);
     j->lent = lend(j->o->block_size, SITAUNGO_VERSION, present_time());
+    forget_report(j);
     j->done = (struct done){.recording = &j->recording, .result = j->result.path, .lent = &j->lent};
     int status = plan(j);
     if (status != STATUS_DONE)

@@ -110,8 +110,11 @@ static int rename_temporary(struct target *t)
 /* A file without a name takes the target's at once where nothing is to be replaced, else by way of a temporary one. */
 static int give_name(struct target *t)
 {
-    if (!t->named && !t->replaces)
-        return link_unnamed(t, t->name);
+    if (!t->named && !t->exists) {
+        int given = link_unnamed(t, t->name);
+        if (given == 0 || errno != EEXIST || !t->replaces)
+            return given;
+    }
     if (!t->named && !name_temporary(t))
         return -1;
     return rename_temporary(t);

@@ -103,7 +103,7 @@ static void remove_leftover(const struct target *t, const char *name)
         close(file);
 }
 
-void remove_leftovers(const struct target *t)
+static void remove_leftovers(const struct target *t)
 {
     char front[NAME_MAX + 1];
     temporary_front(t, front);
@@ -247,13 +247,17 @@ static int take_room(int descriptor, uint64_t size)
     return error;
 }
 
-/* The file system is asked first, so that a result that doesn't fit takes nothing from others. */
+/* Files can only be left where they have names. The file system is asked for room before any is taken, so that a result that doesn't fit takes
+ * nothing from others. */
 void make_temporary(struct target *t, uint64_t size)
 {
     uint64_t left;
+    bool unnamed = create_unnamed(t);
+    if (!unnamed || t->replaces)
+        remove_leftovers(t);
     if (!is_free(t, size, &left))
         fail("no room for the %s, %" PRIu64 " bytes, in the folder %s, which has %" PRIu64 ": %s", t->what, size, t->folder_path, left, strerror(ENOSPC));
-    if (!create_unnamed(t)) {
+    if (!unnamed) {
         create_named(t);
         if (size > 0)
             lock_and_mark(t, size);
@@ -279,8 +283,10 @@ int open_room(const struct target *t, uint64_t size)
 static void keep_owner_and_mode(const struct target *t)
 {
     struct stat own;
-    if (!t->exists || fstat(t->descriptor, &own) != 0)
+    if (!t->exists)
         return;
+    if (fstat(t->descriptor, &own) != 0)
+        fail("can't look at the temporary file for %s: %s", t->path, strerror(errno));
     bool same = own.st_uid == t->old.st_uid && own.st_gid == t->old.st_gid;
     if (!same && fchown(t->descriptor, t->old.st_uid, t->old.st_gid) != 0) {
         int error = errno;

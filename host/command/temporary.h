@@ -11,10 +11,8 @@
 
 #include "target.h"
 
-/* Removes what a killed conversion to this target left; names what may be such a file but isn't marked. */
-void remove_leftovers(const struct target *t);
-
-/* Makes the temporary file with room on the disk for so many bytes, or fails. */
+/* Makes the temporary file with room on the disk for so many bytes, or fails. What a killed conversion to this target left is removed; what may be
+ * such a file but isn't marked is named. */
 void make_temporary(struct target *t, uint64_t size);
 
 /* A descriptor of another file without a name in the target's folder, with room for so many bytes; -1 where that can't be had. */

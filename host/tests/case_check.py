@@ -5,7 +5,7 @@ import shutil
 import subprocess
 
 from common import (
-    DIFFERENT, EXAMPLE, INCOMPLETE, REFUSED, SAMPLE, Run, any_user, as_nobody, converts, ends, expect, fails, folder, holds, mounted, open_folder, place,
+    DIFFERENT, EXAMPLE, INCOMPLETE, NAMED, REFUSED, SAMPLE, any_user, as_nobody, converts, ends, expect, fails, folder, holds, mounted, open_folder, place,
     read, report_of, run, test, with_fault, write,
 )
 from mdf import File, blocks_of
@@ -120,7 +120,7 @@ def check_in_a_folder_that_cannot_be_written():
 @any_user
 def storage_that_loses_bytes():
     """A byte that changes after its sync without an error: --verify finds it and there is no result; --check finds it in one."""
-    for front in ("", "tmpfile:0:95,"):
+    for front in ("", NAMED):
         with folder() as here:
             r = with_fault(front + "fsync:1:lose", SAMPLE, "r.mf4", "--verify", cwd=here)
             fails(r, "what was stored is not the conversion", "first differs at 1000,", status=DIFFERENT)

@@ -6,7 +6,7 @@ import struct
 import time
 
 from case_library import MET, check_example
-from common import BIG, EXAMPLE, GIB, LISTED, REFUSED, ROOT, SAMPLE, SMALL, any_user, converts, expect, folder, holds, place, read, run, test, write
+from common import BIG, EXAMPLE, GIB, LISTED, REFUSED, ROOT, SAMPLE, any_user, converts, expect, folder, holds, place, read, run, test, write
 from mdf import File, columns_of, history_of, without_time
 
 

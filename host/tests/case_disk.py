@@ -34,7 +34,7 @@ def fill_up(here):
     fails(run(SAMPLE, result), "no room for the result", "No space left")
     holds(here, *before)
     # the file system is asked first: nothing is taken, not even for a moment
-    fails(with_fault("tmpfile:0:before,posix_fallocate:0:before", SAMPLE, result), "no room for the result", "No space left")
+    fails(with_fault("posix_fallocate:0:before", SAMPLE, result), "no room for the result", "No space left")
     # one that promises room and has none
     fails(with_fault("fstatvfs:0:38", SAMPLE, result), "no room for the result", "No space left")
     fails(with_fault("tmpfile:0:95,fstatvfs:0:38", SAMPLE, result))
@@ -63,6 +63,31 @@ def full_disk_ext4():
     subprocess.run(["mkfs.ext4", "-q", "-O", "^has_journal", image], check=True, stderr=subprocess.DEVNULL)
     with mounted("-o", "loop", image) as here:
         fill_up(here)
+
+
+@test
+def disks_of_random_size():
+    """Whatever room there is: the whole result, or none and the room free again. --long sets how often."""
+    told = []
+    with mounted("-t", "tmpfs", "-o", "size=64k", "tmpfs") as here:
+        result = os.path.join(here, "r.mf4")
+        for k in range(Run.loops(24)):
+            size = Run.random.choice((Run.random.randint(1, 300), Run.random.randint(139, 145))) * 4096
+            subprocess.run(["mount", "-o", "remount,size=%d" % size, here], check=True)
+            fault = Run.random.choice(("", "fstatvfs:0:38", "posix_fallocate:0:95,fstatvfs:0:38", "tmpfile:0:95,fstatvfs:0:38"))
+            r = with_fault(fault, SAMPLE, result, *(["--verify"] if k % 2 else []))
+            if r.returncode == 0:
+                expect(without_time(read(result)) == SMALL.result, "a part of the result")
+                holds(here, "r.mf4")
+                os.remove(result)
+            else:
+                fails(r)
+                holds(here)
+            disk = os.statvfs(here)
+            expect(disk.f_bfree == disk.f_blocks, "room is still taken:", disk.f_blocks - disk.f_bfree)
+            told.append(r.returncode)
+    expect(0 in told and 1 in told, told)
+    return "%d whole, %d without room" % (told.count(0), told.count(1))
 
 
 def converts_there(here):

@@ -2,17 +2,15 @@
 import os
 import shutil
 import signal
+import subprocess
 import time
 
 from case_library import check_example
 from common import (
-    BIG, EXAMPLE, MEDIUM, SAMPLE, SMALL, Run, any_user, converts, end, ends, expect, fails, faulty, folder, go_on, holds, is_leftover,
+    BIG, EXAMPLE, MEDIUM, NAMED, SAMPLE, SMALL, NotTried, Run, any_user, converts, end, ends, expect, fails, faulty, folder, go_on, holds, is_leftover,
     read, run, start, stopped_at, test, with_fault, write,
 )
 from mdf import without_time
-
-NAMED = "tmpfile:0:95,"  # a file system without files that have no name
-
 
 def old_or_whole(here, old, whole):
     """Under RESULT stands what stood there before, or the whole result; beside it at most one file that shows what it is."""
@@ -125,9 +123,15 @@ def left_over_file_is_removed():
         others = [".r.mf4.mdf-columns-", ".r.mf4.mdf-columns-1x", ".other.mf4.mdf-columns-1", "r.mf4.mdf-columns-1", ".r.mf4.mdf-columns-" + 16 * "0"]
         for name in others:
             write(os.path.join(here, name), b"")
-        r = run(SAMPLE, result, "--quiet")
+        r = with_fault(NAMED, SAMPLE, result, "--quiet")
         converts(r)
         expect("removed" in r.said and left in r.said and others[-1] + " may be left" in r.said, r.said)
+        holds(here, "r.mf4", *others)
+        # with --force too, since a file without a name gets one for a moment
+        with_fault(NAMED + "msync:1:before", SAMPLE, result, "--force")
+        r = run(SAMPLE, result, "--quiet", "--force")
+        converts(r)
+        expect("removed" in r.said, r.said)
         holds(here, "r.mf4", *others)
 
 
@@ -144,6 +148,38 @@ def two_at_once():
             fails(go_on(p), "exists")
             check_example(read(result))
             holds(here, "r.mf4")
+
+
+def in_namespace(option, script, *words, fault=""):
+    """The command in a namespace of its own, after this script."""
+    shell = ["unshare", option, "sh", "-c", script + ' && exec "$@"', "sh", Run.command, *map(str, words)]
+    return subprocess.Popen(shell if option != "--pid" else [*shell[:1], "--fork", *shell[1:]], env=faulty(fault), stdout=subprocess.PIPE, stderr=subprocess.PIPE)
+
+
+@test
+def two_containers_with_one_process_id():
+    """Both are process 1 where they run: their temporary files have names of their own."""
+    if subprocess.run(["unshare", "--pid", "--fork", "true"], stderr=subprocess.DEVNULL).returncode != 0:
+        raise NotTried("unshare is not permitted")
+    with folder() as here:
+        result = os.path.join(here, "r.mf4")
+        both = [in_namespace("--pid", "true", MEDIUM.path, result, "--quiet", fault=NAMED) for _ in range(2)]
+        ended = [end(p) for p in both]
+        expect(sorted(r.returncode for r in ended) == [0, 1] and any("exists" in r.said for r in ended), [(r.returncode, r.said) for r in ended])
+        expect(without_time(read(result)) == MEDIUM.result, "a part of the result")
+        holds(here, "r.mf4")
+
+
+@test
+def without_proc():
+    """A file without a name is named by way of /proc; where that is missing it has a name from the start."""
+    with folder() as here:
+        r = end(in_namespace("--mount", "umount -l /proc", SAMPLE, os.path.join(here, "r.mf4"), "--verify"))
+        if "unshare" in r.said or "umount" in r.said:
+            raise NotTried("unshare is not permitted")
+        converts(r)
+        expect("converting into %s/.r.mf4.mdf-columns-" % here in r.said, r.said)
+        holds(here, "r.mf4")
 
 
 @any_user
@@ -190,7 +226,15 @@ def removed(recording):
     os.remove(recording)
 
 
-CHANGES = (appended, rewritten, rewritten_with_its_time_set_back, cut_off, replaced, removed)
+def folder_replaced(recording):
+    """Its path leads to another file, though the file itself is as it was."""
+    where = os.path.dirname(recording)
+    os.rename(where, where + ".old")
+    os.mkdir(where)
+    shutil.copy(os.path.join(where + ".old", os.path.basename(recording)), recording)
+
+
+CHANGES = (appended, rewritten, rewritten_with_its_time_set_back, cut_off, replaced, removed, folder_replaced)
 
 
 @any_user
@@ -199,7 +243,8 @@ def recording_changed_while_the_result_is_synced():
     for change in CHANGES:
         for moment in ("msync:1:stop", "fsync:1:stop", "fsync:2:stop"):
             with folder() as here:
-                recording = shutil.copy(SAMPLE, os.path.join(here, "a.mf4"))
+                os.mkdir(os.path.join(here, "in"))
+                recording = shutil.copy(SAMPLE, os.path.join(here, "in", "a.mf4"))
                 p = stopped_at(moment, recording, os.path.join(here, "r.mf4"))
                 change(recording)
                 r = go_on(p)

@@ -5,7 +5,7 @@ import subprocess
 
 from case_library import check_example
 from common import (
-    EXAMPLE, SAMPLE, SMALL, STANDING, Run, any_user, as_nobody, converts, ends, expect, fails, faulty, folder, holds, is_leftover,
+    EXAMPLE, NAMED, SAMPLE, SMALL, STANDING, Run, any_user, as_nobody, converts, ends, expect, fails, folder, holds, is_leftover,
     limited_files, open_folder, place, read, run, stopped_at, go_on, test, with_fault, write,
 )
 from mdf import without_time
@@ -159,9 +159,6 @@ def omissions_that_cannot_be_said():
 # ---- calls that fail
 
 
-NAMED = "tmpfile:0:95,"  # a file system without files that have no name
-
-
 @any_user
 def failing_calls():
     """An error of each call on the way: no result, no temporary file."""
@@ -180,8 +177,11 @@ def failing_calls():
             ):
                 fails(with_fault(front + call, EXAMPLE, result), words, here)
                 holds(here)
+            write(result, b"old")
             fails(with_fault(front + "renameat:1:%d" % EIO, EXAMPLE, result, "--force"), "can't give the result its name")
-            holds(here)
+            expect(read(result) == b"old", "the old result is gone")
+            holds(here, "r.mf4")
+            os.remove(result)
             r = with_fault(front + "fsync:3:%d" % EIO, EXAMPLE, result)
             ends(r, STANDING, "the folder", "can't be synced", "r.mf4 is there and whole")
             check_example(read(result))

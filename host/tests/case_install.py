@@ -52,6 +52,9 @@ def installed():
         with open(os.path.join(here, "p", "share", "man", "man1", "mdf-columns.1")) as f:
             page = f.read()
         expect(version in page and "@" not in page, "the manual page")
+        if shutil.which("groff"):
+            r = subprocess.run(["groff", "-man", "-ww", "-z"], input=page.encode(), stderr=subprocess.PIPE)
+            expect(r.returncode == 0 and r.stderr == b"", r.stderr.decode())
         usage = subprocess.run([program, "--help"], stdout=subprocess.PIPE, check=True).stdout.decode()
         for option in {word.strip(",") for word in usage.split() if word.startswith("--")}:
             expect(option.replace("-", "\\-") in page, option, "is not in the manual page")

@@ -4,7 +4,7 @@ import shutil
 import subprocess
 import time
 
-from common import SAMPLE, SMALL, NotTried, Run, converts, expect, faulty, mounted, place, read, run, test, write
+from common import NAMED, SAMPLE, SMALL, NotTried, Run, converts, expect, faulty, mounted, place, read, run, test, write
 from mdf import without_time
 from power import after_power_cut, logged_device, read_log
 
@@ -71,7 +71,7 @@ def broken_promises(image, entries, begun, ended, old, unnamed, cuts):
 def power_cuts():
     """At each moment RESULT is as before or whole; after status 0 it is whole. --long sets how often."""
     image, told = empty_device("ext4"), []
-    for old, fault in ((None, ""), (b"old" * 2000, ""), (None, "tmpfile:0:95")):
+    for old, fault in ((None, ""), (b"old" * 2000, ""), (None, NAMED)):
         entries, begun, ended = logged_conversion(image, old, fault)
         expect(sum(e[0] == b"f" for e in entries if begun < e[1] < ended) >= 2, "flushes that reached the device")
         broken, seen = broken_promises(image, entries, begun, ended, old, not old and not fault, Run.loops(36) // 3 + 1)

@@ -23,6 +23,7 @@ LISTED = "columns 2\n0 t 4 0 20 1 80 -\n1 s 2 1 20 1 60 0\nomitted 0\n"
 GIB = 1 << 30
 NOBODY = 65534
 FAILED, REFUSED, STANDING, INCOMPLETE, DIFFERENT = 1, 2, 3, 4, 5
+NAMED = "tmpfile:0:95,"  # the fault of a file system that has no files without a name
 
 TESTS = []
 
@@ -236,11 +237,14 @@ class Sized:
         if name not in ("path", "result", "seconds"):
             raise AttributeError(name)
         self.path = make_sample(place(self.name + ".mf4"), self.records)
-        begun = time.monotonic()
-        converts(run(self.path, self.name + "-columns.mf4", "--force"))
-        self.seconds = time.monotonic() - begun
+        self.seconds = min(self.convert() for _ in range(3))
         self.result = without_time(read(self.name + "-columns.mf4"))
         return getattr(self, name)
+
+    def convert(self):
+        begun = time.monotonic()
+        converts(run(self.path, self.name + "-columns.mf4", "--force"))
+        return time.monotonic() - begun
 
     def forget(self):
         self.__dict__ = {"name": self.name, "records": self.records}
