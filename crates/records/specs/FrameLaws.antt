@@ -255,6 +255,7 @@ halted-stuck s n gs fs at e = go (frameAt s n gs (joined s fs)) e
     by-spot : (v : Spot) (m g i : ℕ) → spotPast m fs at ≡ v → upTo v g i ≡ halted → skip m fs ≡ short
     by-spot nowhere m g i q u = nowhere-short fs m at q
     by-spot (spot a x z) m g i q u = absurd (halted≢reached (sym u))
+
     go : (v : Framed) → onFramedTo v n fs at ≡ halted → onFrame v n fs ≡ stuck
     go broken u = refl
     go (framed r) u = rw (by-spot (spotPast (r .size) fs at) (r .size) (r .group) (r .size - n) refl u)
@@ -268,6 +269,7 @@ reached-stepped s n gs ws at p l {k} {m} {a} {q} {z} e = go (frameAt s n gs (joi
         → past (skip i (ahead s ws at p l)) g j ≡ stepped k m (ahead s ws a q z)
     by-spot nowhere i g j w u = absurd (halted≢reached u)
     by-spot (spot b x y) i g j w u = rw (landed s ws at p l i (w ∙ spot-of u) .skips, group-of u, bytes-of u)
+
     go : (v : Framed) → onFramedTo v n (ahead s ws at p l) at ≡ reached k m a q z
         → onFrame v n (ahead s ws at p l) ≡ stepped k m (ahead s ws a q z)
     go broken u = absurd (halted≢reached u)

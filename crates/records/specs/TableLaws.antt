@@ -68,7 +68,7 @@ le-same zero d s a b e = refl
 le-same (suc n) d s a b e =
     let h : getD d a 0 ≡ getD s b 0 = rw (add-zero a, add-zero b) at (e 0 (omega arith)) in
     let t : (i : ℕ) → i < n → getD d (a + 1 + i) 0 ≡ getD s (b + 1 + i) 0 = λ i l.
-        (let x : a + suc i ≡ a + 1 + i = omega arith in let y : b + suc i ≡ b + 1 + i = omega arith in rw (x, y) at (e (suc i) (omega arith))) in
+    (let x : a + suc i ≡ a + 1 + i = omega arith in let y : b + suc i ≡ b + 1 + i = omega arith in rw (x, y) at (e (suc i) (omega arith))) in
     rw (h, le-same n d s (a + 1) (b + 1) t)
 
 le-here : (s ws : List ℕ) (at p l n : ℕ) → n ≤ length (part p l s) → leAt n (joined s (ahead s ws at p l)) 0 ≡ leAt n s p

@@ -4,7 +4,6 @@ use loads::{bus, many_links, mixed, recording, shuffled, Group, Order};
 use mf4_rs::column::{to_column_oriented_bytes, to_column_oriented_with, ColumnOptions, ColumnSink};
 use mf4_rs::error::MdfError;
 use mf4_rs::index::ByteRangeReader;
-use std::time::Instant;
 
 #[repr(C)]
 #[derive(Debug, Clone, Copy)]
@@ -22,6 +21,26 @@ extern "C" {
         source: *mut u64, source_len: usize, fragments: *mut u64, fragments_len: usize, columns: *mut u64, columns_len: usize,
         copies: *mut u64, copies_len: usize, out: *mut u8, out_len: usize, list: *mut u64, list_len: usize,
     ) -> Outcome;
+}
+
+// Of C: the processor time of this thread.
+#[repr(C)]
+struct Clock {
+    seconds: i64,
+    nanoseconds: i64,
+}
+
+extern "C" {
+    fn clock_gettime(which: i32, now: *mut Clock) -> i32;
+}
+
+const THREAD: i32 = 3;
+
+// The thread's processor time in milliseconds.
+fn spent() -> f64 {
+    let mut now = Clock { seconds: 0, nanoseconds: 0 };
+    assert_eq!(unsafe { clock_gettime(THREAD, &mut now) }, 0);
+    now.seconds as f64 * 1e3 + now.nanoseconds as f64 / 1e6
 }
 
 const BLOCK: u64 = 4 << 20;
@@ -88,9 +107,9 @@ fn options() -> ColumnOptions {
 fn times(turns: usize, mut f: impl FnMut()) -> (f64, f64) {
     let mut t: Vec<f64> = (0..turns)
         .map(|_| {
-            let from = Instant::now();
+            let from = spent();
             f();
-            from.elapsed().as_secs_f64() * 1000.0
+            spent() - from
         })
         .collect();
     t.sort_by(f64::total_cmp);

@@ -47,7 +47,7 @@ add-t13 c = search needs
 returns-3 : tie.Need-returns-3
 returns-3 c =
     body-plain _ _ _ (c .before .before .before .is-storage .ensures) (c .before .before .if1 .left)
-        (c .before .samples-of .ensures .is)
+    (c .before .samples-of .ensures .is)
     (c .inval-bytes .ensures .is)
 
 pub body-of-spec : {M : Type 1} → statement M

@@ -30,7 +30,7 @@ returns-2 : tie.Need-returns-2
 returns-2 c =
     record-short _ _ _ _ _ (so-value (c .before .before .before .before .before .before .body-of .ensures)
     (c .before .before .before .before .size .given .1)) (so-nowhere (c .before .before .skip-on .ensures)
-        (c .enum-told2 .given .1))
+    (c .enum-told2 .given .1))
 
 returns-3 : tie.Need-returns-3
 returns-3 c =

@@ -63,7 +63,7 @@ loop-again c = (
   omega arith,
   spot-move _ _ _ _ _ _ (c .before .before .before .before .before .inside .ensures)
       (c .before .before .before .before .before .before .loop .inv .1) (c .before .before .before .before .if1 .left) (omega
-          arith)
+      arith)
       (c .before .word-at .ensures) (c .word-at2 .ensures),
 )
 

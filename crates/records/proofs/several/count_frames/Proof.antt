@@ -63,8 +63,8 @@ records-less c =
 records-again : tie.Need-records-again Inv-records μ-records
 records-again c = (
   read-move (c .before .before .before .before .before .before .before .before .before .before .before .before .before .before .before .before .before .before .before .before .before .before .before .args .image .now) (c .before .before .before .before .before .before .before .before .before .before .before .before .before .before .before .before .before .before .before .before .before .before .before .args .n) (c .before .before .before .before .before .before .before .before .before .before .before .before .before .before .before .before .before .before .before .before .before .before .before .args .groups .now) (c .before .before .before .before .before .before .before .before .before .before .before .before .before .before .before .before .before .before .before .before .before .before .before .args .fragments .now) _ (c .before .before .before .before .before .before .records .f .at) (c .before .before .before .before .before .before .records .position)
-  (c .before .before .before .before .before .before .records .left) (c .before .before .before .before .before .before .records .counts) (c .before .before .before .before .before .before .records .inv .0) (c .before .before .before .before .before .inside .ensures) (c .before .before .before .before .if1 .taken) (omega arith) (c .before .word-at .ensures)
-  (c .word-at2 .ensures),
+      (c .before .before .before .before .before .before .records .left) (c .before .before .before .before .before .before .records .counts) (c .before .before .before .before .before .before .records .inv .0) (c .before .before .before .before .before .inside .ensures) (c .before .before .before .before .if1 .taken) (omega arith) (c .before .word-at .ensures)
+      (c .word-at2 .ensures),
   c .before .before .before .before .before .before .records .inv .1,
 )
 
@@ -93,7 +93,7 @@ records-less-2 c =
 records-again-2 : tie.Need-records-again-2 Inv-records μ-records
 records-again-2 c = (
   read-record _ _ _ _ _ _ _ _ _ (c .before .before .before .before .before .before .before .before .before .before .before .before .before .records .inv .0) _ _ _ (c .before .before .before .before .before .before .before .before .before .before .before .before .before .before .before .before .before .before .before .before .before .before .before .before .before .before .before .before .before .before .pre .0)
-  (so-record _ _ _ _ _ _ _ (c .before .before .before .before .before .before .before .step-by .ensures (c .before .before .before .before .before .before .before .before .before .before .before .before .before .records .inv .1)) (c .before .before .before .before .before .step .given .1)) (c .before .before .count-up .ensures),
+      (so-record _ _ _ _ _ _ _ (c .before .before .before .before .before .before .before .step-by .ensures (c .before .before .before .before .before .before .before .before .before .before .before .before .before .records .inv .1)) (c .before .before .before .before .before .step .given .1)) (c .before .before .count-up .ensures),
   c .before .before .before .before .before .before .before .before .before .before .before .before .before .records .inv .1,
 )
 

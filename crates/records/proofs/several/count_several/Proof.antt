@@ -27,7 +27,7 @@ count-frames-requires c κs =
     (c .before .before .before .before .before .before .before .before .before .args .d)
     (c .before .before .before .before .before .before .before .before .before .args .groups .now) _
     (so-fine (c .before .before .before .before .several-in .ensures) (c .before .before .enum-told .given .1)) in let e =
-        c .before
+    c .before
     .id-size .ensures .is in (omega arith, h .ranges, h .size, h .apart)
 
 same-length : tie.Need-same-length

@@ -45,7 +45,7 @@ returns-2 c =
     step-big _ _ _ _ _ _ _ (so-spot (c .before .before .before .before .before .before .skip-on .ensures)
     (c .before .before .before .before .to .given .1))
     (λ i. let h = c .before .before .before .before .before .before .before .before .before .shared-slice-known .given i in omega
-        arith)
+    arith)
     (so-missing (c .before .before .number-at .ensures) (c .enum-told2 .given .1))
 
 returns-3 : tie.Need-returns-3
@@ -54,7 +54,7 @@ returns-3 c =
     (c .before .before .before .before .before .before .before .before .before .before .skip-on .ensures)
     (c .before .before .before .before .before .before .before .before .to .given .1))
     (so-value (c .before .before .before .before .before .before .number-at .ensures)
-        (c .before .before .before .before .id .given .1))
+    (c .before .before .before .before .id .given .1))
     (so-unknown (c .before .before .with-id .ensures) (c .enum-told3 .given .1))
 
 returns-4 : tie.Need-returns-4
