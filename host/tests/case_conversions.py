@@ -114,7 +114,7 @@ def every_reason_in_words():
     for name in ("reasons", "another-count"):
         r = run(os.path.join(ROOT, "crates", "columns", "data", name), name + ".mf4", "--quiet")
         converts(r)
-        seen.update(re.findall(r'omitted ".*" of group ".*" at \d+: .{20,} \(reason (\d)\)', r.said))
+        seen.update(re.findall(r'omitted (?:".*"|the time) of group ".*" at \d+: .{20,} \(reason (\d)\)', r.said))
     expect(seen == set("1234567"), "reasons", seen)
 
 
