@@ -183,7 +183,6 @@ static void give_result(struct job *j)
 static int convert_recording(struct job *j)
 {
     j->result.replaces = j->o->force;
-    set_standing(STATUS_FAILED, "there is no new result %s", j->result.path);
     check_target(&j->result);
     j->lent = lend(j->o->block_size, SITAUNGO_VERSION, present_time());
     forget_report(j);
@@ -256,6 +255,8 @@ static int check_result(struct job *j)
 int run_job(const struct options *o, const char *recording, const char *result, struct sink *sink)
 {
     struct job *j = &job;
+    if (!o->check)
+        set_standing(STATUS_FAILED, "there is no new result %s", result);
     *j = (struct job){.o = o, .sink = sink, .recording = open_recording(recording)};
     say_phase("reading %s, %" PRIu64 " bytes", recording, (uint64_t)j->recording.found.st_size);
     aim_at(&j->result, result, "result", &j->recording.found);

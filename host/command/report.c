@@ -28,20 +28,27 @@ static struct image image_of(const struct recording *r)
     return (struct image){r->bytes, r->length};
 }
 
-static int shown(struct text t)
+/* A name in quotes, cut to what a line should have. */
+static const char *quoted(struct text t, char to[NAME_SHOWN + 3])
 {
-    return t.length < NAME_SHOWN ? (int)t.length : NAME_SHOWN;
+    snprintf(to, NAME_SHOWN + 3, "\"%.*s\"", t.length < NAME_SHOWN ? (int)t.length : NAME_SHOWN, t.bytes ? (const char *)t.bytes : "");
+    return to;
+}
+
+/* Reason 1 is about a group: its columns name no time. */
+static bool say_omission(struct omission o, struct names names)
+{
+    char channel[NAME_SHOWN + 3], group[NAME_SHOWN + 3];
+    const char *what = o.reason == SITAUNGO_OMITTED_REMOTE_MASTER ? "the time" : quoted(names.channel, channel);
+    return say("omitted %s of group %s at %" PRIu64 ": %s (reason %" PRIu64 ")", what, quoted(names.group, group), o.address,
+        words_of_reason(o.reason), o.reason);
 }
 
 bool say_omissions(const struct recording *r)
 {
-    for (uint64_t k = 0; k < omission_count(); k++) {
-        struct omission o = omission_at(k);
-        struct names names = names_of(image_of(r), o.address);
-        if (!say("omitted \"%.*s\" of group \"%.*s\" at %" PRIu64 ": %s (reason %" PRIu64 ")", shown(names.channel), (const char *)names.channel.bytes,
-                shown(names.group), (const char *)names.group.bytes, o.address, words_of_reason(o.reason), o.reason))
+    for (uint64_t k = 0; k < omission_count(); k++)
+        if (!say_omission(omission_at(k), names_of(image_of(r), omission_at(k).address)))
             return false;
-    }
     return true;
 }
 
@@ -71,10 +78,10 @@ static void put_name(FILE *to, const char *name, struct text t)
         fputs("null", to);
 }
 
-/* One line of the listing: number, t or s, data bytes, invalidation byte, records, blocks, payload bytes, master column or -. */
+/* One line of the listing: number, t or s, data bytes, invalidation byte, records, blocks, bytes of payload and signal data, master column or -. */
 static void put_column(FILE *to, const char *line, struct names names)
 {
-    static const char *const fields[] = {"data_bytes", "invalidation_bytes", "records", "blocks", "payload_bytes"};
+    static const char *const fields[] = {"data_bytes", "invalidation_bytes", "records", "blocks", "bytes"};
     char *at;
     fprintf(to, "{\"number\": %" PRIu64, (uint64_t)strtoull(line, &at, 10));
     put_name(to, "name", names.channel);

@@ -102,6 +102,7 @@ def quiet_and_listing():
     converts(r)
     lines = r.printed.splitlines()
     expect(lines[0] == "columns 299" and lines[1] == "0 t 8 0 1000 1 8000 -" and lines[11] == "10 s 8 1 1000 1 9000 0", lines[:12])
+    expect(lines[299] == "298 s 8 0 10 1 %d 199" % (80 + len(sample_texts(10)[1])), lines[299])
     expect(lines[300] == "omitted 1" and re.fullmatch(r"\d+ 4", lines[301]) and len(lines) == 302, lines[300:])
     expect(len(r.said.splitlines()) == 1 and 'omitted "rack.1.99"' in r.said, r.said)
     r = run(EXAMPLE, "quiet-example.mf4", "--quiet")
@@ -114,7 +115,7 @@ def every_reason_in_words():
     for name in ("reasons", "another-count"):
         r = run(os.path.join(ROOT, "crates", "columns", "data", name), name + ".mf4", "--quiet")
         converts(r)
-        seen.update(re.findall(r'omitted ".*" of group ".*" at \d+: .{20,} \(reason (\d)\)', r.said))
+        seen.update(re.findall(r'omitted (?:".*"|the time) of group ".*" at \d+: .{20,} \(reason (\d)\)', r.said))
     expect(seen == set("1234567"), "reasons", seen)
 
 

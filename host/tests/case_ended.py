@@ -65,7 +65,8 @@ def signals_at_random_moments():
             r = end(p)
             there = os.path.exists(result)
             if r.returncode == -signal.SIGTERM and r.said:
-                expect(("there is no new result" in r.said) == (not there) and ("is there and whole" in r.said) == there, r.said, there)
+                none = "there is no new result" in r.said or "nothing was changed" in r.said  # the latter at the very beginning
+                expect(none == (not there) and ("is there and whole" in r.said) == there, r.said, there)
             else:
                 expect(r.returncode == 0 and there, r.returncode, r.said)
             told.append(old_or_whole(here, None, MEDIUM.result))

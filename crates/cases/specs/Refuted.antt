@@ -3,7 +3,8 @@
 use Prim.Native.Nat.{ℕ, _+_}
 use mathlib.Core.Bool.{Bool, true, false}
 use mathlib.Core.List.{List, [], _∷_, _++_}
-use mathlib.Core.Path.{_≡_, refl, sym, ap, _∙_}
+use mathlib.Core.Option.{none}
+use mathlib.Core.Path.{_≡_, refl, sym, ap, subst, _∙_}
 use native.Mathlib.Omega.{arith}
 use lib.Dec.{eqb}
 use lib.ListN.{replicate, length, getD, take, set}
@@ -70,18 +71,18 @@ unfolding
     planChannel.invalBit planChannel.treatment planColumns.withCounts planColumns.srcGroups planColumns.firstMaster planColumns.masterOf
     planColumns.remoteLink planColumns.groupAt planColumns.remoteTime planColumns.timeOf planColumns.timeColumn planColumns.withTime
     planColumns.decideSignal planColumns.decideComposition planColumns.decide planColumns.planChannels planColumns.planGroup planColumns.planGroups
-    planColumns.plan planColumns.omissionAddresses planColumns.omissionReasons planColumns.omissionWords planCopies.copyOf planCopies.placed
+    planColumns.plan planColumns.omissionAddresses planColumns.omissionReasons planColumns.omissionWords planCopies.copyOf planCopies.withCopy
     planCopies.isCopied planCopies.lostLinks planCopies.copyLinks planCopies.copyAt planCopies.copyRoot planCopies.copyRoots planCopies.historyFrom
     planCopies.historyOf planCopies.columnCopies planCopies.isAttached planCopies.attachmentIn planCopies.attach planCopies.attachmentsFrom
     planCopies.attachmentsOf planData.isNonempty planData.anyNonempty planData.signalsIn planData.dataIn planData.allDataIn planData.blocksIn
     planGeometry.align8 planGeometry.powerIn planGeometry.stepOf planGeometry.perBlock planGeometry.fullPayload planGeometry.blockCount
     planGeometry.perFull planGeometry.blockPayload planLayout.columnWidth planLayout.columnBlocks planLayout.dlSize planLayout.structureSize
     planLayout.payloadSize planLayout.blocksEnd planLayout.placedFrom planLayout.structureEnd planLayout.dataEnd planLayout.mdSize
-    planLayout.mdPlace planLayout.fhPlace planLayout.structurePlace planLayout.layout resultFill.header resultFill.words resultFill.newLink
+    planLayout.pastCopies planLayout.fhPlace planLayout.layout resultFill.header resultFill.words resultFill.newLink
     resultFill.newLinks resultFill.historyLink resultFill.copiedLinks resultFill.dataOf resultFill.copiedBytes resultFill.copiedBlocks
     resultFill.mdBytes resultFill.fhBytes resultFill.dgBytes resultFill.cgAt resultFill.cgData resultFill.cgBytes resultFill.cnData
     resultFill.cnBytes resultFill.blockLinks resultFill.columnPayload resultFill.dlBytes resultFill.dlBlocks resultFill.structureBlocks
-    resultFill.framed resultFill.payloadBlocks resultFill.dataBlocks resultFill.atBytes resultFill.attachmentBlocks resultFill.hdData
+    resultFill.blockOf resultFill.payloadBlocks resultFill.dataBlocks resultFill.atBytes resultFill.attachmentBlocks resultFill.hdData
     resultFill.hdBytes resultPayload.recordsOf resultPayload.cell resultPayload.cells resultPayload.payloads resultPayload.columnPayloads
     resultResult.hdBlock resultResult.blocksOf resultResult.flat resultResult.fileOf resultResult.sourceGroupsOf resultResult.timeColumns
     resultResult.blocksWritten resultResult.report resultResult.lentIn resultResult.decided resultResult.answer resultResult.workIn
@@ -111,18 +112,18 @@ unfolding
     planChannel.invalBit planChannel.treatment planColumns.withCounts planColumns.srcGroups planColumns.firstMaster planColumns.masterOf
     planColumns.remoteLink planColumns.groupAt planColumns.remoteTime planColumns.timeOf planColumns.timeColumn planColumns.withTime
     planColumns.decideSignal planColumns.decideComposition planColumns.decide planColumns.planChannels planColumns.planGroup planColumns.planGroups
-    planColumns.plan planColumns.omissionAddresses planColumns.omissionReasons planColumns.omissionWords planCopies.copyOf planCopies.placed
+    planColumns.plan planColumns.omissionAddresses planColumns.omissionReasons planColumns.omissionWords planCopies.copyOf planCopies.withCopy
     planCopies.isCopied planCopies.lostLinks planCopies.copyLinks planCopies.copyAt planCopies.copyRoot planCopies.copyRoots planCopies.historyFrom
     planCopies.historyOf planCopies.columnCopies planCopies.isAttached planCopies.attachmentIn planCopies.attach planCopies.attachmentsFrom
     planCopies.attachmentsOf planData.isNonempty planData.anyNonempty planData.signalsIn planData.dataIn planData.allDataIn planData.blocksIn
     planGeometry.align8 planGeometry.powerIn planGeometry.stepOf planGeometry.perBlock planGeometry.fullPayload planGeometry.blockCount
     planGeometry.perFull planGeometry.blockPayload planLayout.columnWidth planLayout.columnBlocks planLayout.dlSize planLayout.structureSize
     planLayout.payloadSize planLayout.blocksEnd planLayout.placedFrom planLayout.structureEnd planLayout.dataEnd planLayout.mdSize
-    planLayout.mdPlace planLayout.fhPlace planLayout.structurePlace planLayout.layout resultFill.header resultFill.words resultFill.newLink
+    planLayout.pastCopies planLayout.fhPlace planLayout.layout resultFill.header resultFill.words resultFill.newLink
     resultFill.newLinks resultFill.historyLink resultFill.copiedLinks resultFill.dataOf resultFill.copiedBytes resultFill.copiedBlocks
     resultFill.mdBytes resultFill.fhBytes resultFill.dgBytes resultFill.cgAt resultFill.cgData resultFill.cgBytes resultFill.cnData
     resultFill.cnBytes resultFill.blockLinks resultFill.columnPayload resultFill.dlBytes resultFill.dlBlocks resultFill.structureBlocks
-    resultFill.framed resultFill.payloadBlocks resultFill.dataBlocks resultFill.atBytes resultFill.attachmentBlocks resultFill.hdData
+    resultFill.blockOf resultFill.payloadBlocks resultFill.dataBlocks resultFill.atBytes resultFill.attachmentBlocks resultFill.hdData
     resultFill.hdBytes resultPayload.recordsOf resultPayload.cell resultPayload.cells resultPayload.payloads resultPayload.columnPayloads
     resultResult.hdBlock resultResult.blocksOf resultResult.flat resultResult.fileOf resultResult.sourceGroupsOf resultResult.timeColumns
     resultResult.blocksWritten resultResult.report resultResult.lentIn resultResult.decided resultResult.answer resultResult.workIn
@@ -153,18 +154,18 @@ unfolding
     planChannel.invalBit planChannel.treatment planColumns.withCounts planColumns.srcGroups planColumns.firstMaster planColumns.masterOf
     planColumns.remoteLink planColumns.groupAt planColumns.remoteTime planColumns.timeOf planColumns.timeColumn planColumns.withTime
     planColumns.decideSignal planColumns.decideComposition planColumns.decide planColumns.planChannels planColumns.planGroup planColumns.planGroups
-    planColumns.plan planColumns.omissionAddresses planColumns.omissionReasons planColumns.omissionWords planCopies.copyOf planCopies.placed
+    planColumns.plan planColumns.omissionAddresses planColumns.omissionReasons planColumns.omissionWords planCopies.copyOf planCopies.withCopy
     planCopies.isCopied planCopies.lostLinks planCopies.copyLinks planCopies.copyAt planCopies.copyRoot planCopies.copyRoots planCopies.historyFrom
     planCopies.historyOf planCopies.columnCopies planCopies.isAttached planCopies.attachmentIn planCopies.attach planCopies.attachmentsFrom
     planCopies.attachmentsOf planData.isNonempty planData.anyNonempty planData.signalsIn planData.dataIn planData.allDataIn planData.blocksIn
     planGeometry.align8 planGeometry.powerIn planGeometry.stepOf planGeometry.perBlock planGeometry.fullPayload planGeometry.blockCount
     planGeometry.perFull planGeometry.blockPayload planLayout.columnWidth planLayout.columnBlocks planLayout.dlSize planLayout.structureSize
     planLayout.payloadSize planLayout.blocksEnd planLayout.placedFrom planLayout.structureEnd planLayout.dataEnd planLayout.mdSize
-    planLayout.mdPlace planLayout.fhPlace planLayout.structurePlace planLayout.layout resultFill.header resultFill.words resultFill.newLink
+    planLayout.pastCopies planLayout.fhPlace planLayout.layout resultFill.header resultFill.words resultFill.newLink
     resultFill.newLinks resultFill.historyLink resultFill.copiedLinks resultFill.dataOf resultFill.copiedBytes resultFill.copiedBlocks
     resultFill.mdBytes resultFill.fhBytes resultFill.dgBytes resultFill.cgAt resultFill.cgData resultFill.cgBytes resultFill.cnData
     resultFill.cnBytes resultFill.blockLinks resultFill.columnPayload resultFill.dlBytes resultFill.dlBlocks resultFill.structureBlocks
-    resultFill.framed resultFill.payloadBlocks resultFill.dataBlocks resultFill.atBytes resultFill.attachmentBlocks resultFill.hdData
+    resultFill.blockOf resultFill.payloadBlocks resultFill.dataBlocks resultFill.atBytes resultFill.attachmentBlocks resultFill.hdData
     resultFill.hdBytes resultPayload.recordsOf resultPayload.cell resultPayload.cells resultPayload.payloads resultPayload.columnPayloads
     resultResult.hdBlock resultResult.blocksOf resultResult.flat resultResult.fileOf resultResult.sourceGroupsOf resultResult.timeColumns
     resultResult.blocksWritten resultResult.report resultResult.lentIn resultResult.decided resultResult.answer resultResult.workIn
@@ -173,6 +174,125 @@ stock-file l g =
     let i : In _ _ = there (there (there (there (there (there (there (there (there (there (there (there here))))))))))) in
     let z : _≡_ {A = ℕ} 0 9 = ap (λ (bs : List ℕ). getD bs 24 0) (g .filled _ i .is) in
     omega (arith, z)
+
+-- ---- a plan in which every column is a time column that names none: the signal is no master
+abbrev timed : planColumns.Column → planColumns.Column
+timed c = record { group = c .group; channel = c .channel; isTime = true; master = none; signalOf = c .signalOf }
+
+abbrev allTimed : List planColumns.Column → List planColumns.Column
+allTimed [] = []
+allTimed (c ∷ cs) = timed c ∷ allTimed cs
+
+abbrev pub TimesEach : baseChecked.Checked resultResult.Decided → Type 0
+TimesEach (baseChecked.ok d) =
+    (os : List planColumns.Omission) (n : ℕ) (p : planLayout.Layout) (f l : List ℕ)
+    → Guaranteed args (record { groups = d .groups; planned = record { columns = allTimed (d .planned .columns); omissions = os; fragments = n }; laidOut = p }) f l
+    → ⊥
+TimesEach (baseChecked.refused number place) = ⊥
+
+untrue : _≡_ {A = Bool} false true → ⊥
+untrue e = let z : _≡_ {A = ℕ} 0 1 = cc in omega arith
+
+pub times-each : TimesEach (resultResult.decided args)
+unfolding
+    baseBlit.part baseBlit.blit baseChoice.ifLt baseChoice.ifLe baseChoice.ifEq baseField.leAt baseField.le mdfBlock.kindAt mdfBlock.sizeAt
+    mdfBlock.linksAt mdfBlock.linkAt mdfBlock.firstLink mdfBlock.dataAt mdfBlock.headerIn mdfBlock.lengthIn mdfBlock.wholeAt mdfBlock.wantedAt
+    mdfBlock.blockAt mdfChain.leafOf mdfChain.added mdfChain.fragmentAt mdfChain.listed mdfChain.isIn mdfChain.listIn mdfChain.chainFrom
+    mdfChain.chain mdfCount.sizeDT mdfCount.sizeDV mdfCount.quotient mdfCount.sortedCount mdfCount.countOne mdfCount.ofGroup mdfCount.tallies
+    mdfCount.countGroups mdfCount.countsFrom mdfCount.counts mdfGroup.addresses mdfGroup.channelsOf mdfGroup.groupsOf mdfGroup.upTo
+    mdfGroup.dataGroupsOf mdfGroup.dataGroups mdfGroup.recordId mdfGroup.groupFlags mdfGroup.samples mdfGroup.invalBytes mdfGroup.isStorage
+    mdfIdentification.dropWhile mdfIdentification.trimmed mdfIdentification.firstPart mdfIdentification.pastDot mdfIdentification.digitsFrom
+    mdfIdentification.digits mdfIdentification.number mdfIdentification.versionOf mdfIdentification.isAscii mdfIdentification.versionIn
+    mdfIdentification.identified mdfName.textIn mdfName.nameAt mdfRecords.rangesIn mdfRecords.joined mdfRecords.placeOf mdfRecords.anyDV
+    mdfRecords.inFront mdfRecords.runs mdfRecords.sizeOf mdfRecords.runWhole mdfRecords.runsWhole mdfRecords.pieces mdfRecords.withoutIds
+    mdfRecords.runRecords mdfRecords.sortedRecords mdfRecords.sortedIn mdfRecords.withId mdfRecords.ofBytes mdfRecords.frameOf mdfRecords.frameAt
+    mdfRecords.framesFrom mdfRecords.frames mdfRecords.isIdOf mdfRecords.equalIds mdfRecords.unsortedFrames mdfRecords.unsortedRecords mdfWalk.isMet
+    mdfWalk.tally mdfWalk.visit mdfWalk.entered mdfWalk.level mdfWalk.belowCN mdfWalk.belowCG mdfWalk.idSize mdfWalk.idSizeIn mdfWalk.belowDG
+    mdfWalk.walkOf planChannel.channelType planChannel.bitOffset planChannel.byteOffset planChannel.bitCount planChannel.channelFlags
+    planChannel.invalPosition planChannel.channelBytes planChannel.fits planChannel.isMasterType planChannel.keepsInval planChannel.width
+    planChannel.invalBit planChannel.treatment planColumns.withCounts planColumns.srcGroups planColumns.firstMaster planColumns.masterOf
+    planColumns.remoteLink planColumns.groupAt planColumns.remoteTime planColumns.timeOf planColumns.timeColumn planColumns.withTime
+    planColumns.decideSignal planColumns.decideComposition planColumns.decide planColumns.planChannels planColumns.planGroup planColumns.planGroups
+    planColumns.plan planColumns.omissionAddresses planColumns.omissionReasons planColumns.omissionWords planCopies.copyOf planCopies.withCopy
+    planCopies.isCopied planCopies.lostLinks planCopies.copyLinks planCopies.copyAt planCopies.copyRoot planCopies.copyRoots planCopies.historyFrom
+    planCopies.historyOf planCopies.columnCopies planCopies.isAttached planCopies.attachmentIn planCopies.attach planCopies.attachmentsFrom
+    planCopies.attachmentsOf planData.isNonempty planData.anyNonempty planData.signalsIn planData.dataIn planData.allDataIn planData.blocksIn
+    planGeometry.align8 planGeometry.powerIn planGeometry.stepOf planGeometry.perBlock planGeometry.fullPayload planGeometry.blockCount
+    planGeometry.perFull planGeometry.blockPayload planLayout.columnWidth planLayout.columnBlocks planLayout.dlSize planLayout.structureSize
+    planLayout.payloadSize planLayout.blocksEnd planLayout.placedFrom planLayout.structureEnd planLayout.dataEnd planLayout.mdSize
+    planLayout.pastCopies planLayout.fhPlace planLayout.layout resultFill.header resultFill.words resultFill.newLink
+    resultFill.newLinks resultFill.historyLink resultFill.copiedLinks resultFill.dataOf resultFill.copiedBytes resultFill.copiedBlocks
+    resultFill.mdBytes resultFill.fhBytes resultFill.dgBytes resultFill.cgAt resultFill.cgData resultFill.cgBytes resultFill.cnData
+    resultFill.cnBytes resultFill.blockLinks resultFill.columnPayload resultFill.dlBytes resultFill.dlBlocks resultFill.structureBlocks
+    resultFill.blockOf resultFill.payloadBlocks resultFill.dataBlocks resultFill.atBytes resultFill.attachmentBlocks resultFill.hdData
+    resultFill.hdBytes resultPayload.recordsOf resultPayload.cell resultPayload.cells resultPayload.payloads resultPayload.columnPayloads
+    resultResult.hdBlock resultResult.blocksOf resultResult.flat resultResult.fileOf resultResult.sourceGroupsOf resultResult.timeColumns
+    resultResult.blocksWritten resultResult.report resultResult.lentIn resultResult.decided resultResult.answer resultResult.workIn
+    resultResult.zeros resultResult.convert columnsOf leadsTo reasonFor
+times-each os n p f l g = untrue (g .kinded _ (there here) .typed)
+
+-- ---- a recording of which only each group's first channel is looked at: the walk met another
+abbrev firstOnly : List ℕ → List ℕ
+firstOnly [] = []
+firstOnly (c ∷ cs) = c ∷ []
+
+abbrev curtailed : List planColumns.SrcGroup → List planColumns.SrcGroup
+curtailed [] = []
+curtailed (g ∷ gs) =
+    record { dataGroup = g .dataGroup; number = g .number; at = g .at; channels = firstOnly (g .channels); records = g .records } ∷ curtailed gs
+
+abbrev pub LosesChannels : baseChecked.Checked resultResult.Decided → Type 0
+LosesChannels (baseChecked.ok d) =
+    (q : planColumns.Plan) (p : planLayout.Layout) (f l : List ℕ)
+    → Guaranteed args (record { groups = curtailed (d .groups); planned = q; laidOut = p }) f l → ⊥
+LosesChannels (baseChecked.refused number place) = ⊥
+
+in-single : (b a : ℕ) → In a (b ∷ []) → a ≡ b
+in-single b a here = refl
+
+not-first : (a : ℕ) (g : planColumns.SrcGroup) (b : ℕ) → g .channels ≡ b ∷ [] → (a ≡ b → ⊥) → (h : planColumns.SrcGroup) → In h (g ∷ [])
+    → In a (h .channels) → ⊥
+not-first a g b e n h here i = n (in-single b a (subst (In a) e i))
+
+pub loses-channels : LosesChannels (resultResult.decided args)
+unfolding
+    baseBlit.part baseBlit.blit baseChoice.ifLt baseChoice.ifLe baseChoice.ifEq baseField.leAt baseField.le mdfBlock.kindAt mdfBlock.sizeAt
+    mdfBlock.linksAt mdfBlock.linkAt mdfBlock.firstLink mdfBlock.dataAt mdfBlock.headerIn mdfBlock.lengthIn mdfBlock.wholeAt mdfBlock.wantedAt
+    mdfBlock.blockAt mdfChain.leafOf mdfChain.added mdfChain.fragmentAt mdfChain.listed mdfChain.isIn mdfChain.listIn mdfChain.chainFrom
+    mdfChain.chain mdfCount.sizeDT mdfCount.sizeDV mdfCount.quotient mdfCount.sortedCount mdfCount.countOne mdfCount.ofGroup mdfCount.tallies
+    mdfCount.countGroups mdfCount.countsFrom mdfCount.counts mdfGroup.addresses mdfGroup.channelsOf mdfGroup.groupsOf mdfGroup.upTo
+    mdfGroup.dataGroupsOf mdfGroup.dataGroups mdfGroup.recordId mdfGroup.groupFlags mdfGroup.samples mdfGroup.invalBytes mdfGroup.isStorage
+    mdfIdentification.dropWhile mdfIdentification.trimmed mdfIdentification.firstPart mdfIdentification.pastDot mdfIdentification.digitsFrom
+    mdfIdentification.digits mdfIdentification.number mdfIdentification.versionOf mdfIdentification.isAscii mdfIdentification.versionIn
+    mdfIdentification.identified mdfName.textIn mdfName.nameAt mdfRecords.rangesIn mdfRecords.joined mdfRecords.placeOf mdfRecords.anyDV
+    mdfRecords.inFront mdfRecords.runs mdfRecords.sizeOf mdfRecords.runWhole mdfRecords.runsWhole mdfRecords.pieces mdfRecords.withoutIds
+    mdfRecords.runRecords mdfRecords.sortedRecords mdfRecords.sortedIn mdfRecords.withId mdfRecords.ofBytes mdfRecords.frameOf mdfRecords.frameAt
+    mdfRecords.framesFrom mdfRecords.frames mdfRecords.isIdOf mdfRecords.equalIds mdfRecords.unsortedFrames mdfRecords.unsortedRecords mdfWalk.isMet
+    mdfWalk.tally mdfWalk.visit mdfWalk.entered mdfWalk.level mdfWalk.belowCN mdfWalk.belowCG mdfWalk.idSize mdfWalk.idSizeIn mdfWalk.belowDG
+    mdfWalk.walkOf planChannel.channelType planChannel.bitOffset planChannel.byteOffset planChannel.bitCount planChannel.channelFlags
+    planChannel.invalPosition planChannel.channelBytes planChannel.fits planChannel.isMasterType planChannel.keepsInval planChannel.width
+    planChannel.invalBit planChannel.treatment planColumns.withCounts planColumns.srcGroups planColumns.firstMaster planColumns.masterOf
+    planColumns.remoteLink planColumns.groupAt planColumns.remoteTime planColumns.timeOf planColumns.timeColumn planColumns.withTime
+    planColumns.decideSignal planColumns.decideComposition planColumns.decide planColumns.planChannels planColumns.planGroup planColumns.planGroups
+    planColumns.plan planColumns.omissionAddresses planColumns.omissionReasons planColumns.omissionWords planCopies.copyOf planCopies.withCopy
+    planCopies.isCopied planCopies.lostLinks planCopies.copyLinks planCopies.copyAt planCopies.copyRoot planCopies.copyRoots planCopies.historyFrom
+    planCopies.historyOf planCopies.columnCopies planCopies.isAttached planCopies.attachmentIn planCopies.attach planCopies.attachmentsFrom
+    planCopies.attachmentsOf planData.isNonempty planData.anyNonempty planData.signalsIn planData.dataIn planData.allDataIn planData.blocksIn
+    planGeometry.align8 planGeometry.powerIn planGeometry.stepOf planGeometry.perBlock planGeometry.fullPayload planGeometry.blockCount
+    planGeometry.perFull planGeometry.blockPayload planLayout.columnWidth planLayout.columnBlocks planLayout.dlSize planLayout.structureSize
+    planLayout.payloadSize planLayout.blocksEnd planLayout.placedFrom planLayout.structureEnd planLayout.dataEnd planLayout.mdSize
+    planLayout.pastCopies planLayout.fhPlace planLayout.layout resultFill.header resultFill.words resultFill.newLink
+    resultFill.newLinks resultFill.historyLink resultFill.copiedLinks resultFill.dataOf resultFill.copiedBytes resultFill.copiedBlocks
+    resultFill.mdBytes resultFill.fhBytes resultFill.dgBytes resultFill.cgAt resultFill.cgData resultFill.cgBytes resultFill.cnData
+    resultFill.cnBytes resultFill.blockLinks resultFill.columnPayload resultFill.dlBytes resultFill.dlBlocks resultFill.structureBlocks
+    resultFill.blockOf resultFill.payloadBlocks resultFill.dataBlocks resultFill.atBytes resultFill.attachmentBlocks resultFill.hdData
+    resultFill.hdBytes resultPayload.recordsOf resultPayload.cell resultPayload.cells resultPayload.payloads resultPayload.columnPayloads
+    resultResult.hdBlock resultResult.blocksOf resultResult.flat resultResult.fileOf resultResult.sourceGroupsOf resultResult.timeColumns
+    resultResult.blocksWritten resultResult.report resultResult.lentIn resultResult.decided resultResult.answer resultResult.workIn
+    resultResult.zeros resultResult.convert columnsOf leadsTo reasonFor
+loses-channels q p f l g =
+    let r = g .met _ refl .channels 336 (there (there (there here))) in
+    not-first 336 _ 496 refl (λ e. omega (arith, e)) (r .0) (r .1) (r .2)
 
 -- ---- "one that omits each channel": the signal has no reason to be omitted, whatever is listed, placed and written
 
@@ -231,18 +351,18 @@ unfolding
     planChannel.invalBit planChannel.treatment planColumns.withCounts planColumns.srcGroups planColumns.firstMaster planColumns.masterOf
     planColumns.remoteLink planColumns.groupAt planColumns.remoteTime planColumns.timeOf planColumns.timeColumn planColumns.withTime
     planColumns.decideSignal planColumns.decideComposition planColumns.decide planColumns.planChannels planColumns.planGroup planColumns.planGroups
-    planColumns.plan planColumns.omissionAddresses planColumns.omissionReasons planColumns.omissionWords planCopies.copyOf planCopies.placed
+    planColumns.plan planColumns.omissionAddresses planColumns.omissionReasons planColumns.omissionWords planCopies.copyOf planCopies.withCopy
     planCopies.isCopied planCopies.lostLinks planCopies.copyLinks planCopies.copyAt planCopies.copyRoot planCopies.copyRoots planCopies.historyFrom
     planCopies.historyOf planCopies.columnCopies planCopies.isAttached planCopies.attachmentIn planCopies.attach planCopies.attachmentsFrom
     planCopies.attachmentsOf planData.isNonempty planData.anyNonempty planData.signalsIn planData.dataIn planData.allDataIn planData.blocksIn
     planGeometry.align8 planGeometry.powerIn planGeometry.stepOf planGeometry.perBlock planGeometry.fullPayload planGeometry.blockCount
     planGeometry.perFull planGeometry.blockPayload planLayout.columnWidth planLayout.columnBlocks planLayout.dlSize planLayout.structureSize
     planLayout.payloadSize planLayout.blocksEnd planLayout.placedFrom planLayout.structureEnd planLayout.dataEnd planLayout.mdSize
-    planLayout.mdPlace planLayout.fhPlace planLayout.structurePlace planLayout.layout resultFill.header resultFill.words resultFill.newLink
+    planLayout.pastCopies planLayout.fhPlace planLayout.layout resultFill.header resultFill.words resultFill.newLink
     resultFill.newLinks resultFill.historyLink resultFill.copiedLinks resultFill.dataOf resultFill.copiedBytes resultFill.copiedBlocks
     resultFill.mdBytes resultFill.fhBytes resultFill.dgBytes resultFill.cgAt resultFill.cgData resultFill.cgBytes resultFill.cnData
     resultFill.cnBytes resultFill.blockLinks resultFill.columnPayload resultFill.dlBytes resultFill.dlBlocks resultFill.structureBlocks
-    resultFill.framed resultFill.payloadBlocks resultFill.dataBlocks resultFill.atBytes resultFill.attachmentBlocks resultFill.hdData
+    resultFill.blockOf resultFill.payloadBlocks resultFill.dataBlocks resultFill.atBytes resultFill.attachmentBlocks resultFill.hdData
     resultFill.hdBytes resultPayload.recordsOf resultPayload.cell resultPayload.cells resultPayload.payloads resultPayload.columnPayloads
     resultResult.hdBlock resultResult.blocksOf resultResult.flat resultResult.fileOf resultResult.sourceGroupsOf resultResult.timeColumns
     resultResult.blocksWritten resultResult.report resultResult.lentIn resultResult.decided resultResult.answer resultResult.workIn
@@ -281,18 +401,18 @@ unfolding
     planChannel.invalBit planChannel.treatment planColumns.withCounts planColumns.srcGroups planColumns.firstMaster planColumns.masterOf
     planColumns.remoteLink planColumns.groupAt planColumns.remoteTime planColumns.timeOf planColumns.timeColumn planColumns.withTime
     planColumns.decideSignal planColumns.decideComposition planColumns.decide planColumns.planChannels planColumns.planGroup planColumns.planGroups
-    planColumns.plan planColumns.omissionAddresses planColumns.omissionReasons planColumns.omissionWords planCopies.copyOf planCopies.placed
+    planColumns.plan planColumns.omissionAddresses planColumns.omissionReasons planColumns.omissionWords planCopies.copyOf planCopies.withCopy
     planCopies.isCopied planCopies.lostLinks planCopies.copyLinks planCopies.copyAt planCopies.copyRoot planCopies.copyRoots planCopies.historyFrom
     planCopies.historyOf planCopies.columnCopies planCopies.isAttached planCopies.attachmentIn planCopies.attach planCopies.attachmentsFrom
     planCopies.attachmentsOf planData.isNonempty planData.anyNonempty planData.signalsIn planData.dataIn planData.allDataIn planData.blocksIn
     planGeometry.align8 planGeometry.powerIn planGeometry.stepOf planGeometry.perBlock planGeometry.fullPayload planGeometry.blockCount
     planGeometry.perFull planGeometry.blockPayload planLayout.columnWidth planLayout.columnBlocks planLayout.dlSize planLayout.structureSize
     planLayout.payloadSize planLayout.blocksEnd planLayout.placedFrom planLayout.structureEnd planLayout.dataEnd planLayout.mdSize
-    planLayout.mdPlace planLayout.fhPlace planLayout.structurePlace planLayout.layout resultFill.header resultFill.words resultFill.newLink
+    planLayout.pastCopies planLayout.fhPlace planLayout.layout resultFill.header resultFill.words resultFill.newLink
     resultFill.newLinks resultFill.historyLink resultFill.copiedLinks resultFill.dataOf resultFill.copiedBytes resultFill.copiedBlocks
     resultFill.mdBytes resultFill.fhBytes resultFill.dgBytes resultFill.cgAt resultFill.cgData resultFill.cgBytes resultFill.cnData
     resultFill.cnBytes resultFill.blockLinks resultFill.columnPayload resultFill.dlBytes resultFill.dlBlocks resultFill.structureBlocks
-    resultFill.framed resultFill.payloadBlocks resultFill.dataBlocks resultFill.atBytes resultFill.attachmentBlocks resultFill.hdData
+    resultFill.blockOf resultFill.payloadBlocks resultFill.dataBlocks resultFill.atBytes resultFill.attachmentBlocks resultFill.hdData
     resultFill.hdBytes resultPayload.recordsOf resultPayload.cell resultPayload.cells resultPayload.payloads resultPayload.columnPayloads
     resultResult.hdBlock resultResult.blocksOf resultResult.flat resultResult.fileOf resultResult.sourceGroupsOf resultResult.timeColumns
     resultResult.blocksWritten resultResult.report resultResult.lentIn resultResult.decided resultResult.answer resultResult.workIn

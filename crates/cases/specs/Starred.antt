@@ -118,17 +118,17 @@ unfolding
     planColumns.withCounts planColumns.srcGroups planColumns.firstMaster planColumns.masterOf planColumns.remoteLink planColumns.groupAt
     planColumns.remoteTime planColumns.timeOf planColumns.timeColumn planColumns.withTime planColumns.decideSignal planColumns.decideComposition
     planColumns.decide planColumns.planChannels planColumns.planGroup planColumns.planGroups planColumns.plan planColumns.omissionAddresses
-    planColumns.omissionReasons planColumns.omissionWords planCopies.copyOf planCopies.placed planCopies.isCopied planCopies.lostLinks
+    planColumns.omissionReasons planColumns.omissionWords planCopies.copyOf planCopies.withCopy planCopies.isCopied planCopies.lostLinks
     planCopies.copyLinks planCopies.copyAt planCopies.copyRoot planCopies.copyRoots planCopies.historyFrom planCopies.historyOf planCopies.columnCopies
     planCopies.isAttached planCopies.attachmentIn planCopies.attach planCopies.attachmentsFrom planCopies.attachmentsOf planData.isNonempty
     planData.anyNonempty planData.signalsIn planData.dataIn planData.allDataIn planData.blocksIn planGeometry.align8 planGeometry.powerIn
     planGeometry.stepOf planGeometry.perBlock planGeometry.fullPayload planGeometry.blockCount planGeometry.perFull planGeometry.blockPayload
     planLayout.columnWidth planLayout.columnBlocks planLayout.dlSize planLayout.structureSize planLayout.payloadSize planLayout.blocksEnd
-    planLayout.placedFrom planLayout.structureEnd planLayout.dataEnd planLayout.mdSize planLayout.mdPlace planLayout.fhPlace planLayout.structurePlace
+    planLayout.placedFrom planLayout.structureEnd planLayout.dataEnd planLayout.mdSize planLayout.pastCopies planLayout.fhPlace
     planLayout.layout resultFill.header resultFill.words resultFill.newLink resultFill.newLinks resultFill.historyLink resultFill.copiedLinks
     resultFill.dataOf resultFill.copiedBytes resultFill.copiedBlocks resultFill.mdBytes resultFill.fhBytes resultFill.dgBytes resultFill.cgAt
     resultFill.cgData resultFill.cgBytes resultFill.cnData resultFill.cnBytes resultFill.blockLinks resultFill.columnPayload resultFill.dlBytes
-    resultFill.dlBlocks resultFill.structureBlocks resultFill.framed resultFill.payloadBlocks resultFill.dataBlocks resultFill.atBytes
+    resultFill.dlBlocks resultFill.structureBlocks resultFill.blockOf resultFill.payloadBlocks resultFill.dataBlocks resultFill.atBytes
     resultFill.attachmentBlocks resultFill.hdData resultFill.hdBytes resultListing.digitsOf resultListing.decimal resultListing.columnLine
     resultListing.columnLines resultListing.omissionLines resultListing.planLines resultPayload.recordsOf resultPayload.cell resultPayload.cells
     resultPayload.payloads resultPayload.columnPayloads resultResult.hdBlock resultResult.blocksOf resultResult.flat resultResult.fileOf

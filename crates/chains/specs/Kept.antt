@@ -4,7 +4,7 @@ use mathlib.Core.List.{List}
 use lib.ListN.{length}
 use Rattle.base.specs.Blit.{blit}
 use Rattle.mdf.specs.Chain.{Fragment, Found, found, stopped}
-use Rattle.mdf.specs.Words.{fragmentWords}
+use Rattle.work_words.specs.Words.{fragmentWords}
 use Rattle.chains.specs.declared.chain.Chained.{Chained}
 use Rattle.chains.specs.declared.chain.Chained.the-variants.{Stopped, Done}
 

@@ -9,7 +9,7 @@ use Rattle.base.specs.Choice.{ifEq}
 use Rattle.base.specs.Blit.{blit}
 use Rattle.base.specs.BlitLaws.{length-blit, blit-append}
 use Rattle.mdf.specs.Chain.{Kind, dt, dv, Fragment, Found, found, stopped}
-use Rattle.mdf.specs.Words.{kindWord, kindOf, fragmentWords, fragmentsOf}
+use Rattle.work_words.specs.Words.{kindWord, kindOf, fragmentWords, fragmentsOf}
 use Rattle.chains.specs.declared.chain.Chained.{Chained}
 use Rattle.chains.specs.declared.chain.Chained.the-variants.{Stopped, Done}
 use Rattle.chains.specs.Kept.{kept, given, laid}

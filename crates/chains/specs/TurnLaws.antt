@@ -15,7 +15,7 @@ use Rattle.base.specs.Blit.{blit}
 use Rattle.base.specs.Field.{leAt}
 use Rattle.base.specs.Checked.{Checked, ok, refused, andThen, Verdict, fine}
 use Rattle.mdf.specs.Block.{linksAt, linkAt, firstLink, lengthIn}
-use Rattle.mdf.specs.Words.{kindWord, fragmentWords}
+use Rattle.work_words.specs.Words.{kindWord, fragmentWords}
 use Rattle.mdf.specs.Chain.{Kind, Fragment, Chain, Found, found, stopped, onFound}
 use Rattle.mdf.specs.Chain.{Limits, added, fragmentAt, listed, isIn, chainFrom, chain}
 use Rattle.fields.specs.declared.Check.{Check}
@@ -169,7 +169,7 @@ module _ (n : ℕ) (w : List ℕ) {w' : List ℕ} where
   after-done (stopped x p fs) f F h e = absurd (let z : _≡_ {A = ℕ} 0 1 = cc in omega arith)
 
 -- ---- the links of a DL: k of them from p on; m is what the whole list gives
-listed-open : (c : Chain) (l : Limits) (s : List ℕ) (n k p : ℕ) → 0 < k
+pub listed-open : (c : Chain) (l : Limits) (s : List ℕ) (n k p : ℕ) → 0 < k
     → listed c l s n k p [] ≡ onFound (entryAt c l s n (leAt 8 s p)) (λ gs. listed c l s n (k - 1) (p + 8) gs)
 unfolding listed entryAt
 listed-open c l s n zero p h = absurd (omega arith)

@@ -15,7 +15,7 @@ ghost use lib.ListN.{set};
 ghost use Rattle.fields.specs.Answer.{verdictOf};
 ghost use Rattle.mdf.specs.Block.{linksAt};
 ghost use Rattle.mdf.specs.Chain.{added, fragmentAt, listed, isIn, chain};
-ghost use Rattle.mdf.specs.Words.{kindWord};
+ghost use Rattle.work_words.specs.Words.{kindWord};
 ghost use Rattle.chains.specs.Node.{which, limitsFor, kindOf, fragmentOf};
 ghost use Rattle.chains.specs.Kept.{kept, Given, laid};
 ghost use Rattle.chains.specs.Turn.{metIn, entryAt, listAt, listTurn, headerTurn, turnAt, Moved, laidTurn};

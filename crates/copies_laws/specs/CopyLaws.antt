@@ -14,7 +14,7 @@ use Rattle.plan.specs.Columns.{Column}
 use Rattle.plan.specs.Copies.{
   Copies,
   copyOf,
-  placed,
+  withCopy,
   isCopied,
   lostLinks,
   copyLinks,
@@ -53,7 +53,7 @@ copied-grown s k (some a) m m' new f e = grown-same s k (ok-same e)
 abbrev pub fresh : List ℕ → List ℕ → ℕ → Copies → Checked Copies → Checked Copies
 fresh s way a m links =
     pick (isIn a way) (refused 16 a) (andThen (wholeAt s a) (λ _. pick (isCopied (kindAt s a))
-    (ifLt (length (m .memo) + length way) mostCopies (andThen links (λ n. ok (placed a (sizeAt s a) n))) (refused 19 a)) (ok m)))
+    (ifLt (length (m .memo) + length way) mostCopies (andThen links (λ n. ok (withCopy a (sizeAt s a) n))) (refused 19 a)) (ok m)))
 
 fresh-grown : (s way : List ℕ) (a : ℕ) (m m' : Copies) (links : Checked Copies) → ((n : Copies) → links ≡ ok n → Grown s (suc (length way)) m n)
     → fresh s way a m links ≡ ok m' → Grown s (length way) m m'

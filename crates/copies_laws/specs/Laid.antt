@@ -8,7 +8,7 @@ use lib.ListN.{length, drop, length-append}
 use lib.Seq.{drop-append-seam}
 use Rattle.mdf.specs.Block.{sizeAt}
 use Rattle.plan.specs.Geometry.{align8}
-use Rattle.plan.specs.Copies.{Copy, Copies, placed}
+use Rattle.plan.specs.Copies.{Copy, Copies, withCopy}
 use Rattle.result.specs.Guarantee.{In, here, there}
 use Rattle.copies_laws.specs.AnswerLaws.{Whole}
 
@@ -99,8 +99,8 @@ grown-then {s} {k} {m} {n} {o} f g = record {
 
 -- the block itself, after what it links to, which was begun with one block more on the way
 pub grown-placed : {s : List ℕ} {k : ℕ} {m n : Copies} (a : ℕ) → Whole s a → length (m .memo) + k < 2048 → Grown s (suc k) m n
-    → Grown s k m (placed a (sizeAt s a) n)
-unfolding Laid placed
+    → Grown s k m (withCopy a (sizeAt s a) n)
+unfolding Laid withCopy
 grown-placed {s} {k} {m} {n} a w h g =
     let h : length (m .memo) + suc k ≤ 2048 = omega arith in
     let q : length (n .memo) + suc k ≤ 2048 = g .few h in

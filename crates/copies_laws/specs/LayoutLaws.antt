@@ -12,7 +12,7 @@ use Rattle.plan.specs.Columns.{Column}
 use Rattle.plan.specs.Data.{blocksIn}
 use Rattle.plan.specs.Geometry.{align8}
 use Rattle.plan.specs.Copies.{Copy, copies, copyRoot, historyOf, columnCopies, attachmentsOf}
-use Rattle.plan.specs.Layout.{Placed, placedFrom, structureEnd, dataEnd, mdSize, Layout, mdPlace, fhPlace, structurePlace, layout}
+use Rattle.plan.specs.Layout.{Placed, placedFrom, structureEnd, dataEnd, mdSize, Layout, pastCopies, fhPlace, layout}
 use Rattle.result.specs.Fill.{copiedBlocks, structureBlocks, dataBlocks, attachmentBlocks}
 use Rattle.result.specs.Ordered.{Ordered}
 use Rattle.result.specs.Result.{Args, memoOf, hdBlock, blocksOf}
@@ -22,15 +22,7 @@ use Rattle.copies_laws.specs.Laid.{Laid, align-past, align-near, Grown, 
 use Rattle.copies_laws.specs.CopyLaws.{root-grown, past-grown, columns-grown}
 use Rattle.copies_laws.specs.AttachLaws.{ownCopies, AllAttached, all-attached}
 use Rattle.copies_laws.specs.LengthLaws.{length-md, length-fh, length-hd, InImage}
-use Rattle.copies_laws.specs.OrderLaws.{
-  ordered-to,
-  ordered-append,
-  ordered-cons,
-  copied-ordered,
-  attached-ordered,
-  structure-ordered,
-  placed-columns,
-}
+use Rattle.copies_laws.specs.OrderLaws.{ordered-to, ordered-append, ordered-cons, copied-ordered, attached-ordered, structure-ordered, placed-columns, }
 use Rattle.copies_laws.specs.PlacedLaws.{structures-near, Within, placed-within}
 
 -- the parts of a layout, for n bytes of history text
@@ -40,18 +32,18 @@ pub record LaidOut (s : List ℕ) (size n : ℕ) (cs : List Column) (l : Layout)
   pub md : l .md ≡ align8 (l .past .made .next)
   pub fh : l .fh ≡ l .md + mdSize n
   pub metadata : columnCopies s cs (copies (l .past .made .memo) (l .fh + 56)) ≡ ok (l .metadata)
-  pub metadataEnd : l .metadataEnd ≡ structureEnd s size (structurePlace (l .metadata)) cs
-  pub placed : l .placed ≡ placedFrom s size (structurePlace (l .metadata)) (l .metadataEnd) cs
+  pub metadataEnd : l .metadataEnd ≡ structureEnd s size (pastCopies (l .metadata)) cs
+  pub placed : l .placed ≡ placedFrom s size (pastCopies (l .metadata)) (l .metadataEnd) cs
   pub attached : attachmentsOf s (linkAt s 64 3) (copies (l .metadata .memo) (dataEnd s size (l .metadataEnd) cs)) ≡ ok (l .attached)
   pub fileSize : l .fileSize ≡ l .attached .made .next
 
 pub laid-out : (s : List ℕ) (size n : ℕ) (cs : List Column) (l : Layout) → layout s size n cs ≡ ok l → LaidOut s size n cs l
-unfolding layout mdPlace fhPlace
+unfolding layout pastCopies fhPlace
 laid-out s size n cs l e =
     let a = then-ok (copyRoot s (linkAt s 64 5) (copies [] 168)) _ e in
     let b = then-ok (historyOf s (linkAt s 64 1) (a .0)) _ (a .2) in
     let c = then-ok (columnCopies s cs (copies (b .0 .made .memo) (fhPlace (b .0 .made) n + 56))) _ (b .2) in
-    let e1 : ℕ = dataEnd s size (structureEnd s size (structurePlace (c .0)) cs) cs in
+    let e1 : ℕ = dataEnd s size (structureEnd s size (pastCopies (c .0)) cs) cs in
     let d = then-ok (attachmentsOf s (linkAt s 64 3) (copies (c .0 .memo) e1)) _ (c .2) in
     rw (← ok-same (d .2)) (record {
       comment = a .1;
@@ -106,8 +98,8 @@ module _ {s : List ℕ} {size n : ℕ} {cs : List Column} {l : Layout} (o : Laid
         ordered-to 168 (l .past .made .next) (l .md) _ (copied-ordered s chain memo fh 168 _ (l .past .made .memo) history-laid) h
 
     pub columns-ordered :
-        Ordered (l .fh + 56) (copiedBlocks s chain memo fh (drop (length (l .past .made .memo)) (l .metadata .memo))) (structurePlace (l .metadata))
-    unfolding structurePlace
+        Ordered (l .fh + 56) (copiedBlocks s chain memo fh (drop (length (l .past .made .memo)) (l .metadata .memo))) (pastCopies (l .metadata))
+    unfolding pastCopies
     columns-ordered =
         ordered-to _ (l .metadata .next) _ _
         (copied-ordered s chain memo fh _ _ (drop (length (l .past .made .memo)) (l .metadata .memo)) columns-laid)
@@ -119,9 +111,9 @@ module _ {s : List ℕ} {size n : ℕ} {cs : List Column} {l : Layout} (o : Laid
 
   -- "Then per column DG 64, CG 104 (112 with a master), CN 160", DL
   pub structures-ordered : (memo : List Copy) (all : List Placed) → ((c : Column) → In c cs → InImage s c)
-      → Ordered (structurePlace (l .metadata)) (structureBlocks s size memo all (l .placed)) (l .metadataEnd)
+      → Ordered (pastCopies (l .metadata)) (structureBlocks s size memo all (l .placed)) (l .metadataEnd)
   structures-ordered memo all f =
-      rw (o .placed, o .metadataEnd) (structure-ordered s size memo all (structurePlace (l .metadata)) _ cs f)
+      rw (o .placed, o .metadataEnd) (structure-ordered s size memo all (pastCopies (l .metadata)) _ cs f)
 
   -- the columns planned are those placed
   pub columns-placed : columnsPlaced (l .placed) ≡ cs
@@ -143,15 +135,15 @@ module _ {s : List ℕ} {size n : ℕ} {cs : List Column} {l : Layout} (o : Laid
 
   -- past the columns' DG, CG, CN and DL, under the limit of blocks
   pub metadataEnd-near : {u : Unit {0}} → blocksIn s size cs ≡ ok u → l .metadataEnd ≤ 549755828494 + n + length cs * 34359738744
-  unfolding structurePlace
+  unfolding pastCopies
   metadataEnd-near b =
-      omega (arith, o .metadataEnd, metadata-near, align-near (l .metadata .next), structures-near s size (structurePlace (l .metadata)) cs b)
+      omega (arith, o .metadataEnd, metadata-near, align-near (l .metadata .next), structures-near s size (pastCopies (l .metadata)) cs b)
 
   -- every column's DG, CG, CN and DL stand between the metadata and its end
-  pub columns-within : {p : Placed} → In p (l .placed) → Within s size (structurePlace (l .metadata)) (l .metadataEnd) p
+  pub columns-within : {p : Placed} → In p (l .placed) → Within s size (pastCopies (l .metadata)) (l .metadataEnd) p
   columns-within {p} i =
-      subst (λ (e : ℕ). Within s size (structurePlace (l .metadata)) e p) (sym (o .metadataEnd))
-      (placed-within s size (structurePlace (l .metadata)) (l .metadataEnd) cs (subst (In p) (o .placed) i))
+      subst (λ (e : ℕ). Within s size (pastCopies (l .metadata)) e p) (sym (o .metadataEnd))
+      (placed-within s size (pastCopies (l .metadata)) (l .metadataEnd) cs (subst (In p) (o .placed) i))
 
   -- the end of the file: past the data of columns, at most 2,048 copies and 64 attachments that stand in the image
   pub file-near : l .fileSize ≤ dataEnd s size (l .metadataEnd) cs + 549755828224 + 64 * (length s + 14)

@@ -27,7 +27,7 @@ use Rattle.plan.specs.Copies.{
   Copy,
   Copies,
   copyOf,
-  placed,
+  withCopy,
   isCopied,
   lostLinks,
   copyLinks,
@@ -220,8 +220,8 @@ none-kept s a m m' z e = (kept-same s (ap (λ (x : Copies). x .memo) (ok-same e)
 -- the block itself, after what it links to
 placed-kept : (s : List ℕ) (a size : ℕ) (m n : Copies) → (a ≡ 0 → ⊥) → isCopied (kindAt s a) ≡ true → Whole s a → Kept s (m .memo) (n .memo)
     → ((i : ℕ) → i < linksAt s a - lostLinks s a → Followed s (n .memo) (leAt 8 s (a + 24 + 8 * lostLinks s a + 8 * i)))
-    → Kept s (m .memo) (placed a size n .memo) × Followed s (placed a size n .memo) a
-unfolding placed linkAt
+    → Kept s (m .memo) (withCopy a size n .memo) × Followed s (withCopy a size n .memo) a
+unfolding withCopy linkAt
 placed-kept s a size m n z k w f g = (
   kept-then f (kept-placed s (n .memo) a (align8 (n .next)) z k w (λ i p q.
       subst (λ (at : ℕ). Followed s (n .memo) (leAt 8 s at)) (omega arith) (g (i - lostLinks s a) (omega arith)))),
@@ -237,7 +237,7 @@ fresh-kept s way a m m' links z f e =
     go (isCopied (kindAt s a)) refl (whole-fits s a (r .1)) (r .2)
   where
     go : (t : Bool) → isCopied (kindAt s a) ≡ t → Whole s a
-        → pick t (ifLt (length (m .memo) + length way) mostCopies (andThen links (λ n. ok (placed a (sizeAt s a) n))) (refused 19 a)) (ok m) ≡ ok m'
+        → pick t (ifLt (length (m .memo) + length way) mostCopies (andThen links (λ n. ok (withCopy a (sizeAt s a) n))) (refused 19 a)) (ok m) ≡ ok m'
         → Kept s (m .memo) (m' .memo) × Followed s (m' .memo) a
     go true k w q =
         let l = then-ok links _ (lt-first _ _ _ _ q refused≢ok .1) in

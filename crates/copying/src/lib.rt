@@ -15,7 +15,7 @@ ghost use mathlib.Core.Option.{none};
 ghost use lib.ListN.{length};
 ghost use Rattle.base.specs.Blit.{blit, part};
 ghost use Rattle.mdf.specs.Block.{sizeAt, linksAt};
-ghost use Rattle.plan.specs.CopyWords.{historyAt};
+ghost use Rattle.work_words.specs.CopyWords.{historyAt};
 ghost use Rattle.placing.specs.Standing.{copiesIn};
 ghost use Rattle.result.specs.Fill.{newLink, newLinks, historyLink, firstNew, copiedLinks, dataOf, copiedBytes, atBytes};
 

@@ -23,7 +23,7 @@ use Rattle.plan.specs.Columns.{Column}
 use Rattle.plan.specs.Copies.{Copy}
 use Rattle.plan.specs.Layout.{Placed, cgOf, cnOf, dlOf, columnWidth, columnBlocks, payloadSize}
 use Rattle.result.specs.Payload.{columnPayloads}
-use Rattle.result.specs.Fill.{Block, framed, payloadBlocks, blockLinks, columnPayload, dgBytes, cgBytes, dlBlocks}
+use Rattle.result.specs.Fill.{Block, blockOf, payloadBlocks, blockLinks, columnPayload, dgBytes, cgBytes, dlBlocks}
 use Rattle.result.specs.Links.{GroupFields, groupFields}
 use Rattle.result.specs.Due.{duePayload, dueKind, evenBlocks, blocksDue, equalDue, fragmentsDue, keptByte, groupDue}
 use Rattle.result.specs.Guarantee.{Stands, In, here, there}
@@ -73,9 +73,9 @@ blocks-in : {f : List ℕ} (k : Kind) (kind a : ℕ) (ps : List (List ℕ))
 unfolding payloadBlocks fragmentsOf rangesIn
 blocks-in k kind a [] blocks = refl
 blocks-in {f} k kind a (p ∷ ps) blocks =
-    let st : Stands f a (framed kind p) = blocks _ here in
+    let st : Stands f a (blockOf kind p) = blocks _ here in
     let long = length-framed kind p in
-    ranges-in f (framedFragment k a p) (fragmentsOf k (a + (24 + length p)) ps) (omega (arith, long, stands-inside (framed kind p) st (omega arith)))
+    ranges-in f (framedFragment k a p) (fragmentsOf k (a + (24 + length p)) ps) (omega (arith, long, stands-inside (blockOf kind p) st (omega arith)))
     (blocks-in k kind (a + (24 + length p)) ps (λ b i. blocks b (there i)))
 
 -- the links to them are not 0

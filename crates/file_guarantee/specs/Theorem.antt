@@ -16,7 +16,7 @@ use Rattle.mdf.specs.Block.{HD}
 use Rattle.plan.specs.Channel.{width}
 use Rattle.plan.specs.Columns.{Column}
 use Rattle.plan.specs.Data.{isNonempty}
-use Rattle.plan.specs.Layout.{Layout, Placed, placedFrom, structurePlace, columnWidth, payloadSize}
+use Rattle.plan.specs.Layout.{Layout, Placed, placedFrom, pastCopies, columnWidth, payloadSize}
 use Rattle.result.specs.Payload.{recordsOf, cell}
 use Rattle.result.specs.Fill.{Block, structureBlocks, dataBlocks}
 use Rattle.result.specs.Due.{duePayload, FrontDue}
@@ -108,7 +108,7 @@ module _ (x : Args) (d : Decided) (k : Known x d) (out : List ℕ) (room : d .la
       }
 
   abbrev placed' : List Placed
-  placed' = placedFrom (x .image) (x .blockSize) (structurePlace (l .metadata)) (l .metadataEnd) (d .planned .columns)
+  placed' = placedFrom (x .image) (x .blockSize) (pastCopies (l .metadata)) (l .metadataEnd) (d .planned .columns)
 
   made : (b : Block) → In b (structureBlocks (x .image) (x .blockSize) (memoOf l) (l .placed) (l .placed)) → Stands f (b .at) (b .bytes)
   made b i = filled b (in-structure x l i)
@@ -121,10 +121,10 @@ module _ (x : Args) (d : Decided) (k : Known x d) (out : List ℕ) (room : d .la
       let e : l .placed ≡ placed' = o x d k .placed in
       let copied = copy-stands x (d .planned .columns) l (o x d k) f bytes (ordered x d k) (file-below x d k) filled in
       subst (λ (ps : List Placed). AllStand f 0 (fileColumns (x .image) (x .blockSize) ps)) (sym e)
-      (stand-from f 0 (structurePlace (l .metadata)) (fileColumns (x .image) (x .blockSize) placed') (omega arith)
+      (stand-from f 0 (pastCopies (l .metadata)) (fileColumns (x .image) (x .blockSize) placed') (omega arith)
       (columns-stand (x .image) (x .blockSize) (memoOf l) (l .placed)
       (new-small (x .image) f bytes (l .past .chain) (memoOf l) (l .fh) copied) (names-fine (x .image) f (l .past .chain) (memoOf l) (l .fh) copied)
-      (d .planned .columns) (structurePlace (l .metadata)) (l .metadataEnd)
+      (d .planned .columns) (pastCopies (l .metadata)) (l .metadataEnd)
       (λ p i. good p (subst (In p) (sym e) i))
       (λ b i. made b (subst (λ (ps : List Placed). In b (structureBlocks (x .image) (x .blockSize) (memoOf l) (l .placed) ps)) (sym e) i))
       (λ b i. dataIn b (subst (λ (ps : List Placed). In b (dataBlocks (x .image) (x .blockSize) ps)) (sym e) i))))

@@ -14,7 +14,7 @@ use Rattle.base.specs.ChoiceLaws.{lt-first}
 use Rattle.base.specs.Checked.{Checked, ok, refused, andThen}
 use Rattle.mdf.specs.Block.{kindAt, sizeAt, linksAt, linkAt, firstLink, headerIn, wholeAt}
 use Rattle.mdf.specs.Chain.{isIn}
-use Rattle.plan.specs.Copies.{kindAT, Copy, Copies, copies, copyOf, placed, isCopied, lostLinks, copyLinks, onCopy, copyAt, copyRoot, mostCopies, History, history, historyFrom, historyOf, Attachment, Attached, mostAttachments, isAttached, attachmentIn, attach, attachmentsFrom, attachmentsOf}
+use Rattle.plan.specs.Copies.{kindAT, Copy, Copies, copies, copyOf, withCopy, isCopied, lostLinks, copyLinks, onCopy, copyAt, copyRoot, mostCopies, History, history, historyFrom, historyOf, Attachment, Attached, mostAttachments, isAttached, attachmentIn, attach, attachmentsFrom, attachmentsOf}
 use Rattle.result.specs.Member.{In, here, there}
 use Rattle.result.specs.Recording.{Leads, Followed, isAT, attachedFrom}
 use Rattle.copies_laws.specs.Laid.{Grown}
@@ -66,15 +66,15 @@ copy-found a k (c ∷ cs) e =
     (λ q _. omega (arith, same-yes (c .from) a q))
     (λ _ q. omega (arith, copy-found a k cs q))
 
-placed-last : (a size : ℕ) (n : Copies) → 1 ≤ occurs a (froms (placed a size n .memo))
-unfolding placed froms occurs
+placed-last : (a size : ℕ) (n : Copies) → 1 ≤ occurs a (froms (withCopy a size n .memo))
+unfolding withCopy froms occurs
 placed-last a size n = rw (froms-append, occurs-append) (omega (arith, same-yes a a refl))
 
 -- what becomes of a block that was not copied before, by what becomes of its links
 abbrev fresh : List ℕ → ℕ → Copies → Checked Copies → Checked Copies
 fresh s a m links =
     pick (isIn a []) (refused 16 a) (andThen (wholeAt s a) (λ _. pick (isCopied (kindAt s a))
-    (ifLt (length (m .memo) + 0) mostCopies (andThen links (λ n. ok (placed a (sizeAt s a) n))) (refused 19 a)) (ok m)))
+    (ifLt (length (m .memo) + 0) mostCopies (andThen links (λ n. ok (withCopy a (sizeAt s a) n))) (refused 19 a)) (ok m)))
 
 fresh-copied : (s : List ℕ) (a : ℕ) (m m' : Copies) (links : Checked Copies) → fresh s a m links ≡ ok m' → isCopied (kindAt s a) ≡ true
     → 1 ≤ occurs a (froms (m' .memo))

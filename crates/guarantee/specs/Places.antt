@@ -12,7 +12,7 @@ use Rattle.mdf.specs.Chain.{Fragment}
 use Rattle.mdf.specs.Walk.{Item, dg, cg, cn}
 use Rattle.mdf.specs.Group.{DataGroup, upTo, dataGroupsOf}
 use Rattle.mdf.specs.Records.{sizeOf}
-use Rattle.plan.specs.Columns.{SrcGroup, Column, Signal, unsigned, signalData, sizeOfSignal}
+use Rattle.plan.specs.Columns.{SrcGroup, Column, Signal, noSignal, signalData, sizeOfSignal}
 use Rattle.plan.specs.Data.{signalIn}
 use Rattle.plan.specs.Geometry.{align8}
 use Rattle.plan.specs.Layout.{Placed, blocksEnd, signalEnd, placedFrom, dataEnd, structureSize, columnBlocks, payloadSize}
@@ -65,12 +65,12 @@ fragments-few fs (cn a ∷ is) d i = fragments-few fs is d i
 
 -- ---- where data lies
 pub signal-small : (s : List ℕ) (g : Signal) → signalIn s g ≡ fine → length s ≤ 4294967296 → sizeOfSignal g ≤ 1024 → length (signalBytes s g) ≤ 4398046511104
-signal-small s unsigned e h k = omega arith
+signal-small s noSignal e h k = omega arith
 signal-small s (signalData fs) e h k = omega (arith, length-signal s fs e, fragments-small s fs e h k)
 
 signal-end : (s : List ℕ) (g : Signal) (a : ℕ) → signalIn s g ≡ fine → length s ≤ 4294967296 → sizeOfSignal g ≤ 1024
     → (a ≤ signalEnd g a) × (signalEnd g a ≤ a + 4398046511136)
-signal-end s unsigned a e h k = (omega arith, omega arith)
+signal-end s noSignal a e h k = (omega arith, omega arith)
 signal-end s (signalData fs) a e h k =
     (omega (arith, align-past (a + (24 + sizeOf fs))), omega (arith, align-near (a + (24 + sizeOf fs)), fragments-small s fs e h k))
 

@@ -12,9 +12,9 @@ use Rattle.base.specs.CheckedLaws.{ok-same}
 use Rattle.mdf.specs.Block.{CG, CN}
 use Rattle.mdf.specs.Group.{DataGroup, dataGroups}
 use Rattle.mdf.specs.Walk.{Source, walk}
-use Rattle.plan.specs.Columns.{SrcGroup, srcGroups, Column, Signal, unsigned, signalData, sizeOfSignal, omissionWords}
+use Rattle.plan.specs.Columns.{SrcGroup, srcGroups, Column, Signal, noSignal, signalData, sizeOfSignal, omissionWords}
 use Rattle.plan.specs.Data.{signalIn}
-use Rattle.plan.specs.Layout.{Layout, Placed, placedFrom, structurePlace, structureEnd, structureSize, dataEnd, columnBlocks, payloadSize, cgSize, dlOf}
+use Rattle.plan.specs.Layout.{Layout, Placed, placedFrom, pastCopies, structureEnd, structureSize, dataEnd, columnBlocks, payloadSize, cgSize, dlOf}
 use Rattle.result.specs.Ordered.{Ordered}
 use Rattle.result.specs.Payload.{columnPayloads, signalBytes}
 use Rattle.result.specs.Fill.{dataBlocks, columnPayload}
@@ -79,7 +79,7 @@ module _ (x : Args) (d : Decided) (k : Known x d) where
   data-in-order : Ordered (d .laidOut .metadataEnd) (dataBlocks (x .image) (x .blockSize) (d .laidOut .placed))
       (dataEnd (x .image) (x .blockSize) (d .laidOut .metadataEnd) (d .planned .columns))
   data-in-order =
-      rw (o .placed) (data-ordered (x .image) (x .blockSize) (structurePlace (d .laidOut .metadata)) (d .laidOut .metadataEnd) (d .planned .columns)
+      rw (o .placed) (data-ordered (x .image) (x .blockSize) (pastCopies (d .laidOut .metadata)) (d .laidOut .metadataEnd) (d .planned .columns)
       (λ c i. sized c i .ready) (λ c i. sized c i .signals))
 
   pub ordered : Ordered 0 (blocksOf x (d .laidOut)) (d .laidOut .fileSize)
@@ -88,7 +88,7 @@ module _ (x : Args) (d : Decided) (k : Known x d) where
   -- ---- bounds
 
   pub in-placed : (p : Placed) → In p (d .laidOut .placed)
-      → In p (placedFrom (x .image) (x .blockSize) (structurePlace (d .laidOut .metadata)) (d .laidOut .metadataEnd) (d .planned .columns))
+      → In p (placedFrom (x .image) (x .blockSize) (pastCopies (d .laidOut .metadata)) (d .laidOut .metadataEnd) (d .planned .columns))
   in-placed p i = subst (In p) (o .placed) i
 
   pub column-in : (p : Placed) → In p (d .laidOut .placed) → In (p .column) (d .planned .columns)
@@ -99,9 +99,9 @@ module _ (x : Args) (d : Decided) (k : Known x d) where
   metadata-small = omega (arith, metadataEnd-near o (k .steps .blocksFine), k .fewColumns, k .steps .lent .textLength)
 
   -- and begins past the header
-  pub metadata-above : 0 < structurePlace (d .laidOut .metadata)
+  pub metadata-above : 0 < pastCopies (d .laidOut .metadata)
   metadata-above =
-      omega (arith, ordered-ends (d .laidOut .fh + 56) (structurePlace (d .laidOut .metadata)) _ (columns-ordered o (d .laidOut .past .chain) [] 0))
+      omega (arith, ordered-ends (d .laidOut .fh + 56) (pastCopies (d .laidOut .metadata)) _ (columns-ordered o (d .laidOut .past .chain) [] 0))
 
   data-there : (p : Placed) → In p (d .laidOut .placed) → DataWithin (d .laidOut .metadataEnd) (length (d .planned .columns)) p
   data-there p i = data-within (x .image) (x .blockSize) _ (d .laidOut .metadataEnd) (d .planned .columns) p (k .steps .imageLength) sized (in-placed p i)
@@ -153,7 +153,7 @@ module _ (x : Args) (d : Decided) (k : Known x d) where
       )
 
 signal-whole : (s : List ℕ) (g : Signal) → signalIn s g ≡ fine → length (signalBytes s g) ≡ signalSize g
-signal-whole s unsigned e = refl
+signal-whole s noSignal e = refl
 signal-whole s (signalData fs) e = length-signal s fs e
 
 few-comment : (x : Args) (d : Decided) → Known x d → length (d .laidOut .comment .memo) ≤ 2048

@@ -6,7 +6,7 @@ use lib.ListN.{length, getD}
 use Rattle.base.specs.Choice.{ifEq}
 use Rattle.base.specs.Blit.{blit}
 use Rattle.plan.specs.Channel.{channelBytes, keepsInval}
-use Rattle.plan.specs.PlanWords.{omissionsAt}
+use Rattle.work_words.specs.PlanWords.{omissionsAt}
 use Rattle.placing.specs.InWords.{blocksAt, payloadAt, signalAt}
 use Rattle.result.specs.Fill.{one}
 use Rattle.result.specs.Listing.{decimal}

@@ -13,10 +13,10 @@ use Rattle.base.specs.Choice.{pick, ifLt}
 use Rattle.base.specs.ChoiceLaws.{lt-yes, lt-no}
 use Rattle.base.specs.Checked.{Checked, ok, refused, andThen, Verdict, fine}
 use Rattle.base.specs.CheckedLaws.{ok-same, then-fine}
-use Rattle.mdf.specs.Words.{laidItems}
-use Rattle.plan.specs.CopyWords.{laidCopies}
+use Rattle.work_words.specs.Words.{laidItems}
+use Rattle.work_words.specs.CopyWords.{laidCopies}
 use Rattle.plan.specs.Columns.{Omission, omissionAddresses, omissionReasons, omissionWords}
-use Rattle.plan.specs.PlanWords.{signalFragments, laidPlan}
+use Rattle.work_words.specs.PlanWords.{signalFragments, laidPlan}
 use Rattle.result.specs.Listing.{planLines, listing}
 use Rattle.result.specs.Result.{Args, Decided, decided, lentIn, answer, zeros, workIn, workLeft}
 use Rattle.plan_laws.specs.Known.{Known, decided-known}

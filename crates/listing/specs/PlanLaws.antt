@@ -12,10 +12,10 @@ use Rattle.base.specs.Checked.{refused, fine}
 use Rattle.base.specs.Blit.{blit}
 use Rattle.base.specs.BlitLaws.{length-blit}
 use Rattle.mdf.specs.Chain.{Fragment}
-use Rattle.mdf.specs.Words.{fragmentWords}
-use Rattle.plan.specs.Columns.{Column, Signal, unsigned, signalData, sizeOfSignal, Omission, Plan}
+use Rattle.work_words.specs.Words.{fragmentWords}
+use Rattle.plan.specs.Columns.{Column, Signal, noSignal, signalData, sizeOfSignal, Omission, Plan}
 use Rattle.plan.specs.Data.{signalIn}
-use Rattle.plan.specs.PlanWords.{timeWord, masterWord, columnWords, columnsWords, signalFragments, omissionPairs, laidPlan}
+use Rattle.work_words.specs.PlanWords.{timeWord, masterWord, columnWords, columnsWords, signalFragments, omissionPairs, laidPlan}
 use Rattle.plan.specs.Layout.{columnBlocks}
 use Rattle.payload_laws.specs.SignalLaws.{length-signal}
 use Rattle.planning.specs.TimeWordLaws.{blit-among}
@@ -81,7 +81,7 @@ master-some m = let e : m + 1 - 1 ≡ m = omega arith in sym (eq-no _ _ _ _ (λ 
 
 -- the bytes of signal data that lies in the image
 length-bytes : (s : List ℕ) (g : Signal) → signalIn s g ≡ fine → length (signalBytes s g) ≡ signalBytesOf g
-length-bytes s unsigned e = refl
+length-bytes s noSignal e = refl
 length-bytes s (signalData fs) e = length-signal s fs e
 
 module _ (s : List ℕ) (size : ℕ) {w f : List ℕ} {m k : ℕ} {c : Column} (l : Line w f m k c) where

@@ -6,4 +6,3 @@ pub mod Walk
 pub mod Group
 pub mod Records
 pub mod Count
-pub mod Words

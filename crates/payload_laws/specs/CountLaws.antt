@@ -22,7 +22,7 @@ use Rattle.plan.specs.Columns.{SrcGroup, withCounts, srcGroups, Column}
 use Rattle.plan.specs.Data.{isNonempty, anyNonempty, recordsIn, signalsIn, dataIn, allDataIn}
 use Rattle.result.specs.Payload.{framedRecords, groupRecords, recordsOf}
 use Rattle.result.specs.Member.{In, here, there}
-use Rattle.result.specs.Recording.{Fill, Framed, kindsOf, FillSorted, Sorted}
+use Rattle.result.specs.Recording.{Fill, SharedRecords, kindsOf, FillSorted, Sorted}
 use Rattle.payload_laws.specs.Answers.{refused≢ok, ok-same, then-fine, then-ok, under}
 use Rattle.payload_laws.specs.Lists.{Long, in-append}
 use Rattle.payload_laws.specs.SortedLaws.{joined-length, sorted-fill, sorted-count, sorted-long, sorted-bytes, sorted-ranges}
@@ -217,7 +217,7 @@ framed-at s d k n (g ∷ i ∷ gs) fs e l q h =
       many = read-several s d k n g i gs fs e l q .many;
     }
 
-pub group-framed : {s : List ℕ} {ds : List DataGroup} (g : SrcGroup) → Member s ds g → 1 < length (g .dataGroup .groups) → Framed s g
+pub group-framed : {s : List ℕ} {ds : List DataGroup} (g : SrcGroup) → Member s ds g → 1 < length (g .dataGroup .groups) → SharedRecords s g
 unfolding recordsOf
 group-framed {s} g m h =
     let r = framed-at s (g .dataGroup .at) (g .number) (g .records) (addresses (g .dataGroup .groups)) (g .dataGroup .fragments) (m .counted) (m .within) (m .records)

@@ -12,7 +12,7 @@ use Rattle.base.specs.FieldLaws.{length-le}
 use Rattle.mdf.specs.Group.{samples, invalBytes}
 use Rattle.plan.specs.Channel.{fits, width}
 use Rattle.result.specs.Payload.{cells, payloads}
-use Rattle.result.specs.Fill.{Block, header, words, framed, blockLinks, payloadBlocks}
+use Rattle.result.specs.Fill.{Block, header, words, blockOf, blockLinks, payloadBlocks}
 use Rattle.result.specs.Ordered.{Ordered}
 use Rattle.payload_laws.specs.Lists.{Long, long-take, long-drop, together}
 use Rattle.payload_laws.specs.CellLaws.{length-cells, cells-append}
@@ -52,8 +52,8 @@ payloads-even s g c m (suc j) rs f l h =
 
 -- ---- blocks one after the other
 
-pub length-framed : (kind : ℕ) (p : List ℕ) → length (framed kind p) ≡ 24 + length p
-unfolding framed
+pub length-framed : (kind : ℕ) (p : List ℕ) → length (blockOf kind p) ≡ 24 + length p
+unfolding blockOf
 length-framed kind p = rw (length-append, length-header)
 
 pub payloads-ordered : (kind a e : ℕ) (ps : List (List ℕ)) → a + (24 * length ps + length (together ps)) ≤ e

@@ -14,7 +14,7 @@ use Rattle.mdf.specs.Group.{DataGroup, addresses}
 use Rattle.mdf.specs.Records.{joined, sizeOf}
 use Rattle.mdf.specs.Count.{counts}
 use Rattle.plan.specs.Channel.{keepsInval}
-use Rattle.plan.specs.Columns.{srcGroups, Column, Signal, unsigned, signalData}
+use Rattle.plan.specs.Columns.{srcGroups, Column, Signal, noSignal, signalData}
 use Rattle.plan.specs.Data.{anyNonempty, recordsIn, signalIn, signalsIn, dataIn, allDataIn}
 use Rattle.plan.specs.Layout.{blocksEnd, signalEnd, structureSize, placedFrom, dataEnd}
 use Rattle.result.specs.Payload.{columnPayloads, signalBytes}
@@ -59,7 +59,7 @@ length-signal s fs e = joined-length s fs e
 
 pub signal-ordered : (s : List ℕ) (g : Signal) (a : ℕ) → signalIn s g ≡ fine → Ordered a (sdBlocks s g a) (signalEnd g a)
 unfolding Ordered
-signal-ordered s unsigned a e = le-refl a
+signal-ordered s noSignal a e = le-refl a
 signal-ordered s (signalData fs) a e =
     let up = align-up (a + (24 + sizeOf fs)) in
     let l = length-framed kindSD (joined s fs) in

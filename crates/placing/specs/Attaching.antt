@@ -10,7 +10,7 @@ use Rattle.base.specs.Checked.{Checked, ok, refused, andThen}
 use Rattle.base.specs.Blit.{blit}
 use Rattle.mdf.specs.Block.{kindAt, headerIn}
 use Rattle.plan.specs.Copies.{kindAT, Attached, mostAttachments, attachmentIn}
-use Rattle.plan.specs.CopyWords.{attachmentWords, attachmentsAt}
+use Rattle.work_words.specs.CopyWords.{attachmentWords, attachmentsAt}
 use Rattle.placing.specs.declared.memo.Copying.{Copying}
 use Rattle.placing.specs.declared.attachments.Moved.{Moved}
 use Rattle.placing.specs.declared.attachments.Moved.the-variants.{At, Refused}

@@ -19,7 +19,7 @@ use Rattle.blocks.specs.AnswerLaws.{refused≢ok, then-fine}
 use Rattle.mdf.specs.Block.{kindAt, sizeAt, linksAt, firstLink, headerIn}
 use Rattle.plan.specs.Geometry.{align8}
 use Rattle.plan.specs.Copies.{kindAT, Copies, copies, copyRoot, copyLinks, Attachment, Attached, isAttached, mostAttachments, attachmentIn, attach, attachmentsFrom, attachmentsOf}
-use Rattle.plan.specs.CopyWords.{attachmentWords, attachmentsAt}
+use Rattle.work_words.specs.CopyWords.{attachmentWords, attachmentsAt}
 use Rattle.placing.specs.declared.memo.Copying.{Copying}
 use Rattle.placing.specs.declared.copier.Got.{Got}
 use Rattle.placing.specs.declared.copier.Got.the-variants as got

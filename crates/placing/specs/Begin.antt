@@ -8,7 +8,7 @@ use Rattle.base.specs.Choice.{pick, ifLt, ifEq}
 use Rattle.base.specs.Checked.{Checked, ok, refused, andThen}
 use Rattle.mdf.specs.Block.{kindAt, sizeAt, linksAt, wholeAt}
 use Rattle.mdf.specs.Chain.{isIn}
-use Rattle.plan.specs.Copies.{Copy, Copies, copyOf, isCopied, mostCopies, lostLinks, copyLinks, copyAt, placed}
+use Rattle.plan.specs.Copies.{Copy, Copies, copyOf, isCopied, mostCopies, lostLinks, copyLinks, copyAt, withCopy}
 
 abbrev pub onFound : Option ℕ → Checked Bool → Checked Bool
 onFound none new = new
@@ -24,7 +24,7 @@ beginAt left s way a memo =
 -- the block's links, then the block
 unfoldable pub throughLinks : ℕ → List ℕ → List ℕ → ℕ → Copies → Checked Copies
 throughLinks left s way a m =
-    andThen (copyLinks (copyAt left s (a ∷ way)) s (linksAt s a - lostLinks s a) (a + 24 + 8 * lostLinks s a) m) (λ m'. ok (placed a (sizeAt s a) m'))
+    andThen (copyLinks (copyAt left s (a ∷ way)) s (linksAt s a - lostLinks s a) (a + 24 + 8 * lostLinks s a) m) (λ m'. ok (withCopy a (sizeAt s a) m'))
 
 abbrev pub onBegun : Checked Bool → Copies → Checked Copies → Checked Copies
 onBegun (ok true) m more = more

@@ -7,9 +7,9 @@ use lib.ListN.{length}
 use Rattle.base.specs.Checked.{fine}
 use Rattle.base.specs.Blit.{blit}
 use Rattle.mdf.specs.Chain.{Fragment}
-use Rattle.mdf.specs.Words.{fragmentWords}
-use Rattle.plan.specs.Columns.{Column, Signal, unsigned, signalData, sizeOfSignal, Plan}
-use Rattle.plan.specs.PlanWords.{signalFragments, laidPlan}
+use Rattle.work_words.specs.Words.{fragmentWords}
+use Rattle.plan.specs.Columns.{Column, Signal, noSignal, signalData, sizeOfSignal, Plan}
+use Rattle.work_words.specs.PlanWords.{signalFragments, laidPlan}
 use Rattle.plan.specs.Data.{signalIn, blocksIn}
 use Rattle.plan.specs.Layout.{layout}
 use Rattle.result.specs.Guarantee.{In}
@@ -28,7 +28,7 @@ pub record Known (s : List ℕ) (c : Column) : Type 0 where
   pub fewSignals : sizeOfSignal (c .signalOf) ≤ 1024
 
 signal-small : (s : List ℕ) (g : Signal) → signalIn s g ≡ fine → length s ≤ 4294967296 → sizeOfSignal g ≤ 1024 → signalBytesOf g ≤ 4398046511104
-signal-small s unsigned e h k = omega arith
+signal-small s noSignal e h k = omega arith
 signal-small s (signalData fs) e h k = fragments-small s fs e h k
 
 pub all-bounded : (s : List ℕ) (size : ℕ) (cs : List Column) → length s ≤ 4294967296 → blocksIn s size cs ≡ fine

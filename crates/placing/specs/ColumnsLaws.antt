@@ -11,12 +11,12 @@ use Rattle.base.specs.ChoiceLaws.{eq-yes, eq-no}
 use Rattle.base.specs.Checked.{Checked, ok, refused, andThen}
 use Rattle.base.specs.Blit.{blit}
 use Rattle.mdf.specs.Chain.{Fragment}
-use Rattle.mdf.specs.Words.{fragmentWords}
+use Rattle.work_words.specs.Words.{fragmentWords}
 use Rattle.mdf.specs.Records.{sizeOf}
-use Rattle.plan.specs.Columns.{Column, Signal, unsigned, signalData, sizeOfSignal, Plan}
-use Rattle.plan.specs.PlanWords.{masterWord, signalWord, columnWords, columnsWords, fragmentsIn, signalFragments, omissionPairs, laidPlan}
+use Rattle.plan.specs.Columns.{Column, Signal, noSignal, signalData, sizeOfSignal, Plan}
+use Rattle.work_words.specs.PlanWords.{masterWord, signalWord, columnWords, columnsWords, fragmentsIn, signalFragments, omissionPairs, laidPlan}
 use Rattle.plan.specs.Copies.{Copies, copyRoots, columnLinks, columnCopies}
-use Rattle.plan.specs.CopyWords.{placedWords}
+use Rattle.work_words.specs.CopyWords.{placedWords}
 use Rattle.plan.specs.Layout.{columnWidth, columnBlocks, cgSize, structureSize, payloadSize, blocksEnd, signalEnd, placedFrom, structureEnd, dataEnd}
 use Rattle.result.specs.Guarantee.{here, there}
 use Rattle.planning.specs.Sizes.{signalSize}
@@ -63,7 +63,7 @@ words-after : (fs gs : List Fragment) (j : ℕ) → getD (fragmentWords (fs ++ g
 words-after fs gs j = rw (words-append fs gs, ← length-fragments fs) (getD-append-add (fragmentWords fs) (fragmentWords gs) j 0)
 
 in-size : (g : Signal) → length (fragmentsIn g) ≡ sizeOfSignal g
-in-size unsigned = refl
+in-size noSignal = refl
 in-size (signalData fs) = refl
 
 -- ---- the first column, and the rest
@@ -159,7 +159,7 @@ sized r = record { signal = r .signal; pieces = r .pieces; fragments = r .fragme
 
 signal-bytes : (w f : List ℕ) (m p : ℕ) (g : Signal) → Sized w f m p g → signalAt w f p ≡ signalBytesOf g
 unfolding signalAt signalSize
-signal-bytes w f m p unsigned r = sym (eq-yes _ _ _ _ (r .signal) refl)
+signal-bytes w f m p noSignal r = sym (eq-yes _ _ _ _ (r .signal) refl)
 signal-bytes w f m p (signalData fs) r =
     let e : getD w (p + 6) 0 - 1 ≡ m = omega (arith, r .signal) in
     sym (eq-no _ _ _ _ (λ z. omega (arith, z, r .signal)) (rw (e, r .pieces) (sym (sizes-stand f m fs (r .fragments)))))
@@ -170,7 +170,7 @@ signal-of {w} {f} {m} {p} {c} r = signal-bytes w f m p (c .signalOf) (sized r)
 
 signal-end : (w f : List ℕ) (m p d : ℕ) (g : Signal) → Sized w f m p g → signalEndAt w f p d ≡ signalEnd g d
 unfolding signalEndAt
-signal-end w f m p d unsigned r = sym (eq-yes _ _ _ _ (r .signal) refl)
+signal-end w f m p d noSignal r = sym (eq-yes _ _ _ _ (r .signal) refl)
 signal-end w f m p d (signalData fs) r =
     sym (eq-no _ _ _ _ (λ e. omega (arith, e, r .signal)) (rw (signal-bytes w f m p (signalData fs) r)))
 

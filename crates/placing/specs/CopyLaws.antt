@@ -17,7 +17,7 @@ use Rattle.blocks.specs.AnswerLaws.{refused≢ok, ok-same}
 use Rattle.blocks.specs.BlockLaws.{Whole, whole-fits}
 use Rattle.mdf.specs.Block.{kindAt, sizeAt, linksAt, wholeAt}
 use Rattle.mdf.specs.Chain.{isIn}
-use Rattle.plan.specs.Copies.{Copy, Copies, copyOf, isCopied, mostCopies, lostLinks, copyLinks, copyAt, onCopy, placed}
+use Rattle.plan.specs.Copies.{Copy, Copies, copyOf, isCopied, mostCopies, lostLinks, copyLinks, copyAt, onCopy, withCopy}
 use Rattle.placing.specs.StandingLaws.{align-near}
 use Rattle.placing.specs.Begin.{beginAt, onFound, throughLinks, onBegun}
 
@@ -105,8 +105,8 @@ links-grow step d s g (suc n) p m m' h e =
     then-grown d m m' (step (leAt 8 s p) m) (λ x. copyLinks step s n (p + 8) x) (λ x q. g (leAt 8 s p) m x h q)
     (λ x k q. links-grow step d s g n (p + 8) x m' k q) e
 
-grown-placed : (d : ℕ) (a size : ℕ) {m x m' : Copies} → size ≤ 268435456 → Grown (suc d) m x → placed a size x ≡ m' → Grown d m m'
-unfolding placed
+grown-placed : (d : ℕ) (a size : ℕ) {m x m' : Copies} → size ≤ 268435456 → Grown (suc d) m x → withCopy a size x ≡ m' → Grown d m m'
+unfolding withCopy
 grown-placed d a size {m} {x} h g e =
     subst (λ (y : Copies). Grown d m y) e
     (record {
@@ -124,7 +124,7 @@ copy-grown left s way a m m' h g e = go (beginAt (suc left) s way a (m .memo)) r
     links : Checked Copies
     links = copyLinks (copyAt left s (a ∷ way)) s (linksAt s a - lostLinks s a) (a + 24 + 8 * lostLinks s a) m
 
-    done : (v : Checked Copies) → links ≡ v → Going (suc left) s way a (m .memo) → andThen v (λ x. ok (placed a (sizeAt s a) x)) ≡ ok m' → Grown (length way) m m'
+    done : (v : Checked Copies) → links ≡ v → Going (suc left) s way a (m .memo) → andThen v (λ x. ok (withCopy a (sizeAt s a) x)) ≡ ok m' → Grown (length way) m m'
     done (ok x) q f e =
         grown-placed (length way) a (sizeAt s a) (f .whole .short)
         (links-grow (copyAt left s (a ∷ way)) (suc (length way)) s g (linksAt s a - lostLinks s a) (a + 24 + 8 * lostLinks s a) m x (omega arith) q)

@@ -9,10 +9,10 @@ use Rattle.base.specs.Checked.{Checked, ok, refused, andThen, fine}
 use Rattle.mdf.specs.Walk.{Source, walk}
 use Rattle.mdf.specs.Group.{dataGroups}
 use Rattle.mdf.specs.Count.{counts}
-use Rattle.mdf.specs.Words.{countsAt, laidItems, fragmentWords}
+use Rattle.work_words.specs.Words.{countsAt, laidItems, fragmentWords}
 use Rattle.plan.specs.Columns.{srcGroups}
 use Rattle.plan.specs.Layout.{layout}
-use Rattle.plan.specs.PlanWords.{signalFragments, laidPlan}
+use Rattle.work_words.specs.PlanWords.{signalFragments, laidPlan}
 use Rattle.result.specs.Result.{Args, Decided, lentIn, decided, workIn, workLeft}
 use Rattle.planning.specs.Answer.{plannedOf}
 use Rattle.placing.specs.declared.layout.Numbers.{Numbers}

@@ -14,9 +14,9 @@ use Rattle.mdf.specs.Identification.{identified}
 use Rattle.mdf.specs.Walk.{walk}
 use Rattle.mdf.specs.Group.{dataGroups}
 use Rattle.mdf.specs.Count.{counts}
-use Rattle.mdf.specs.Words.{countsAt, laidItems, fragmentWords}
-use Rattle.plan.specs.Columns.{SrcGroup, srcGroups, Column, Signal, unsigned, signalData, sizeOfSignal, plan}
-use Rattle.plan.specs.PlanWords.{fragmentsIn, signalFragments, laidPlan}
+use Rattle.work_words.specs.Words.{countsAt, laidItems, fragmentWords}
+use Rattle.plan.specs.Columns.{SrcGroup, srcGroups, Column, Signal, noSignal, signalData, sizeOfSignal, plan}
+use Rattle.work_words.specs.PlanWords.{fragmentsIn, signalFragments, laidPlan}
 use Rattle.plan.specs.Data.{allDataIn, blocksIn}
 use Rattle.plan.specs.Layout.{Layout, layout}
 use Rattle.result.specs.Result.{Args, Decided, lentIn, decided, workIn, zeros}
@@ -171,7 +171,7 @@ signals-length [] = refl
 signals-length (c ∷ cs) = let r = signals-length cs in simp length-append (rw (size-of (c .signalOf), r))
   where
     size-of : (g : Signal) → length (fragmentsIn g) ≡ sizeOfSignal g
-    size-of unsigned = refl
+    size-of noSignal = refl
     size-of (signalData fs) = refl
 
 module _ {s : List ℕ} {size i nf nc no' : ℕ} {w f c w' f' c' : List ℕ} (t : PlannedIn s size i nf nc no' w f c w' f' c') where

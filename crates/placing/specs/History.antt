@@ -10,7 +10,7 @@ use Rattle.base.specs.Blit.{part, blit}
 use Rattle.mdf.specs.Block.{kindAt, linksAt, wholeAt}
 use Rattle.mdf.specs.Chain.{isIn}
 use Rattle.plan.specs.Copies.{isCopied, History, history}
-use Rattle.plan.specs.CopyWords.{historyAt}
+use Rattle.work_words.specs.CopyWords.{historyAt}
 use Rattle.placing.specs.declared.memo.Copying.{Copying}
 use Rattle.placing.specs.declared.history.Chain.{Chain}
 use Rattle.placing.specs.declared.history.Chain.the-variants.{At, Refused}

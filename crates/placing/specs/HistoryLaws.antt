@@ -17,7 +17,7 @@ use Rattle.base.specs.BlitLaws.{blit-append, blit-one}
 use Rattle.mdf.specs.Block.{kindAt, linksAt, firstLink, wholeAt}
 use Rattle.mdf.specs.Chain.{isIn}
 use Rattle.plan.specs.Copies.{copyRoot, isCopied, History, history, historyFrom, historyOf}
-use Rattle.plan.specs.CopyWords.{historyAt}
+use Rattle.work_words.specs.CopyWords.{historyAt}
 use Rattle.placing.specs.declared.memo.Copying.{Copying}
 use Rattle.placing.specs.declared.copier.Got.{Got}
 use Rattle.placing.specs.declared.copier.Got.the-variants as got

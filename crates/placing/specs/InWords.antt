@@ -5,11 +5,11 @@ use mathlib.Core.Path.{_≡_}
 use lib.ListN.{length, getD}
 use Rattle.base.specs.Choice.{ifEq}
 use Rattle.base.specs.Checked.{Checked, ok, andThen}
-use Rattle.mdf.specs.Words.{fragmentWords}
+use Rattle.work_words.specs.Words.{fragmentWords}
 use Rattle.mdf.specs.Records.{sizeOf}
 use Rattle.plan.specs.Channel.{width}
-use Rattle.plan.specs.Columns.{Column, Signal, unsigned, signalData}
-use Rattle.plan.specs.PlanWords.{columnsWords, signalFragments}
+use Rattle.plan.specs.Columns.{Column, Signal, noSignal, signalData}
+use Rattle.work_words.specs.PlanWords.{columnsWords, signalFragments}
 use Rattle.plan.specs.Geometry.{align8, blockCount}
 use Rattle.plan.specs.Copies.{Copies, copyRoots}
 use Rattle.plan.specs.Layout.{dlSize, columnBlocks, payloadSize}
@@ -98,7 +98,7 @@ pub record Columns (w f : List ℕ) (m p : ℕ) (cs : List Column) : Type 0 wher
 
 -- what planning and the data stage give of a column
 abbrev pub signalBytesOf : Signal → ℕ
-signalBytesOf unsigned = 0
+signalBytesOf noSignal = 0
 signalBytesOf (signalData fs) = sizeOf fs
 
 pub record Bounded (s : List ℕ) (size : ℕ) (c : Column) : Type 0 where

@@ -9,7 +9,7 @@ use Rattle.mdf.specs.Block.{linkAt}
 use Rattle.plan.specs.Columns.{Column}
 use Rattle.plan.specs.Geometry.{align8}
 use Rattle.plan.specs.Copies.{Copies, copies, copyRoot, history, historyOf, Attached, attachmentsOf}
-use Rattle.plan.specs.CopyWords.{attachmentWords, attachmentsAt, historyAt, placedAt, laidCopies}
+use Rattle.work_words.specs.CopyWords.{attachmentWords, attachmentsAt, historyAt, placedAt, laidCopies}
 use Rattle.plan.specs.Layout.{Layout, layout}
 use Rattle.placing.specs.declared.memo.Copying.{Copying}
 use Rattle.placing.specs.declared.history.Chain.{Chain}

@@ -10,8 +10,8 @@ use Rattle.mdf.specs.Block.{linkAt}
 use Rattle.plan.specs.Columns.{Column}
 use Rattle.plan.specs.Geometry.{align8}
 use Rattle.plan.specs.Copies.{Copies, copies, copyRoot, History, history, historyOf, columnCopies, Attached, attachmentsOf}
-use Rattle.plan.specs.CopyWords.{copyWords, attachmentWords, attachmentsAt, historyAt, placedAt, placedWords, laidCopies}
-use Rattle.plan.specs.Layout.{Layout, layout, mdSize, mdPlace, fhPlace, structurePlace, structureEnd, dataEnd, placedFrom}
+use Rattle.work_words.specs.CopyWords.{copyWords, attachmentWords, attachmentsAt, historyAt, placedAt, placedWords, laidCopies}
+use Rattle.plan.specs.Layout.{Layout, layout, mdSize, pastCopies, fhPlace, structureEnd, dataEnd, placedFrom}
 use Rattle.placing.specs.declared.memo.Copying.{Copying}
 use Rattle.placing.specs.declared.copier.Got.{Got}
 use Rattle.placing.specs.declared.copier.Got.the-variants as got
@@ -155,18 +155,18 @@ layoutOf s size text cs m0 h m2 t =
     record {
       comment = m0;
       past = h;
-      md = mdPlace (h .made);
+      md = pastCopies (h .made);
       fh = fhPlace (h .made) text;
       metadata = m2;
-      placed = placedFrom s size (structurePlace m2) (structureEnd s size (structurePlace m2) cs) cs;
-      metadataEnd = structureEnd s size (structurePlace m2) cs;
+      placed = placedFrom s size (pastCopies m2) (structureEnd s size (pastCopies m2) cs) cs;
+      metadataEnd = structureEnd s size (pastCopies m2) cs;
       attached = t;
       fileSize = t .made .next;
     }
 
 layoutRest : List ℕ → ℕ → ℕ → List Column → Copies → History → Copies → Checked Layout
 layoutRest s size text cs m0 h m2 =
-    andThen (attachmentsOf s (linkAt s 64 3) (copies (m2 .memo) (dataEnd s size (structureEnd s size (structurePlace m2) cs) cs)))
+    andThen (attachmentsOf s (linkAt s 64 3) (copies (m2 .memo) (dataEnd s size (structureEnd s size (pastCopies m2) cs) cs)))
     (λ t. ok (layoutOf s size text cs m0 h m2 t))
 
 layout-next : (s : List ℕ) (size text : ℕ) (cs : List Column) {m0 : Copies} {h : History} → copyRoot s (linkAt s 64 5) (copies [] 168) ≡ ok m0
@@ -184,7 +184,7 @@ module _ (s : List ℕ) (size text : ℕ) (w f : List ℕ) (n : ℕ) (m : List �
     module _ (k : ℕ) (cs : List Column) (z : Columns w f k 0 cs) (l : length cs ≡ n) where
       columns-is : copiesOf s w 0 n (standing m₁ (record { used = st .used; next = md + x + 56 }))
           ≡ columnCopies s cs (copies (copiesIn m₁ (st .used)) (fhPlace (standing m₁ st) text + 56))
-      unfolding fhPlace mdPlace
+      unfolding fhPlace pastCopies
       columns-is = rw (← l, i, j) (copies-of s size w f k 0 cs (copies (copiesIn m₁ (st .used)) (align8 (st .next) + mdSize text + 56)) z)
 
       columns-next : {v : Checked Copies} → v ≡ copiesOf s w 0 n (standing m₁ (record { used = st .used; next = md + x + 56 }))
@@ -197,16 +197,16 @@ module _ (s : List ℕ) (size text : ℕ) (w f : List ℕ) (n : ℕ) (m : List �
     whole-columns e = record { is = λ k cs z l. columns-next k cs z l (copied-refused c e) }
 
     module _ {t : Copying} (e : g ≡ got.At t) where
-      ends-is : (k : ℕ) (cs : List Column) → Columns w f k 0 cs → length cs ≡ n → metadataEndIn s size w n t ≡ structureEnd s size (structurePlace (standing m₂ t)) cs
-      unfolding structurePlace
+      ends-is : (k : ℕ) (cs : List Column) → Columns w f k 0 cs → length cs ≡ n → metadataEndIn s size w n t ≡ structureEnd s size (pastCopies (standing m₂ t)) cs
+      unfolding pastCopies
       ends-is k cs z l = rw (← l) (structures-of s size w f k 0 (align8 (t .next)) cs z)
 
       rest-of : (k : ℕ) (cs : List Column) → Columns w f k 0 cs → length cs ≡ n
           → attachedIn s size w f n m₂ t
-          ≡ attachmentsOf s (linkAt s 64 3) (copies (copiesIn m₂ (t .used)) (dataEnd s size (structureEnd s size (structurePlace (standing m₂ t)) cs) cs))
+          ≡ attachmentsOf s (linkAt s 64 3) (copies (copiesIn m₂ (t .used)) (dataEnd s size (structureEnd s size (pastCopies (standing m₂ t)) cs) cs))
       rest-of k cs z l =
-          let d : dataIn s size w f 0 n (metadataEndIn s size w n t) ≡ dataEnd s size (structureEnd s size (structurePlace (standing m₂ t)) cs) cs =
-          ap (dataIn s size w f 0 n) (ends-is k cs z l) ∙ rw (← l) (data-of s size w f k 0 (structureEnd s size (structurePlace (standing m₂ t)) cs) cs z) in
+          let d : dataIn s size w f 0 n (metadataEndIn s size w n t) ≡ dataEnd s size (structureEnd s size (pastCopies (standing m₂ t)) cs) cs =
+          ap (dataIn s size w f 0 n) (ends-is k cs z l) ∙ rw (← l) (data-of s size w f k 0 (structureEnd s size (pastCopies (standing m₂ t)) cs) cs z) in
           rw d
 
       pub whole-rest : {m' : List ℕ} (r : Rest) {a b : ℕ} → Rests s size w f n m₂ m' t r → r ≡ rest.Refused a b → LaysOut s size text w f n m m' (laid.Refused a b)
@@ -244,8 +244,8 @@ module _ (s : List ℕ) (size text : ℕ) (w f : List ℕ) (n : ℕ) (m : List �
 
         placed-is : (k : ℕ) (cs : List Column) → Columns w f k 0 cs → length cs ≡ n
             → placedIn s size w f 0 n (align8 (t .next)) (metadataEndIn s size w n t)
-            ≡ placedWords (placedFrom s size (structurePlace (standing m₂ t)) (structureEnd s size (structurePlace (standing m₂ t)) cs) cs)
-        unfolding structurePlace
+            ≡ placedWords (placedFrom s size (pastCopies (standing m₂ t)) (structureEnd s size (pastCopies (standing m₂ t)) cs) cs)
+        unfolding pastCopies
         placed-is k cs z l =
             ap (placedIn s size w f 0 n (align8 (t .next))) (ends-is k cs z l)
             ∙ rw (← l) (placed-of s size w f k 0 (align8 (t .next)) (structureEnd s size (align8 (t .next)) cs) cs z)
@@ -263,7 +263,7 @@ module _ (s : List ℕ) (size text : ℕ) (w f : List ℕ) (n : ℕ) (m : List �
               «metadata_end» = end;
               «file_size» = u .next;
             })
-        unfolding layoutOf laidCopies mdPlace fhPlace
+        unfolding layoutOf laidCopies pastCopies fhPlace
         numbers-all k cs z l =
             record {
               history = sym (length-copies m₁ 0 (st .used));

@@ -16,7 +16,7 @@ use Rattle.base.specs.ChoiceLaws.{eq-yes, eq-no}
 use Rattle.base.specs.Blit.{part}
 use Rattle.mdf.specs.Chain.{isIn}
 use Rattle.plan.specs.Geometry.{align8}
-use Rattle.plan.specs.Copies.{Copy, copyOf, placed}
+use Rattle.plan.specs.Copies.{Copy, copyOf, withCopy}
 use Rattle.placing.specs.declared.memo.Copying.{Copying}
 use Rattle.placing.specs.declared.memo.Found.{Found}
 use Rattle.placing.specs.declared.memo.Found.the-variants.{At, Nothing}
@@ -168,8 +168,8 @@ past-set n w i x h = record { kept = drop-set-lt n w i x h }
 -- a placed block: two stores past the copies
 module _ (w : List ℕ) (a size t : ℕ) (s : Copying) (h : s .used * 2 + 1 < length w) where
   pub place-is : t ≡ align8 (s .next)
-      → standing (set (set w (s .used * 2) a) (s .used * 2 + 1) t) (record { used = s .used + 1; next = t + size }) ≡ placed a size (standing w s)
-  unfolding placed
+      → standing (set (set w (s .used * 2) a) (s .used * 2 + 1) t) (record { used = s .used + 1; next = t + size }) ≡ withCopy a size (standing w s)
+  unfolding withCopy
   place-is e = rw (place-copies w (s .used) (s .used * 2) a t refl h, e)
 
   pub place-past : Past (2 * (s .used + 1)) w (set (set w (s .used * 2) a) (s .used * 2 + 1) t)

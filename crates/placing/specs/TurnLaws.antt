@@ -13,7 +13,7 @@ use Rattle.base.specs.Choice.{pick, ifEq}
 use Rattle.base.specs.Checked.{Checked, ok, refused, andThen}
 use Rattle.base.specs.Field.{leAt}
 use Rattle.mdf.specs.Block.{kindAt, sizeAt, linksAt}
-use Rattle.plan.specs.Copies.{kindFH, Copies, lostLinks, copyLinks, copyAt, copyRoot, copyRoots, placed}
+use Rattle.plan.specs.Copies.{kindFH, Copies, lostLinks, copyLinks, copyAt, copyRoot, copyRoots, withCopy}
 use Rattle.placing.specs.declared.memo.Copying.{Copying}
 use Rattle.placing.specs.declared.copier.Got.{Got}
 use Rattle.placing.specs.declared.copier.Got.the-variants as got
@@ -112,8 +112,8 @@ turn-end : {left : ℕ} {s down w₀ : List ℕ} {links₀ p₀ : ℕ} {st₀ : 
 turn-end u e = sym (links-none _ _ _ _ _ e) ∙ u .rest
 
 -- ---- the ways of the copier
-placed-used : (a size : ℕ) (w w' : List ℕ) (s t : Copying) → standing w' t ≡ placed a size (standing w s) → t .used ≡ s .used + 1
-unfolding placed
+placed-used : (a size : ℕ) (w w' : List ℕ) (s t : Copying) → standing w' t ≡ withCopy a size (standing w s) → t .used ≡ s .used + 1
+unfolding withCopy
 placed-used a size w w' s t e =
     let k = length-copies w 0 (s .used) in
     let l = length-copies w' 0 (t .used) in
@@ -161,7 +161,7 @@ module _ {left : ℕ} {s down w₀ : List ℕ} {links₀ p₀ : ℕ} {st₀ : Co
       let f = turn-refused u h c e q in
       record { is = rw (copy-through left s way a w₀ st₀ b, ← n, ← o, ← d, ← f); past = tt }
 
-  pub copy-done : {w' : List ℕ} {t : Copying} {size : ℕ} → links ≡ 0 → size ≡ sizeAt s a → standing w' t ≡ placed a size (standing w st)
+  pub copy-done : {w' : List ℕ} {t : Copying} {size : ℕ} → links ≡ 0 → size ≡ sizeAt s a → standing w' t ≡ withCopy a size (standing w st)
       → Past (2 * t .used) w w' → Copied w₀ w' (got.At t) (copyAt left s way a (standing w₀ st₀))
   unfolding throughLinks
   copy-done {w'} {t} {size} z e q k =

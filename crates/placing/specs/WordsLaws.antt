@@ -9,7 +9,7 @@ use lib.Seq.{drop-cons, length-take-le}
 use Rattle.base.specs.Blit.{blit}
 use Rattle.base.specs.BlitLaws.{blit-is, blit-comm, length-blit}
 use Rattle.plan.specs.Copies.{Attachment}
-use Rattle.plan.specs.CopyWords.{copyWords, attachmentWords, attachmentsAt, historyAt, placedAt}
+use Rattle.work_words.specs.CopyWords.{copyWords, attachmentWords, attachmentsAt, historyAt, placedAt}
 use Rattle.placing.specs.Standing.{copiesFrom, copiesIn, Past}
 use Rattle.placing.specs.AttachingLaws.{length-words}
 

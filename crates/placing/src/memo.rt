@@ -5,7 +5,7 @@ ghost use lib.ListN.{length};
 ghost use Rattle.base.specs.Blit.{part};
 ghost use Rattle.mdf.specs.Chain.{isIn};
 ghost use Rattle.plan.specs.Geometry.{align8};
-ghost use Rattle.plan.specs.Copies.{copyOf, placed};
+ghost use Rattle.plan.specs.Copies.{copyOf, withCopy};
 ghost use Rattle.placing.specs.Standing.{copiesIn, standing, Room, Past};
 ghost use Rattle.placing.specs.Answer.{foundOf, linkOf};
 
@@ -87,7 +87,7 @@ pub(crate) fn aligned(x: u64) -> u64
 // One copy more, of the block of so many bytes at a, after what is placed.
 pub(crate) fn place(memo: &mut [u64], a: u64, size: u64, state: Copying) -> Copying
     requires { ⌜ (state .used < 2048) × (4096 ≤ length (now memo)) × Room (state .used) (state .next) × (size ≤ 268435456) ⌝ }
-    ensures copied { λ r. ⌜ standing (now (memo .exit)) r ≡ placed a size (standing (now (memo .entry)) state) ⌝ }
+    ensures copied { λ r. ⌜ standing (now (memo .exit)) r ≡ withCopy a size (standing (now (memo .entry)) state) ⌝ }
     ensures past { λ r. ⌜ Past (2 * (r .used)) (now (memo .entry)) (now (memo .exit)) ⌝ }
 {
     let used = state.used;

@@ -85,7 +85,7 @@ timeOf s all g = let remote = remoteTime s all g in onMaster (masterOf s g) remo
 
 -- "Any other nonzero link 6 of type 1 is an SD chain": signal data of a type 1 channel is its fragments
 pub data Signal : Type 0 where
-  unsigned : Signal
+  noSignal : Signal
   signalData : List Fragment → Signal
 
 -- bookkeeping: a planned column: the group and the channel it comes from, whether it is a time column, the column of its master, its signal data
@@ -128,7 +128,7 @@ onPlanned (some k) new old = old
 unfoldable pub withTime : SrcGroup → ℕ → Plan → Plan
 withTime t m p =
     onPlanned (timeColumn (t .at) 0 (p .columns))
-    (withColumn (record { group = t; channel = m; isTime = true; master = none; signalOf = unsigned }) 0 p) p
+    (withColumn (record { group = t; channel = m; isTime = true; master = none; signalOf = noSignal }) 0 p) p
 
 -- bookkeeping: what a channel other than its group's master becomes
 pub data Decision : Type 0 where
@@ -145,7 +145,7 @@ unfoldable pub decideSignal : List ℕ → ℕ → ℕ → Checked Decision
 decideSignal s n c =
     let sd = andThen (headerIn s (linkAt s c 5)) (λ _.
     ifEq (kindAt s (linkAt s c 5)) kindCG (ok (omitted 7)) (keptSignal (chain signal limits s n (linkAt s c 5)))) in
-    ifEq (channelType s c) 1 (ifEq (linkAt s c 5) 0 (ok (kept unsigned)) sd) (ok (kept unsigned))
+    ifEq (channelType s c) 1 (ifEq (linkAt s c 5) 0 (ok (kept noSignal)) sd) (ok (kept noSignal))
 
 -- "5 array, CN link 2 leads to CA; 6 structure, it leads to CN"
 unfoldable pub decideComposition : List ℕ → ℕ → ℕ → Checked Decision
@@ -170,19 +170,19 @@ decide s n g c =
 
 -- bookkeeping: the fragments of a column's signal data
 abbrev pub sizeOfSignal : Signal → ℕ
-sizeOfSignal unsigned = 0
+sizeOfSignal noSignal = 0
 sizeOfSignal (signalData fs) = length fs
 
 -- bookkeeping: the plan with what was decided of channel c
-abbrev pub decided : SrcGroup → Option ℕ → ℕ → Plan → Decision → Plan
-decided g m c p (omitted r) = withOmission c r p
-decided g m c p (kept d) = withColumn (record { group = g; channel = c; isTime = false; master = m; signalOf = d }) (sizeOfSignal d) p
+abbrev pub withDecision : SrcGroup → Option ℕ → ℕ → Plan → Decision → Plan
+withDecision g m c p (omitted r) = withOmission c r p
+withDecision g m c p (kept d) = withColumn (record { group = g; channel = c; isTime = false; master = m; signalOf = d }) (sizeOfSignal d) p
 
 -- "then the other channels in order": those but the group's own master
 unfoldable pub planChannels : List ℕ → SrcGroup → ℕ → Option ℕ → List ℕ → Plan → Checked Plan
 planChannels s g own m [] p = ok p
 planChannels s g own m (c ∷ cs) p =
-    let here = andThen (decide s (p .fragments) (g .at) c) (λ d. planChannels s g own m cs (decided g m c p d)) in
+    let here = andThen (decide s (p .fragments) (g .at) c) (λ d. planChannels s g own m cs (withDecision g m c p d)) in
     let next = planChannels s g own m cs p in
     ifEq c own next here
 

@@ -46,8 +46,8 @@ copyOf a [] = none
 copyOf a (c ∷ cs) = let later = copyOf a cs in ifEq (c .from) a (some (c .to)) later
 
 -- "each block at the next multiple of 8": a block of so many bytes more
-unfoldable pub placed : ℕ → ℕ → Copies → Copies
-placed a size m = copies (m .memo ++ (record { from = a; to = align8 (m .next) } ∷ [])) (align8 (m .next) + size)
+unfoldable pub withCopy : ℕ → ℕ → Copies → Copies
+withCopy a size m = copies (m .memo ++ (record { from = a; to = align8 (m .next) } ∷ [])) (align8 (m .next) + size)
 
 -- "Kinds other than TX, MD, CC, SI, FH become link 0."
 unfoldable pub isCopied : ℕ → Bool
@@ -78,7 +78,7 @@ unfoldable pub copyAt : ℕ → List ℕ → List ℕ → ℕ → Copies → Che
 copyAt zero s way a m = ifEq a 0 (ok m) (onCopy (copyOf a (m .memo)) m (refused 16 a))
 copyAt (suc left) s way a m =
     let links = copyLinks (copyAt left s (a ∷ way)) s (linksAt s a - lostLinks s a) (a + 24 + 8 * lostLinks s a) m in
-    let limited = ifLt (length (m .memo) + length way) mostCopies (andThen links (λ m'. ok (placed a (sizeAt s a) m'))) (refused 19 a) in
+    let limited = ifLt (length (m .memo) + length way) mostCopies (andThen links (λ m'. ok (withCopy a (sizeAt s a) m'))) (refused 19 a) in
     let read = andThen (wholeAt s a) (λ _. pick (isCopied (kindAt s a)) limited (ok m)) in
     let new = pick (isIn a way) (refused 16 a) read in
     ifEq a 0 (ok m) (onCopy (copyOf a (m .memo)) m new)

@@ -9,7 +9,7 @@ use Rattle.mdf.specs.Chain.{Fragment}
 use Rattle.mdf.specs.Group.{DataGroup, addresses}
 use Rattle.mdf.specs.Records.{rangesIn, sortedIn, unsortedFrames}
 use Rattle.plan.specs.Channel.{width, both}
-use Rattle.plan.specs.Columns.{Signal, unsigned, signalData, Column}
+use Rattle.plan.specs.Columns.{Signal, noSignal, signalData, Column}
 use Rattle.plan.specs.Geometry.{blockCount}
 
 -- "A column of width 0 or without records has no blocks": a column with blocks
@@ -30,7 +30,7 @@ recordsIn s d (g ∷ h ∷ gs) fs = andThen (unsortedFrames s d (g ∷ h ∷ gs)
 
 -- "signal data ranges" of one column
 abbrev pub signalIn : List ℕ → Signal → Verdict
-signalIn s unsigned = fine
+signalIn s noSignal = fine
 signalIn s (signalData fs) = rangesIn s fs
 
 -- "then the DG's signal data ranges": those of every planned column from the DG at d

@@ -9,7 +9,7 @@ use Rattle.base.specs.Checked.{Checked, ok, andThen}
 use Rattle.mdf.specs.Block.{linkAt}
 use Rattle.mdf.specs.Records.{sizeOf}
 use Rattle.plan.specs.Channel.{width}
-use Rattle.plan.specs.Columns.{Column, Signal, unsigned, signalData}
+use Rattle.plan.specs.Columns.{Column, Signal, noSignal, signalData}
 use Rattle.plan.specs.Geometry.{align8, blockCount}
 use Rattle.plan.specs.Copies.{Copies, copies, copyRoot, History, historyOf, columnCopies, Attached, attachmentsOf}
 
@@ -51,7 +51,7 @@ blocksEnd s size c d = align8 (d + (24 * columnBlocks s size c + payloadSize s c
 
 -- "and its SD": past it, which begins at d
 abbrev pub signalEnd : Signal → ℕ → ℕ
-signalEnd unsigned d = d
+signalEnd noSignal d = d
 signalEnd (signalData fs) d = align8 (d + (24 + sizeOf fs))
 
 -- ---- all columns
@@ -109,16 +109,12 @@ pub record Layout : Type 0 where
   pub fileSize : ℕ
 
 -- "each block at the next multiple of 8": the new MD after the copies
-unfoldable pub mdPlace : Copies → ℕ
-mdPlace m = align8 (m .next)
+unfoldable pub pastCopies : Copies → ℕ
+pastCopies m = align8 (m .next)
 
 -- the new FH after it
 unfoldable pub fhPlace : Copies → ℕ → ℕ
-fhPlace m n = mdPlace m + mdSize n
-
--- where the columns' DG, CG, CN and DL begin: after the columns' copies
-unfoldable pub structurePlace : Copies → ℕ
-structurePlace m = align8 (m .next)
+fhPlace m n = pastCopies m + mdSize n
 
 -- "metadata; attachments": the places, and the refusals in document 01's order; n bytes of history text
 unfoldable pub layout : List ℕ → ℕ → ℕ → List Column → Checked Layout
@@ -126,15 +122,15 @@ layout s size n cs =
     andThen (copyRoot s (linkAt s 64 5) (copies [] 168)) (λ m0.
     andThen (historyOf s (linkAt s 64 1) m0) (λ h.
     andThen (columnCopies s cs (copies (h .made .memo) (fhPlace (h .made) n + 56))) (λ m2.
-    andThen (attachmentsOf s (linkAt s 64 3) (copies (m2 .memo) (dataEnd s size (structureEnd s size (structurePlace m2) cs) cs))) (λ t.
+    andThen (attachmentsOf s (linkAt s 64 3) (copies (m2 .memo) (dataEnd s size (structureEnd s size (pastCopies m2) cs) cs))) (λ t.
     ok (record {
       comment = m0;
       past = h;
-      md = mdPlace (h .made);
+      md = pastCopies (h .made);
       fh = fhPlace (h .made) n;
       metadata = m2;
-      placed = placedFrom s size (structurePlace m2) (structureEnd s size (structurePlace m2) cs) cs;
-      metadataEnd = structureEnd s size (structurePlace m2) cs;
+      placed = placedFrom s size (pastCopies m2) (structureEnd s size (pastCopies m2) cs) cs;
+      metadataEnd = structureEnd s size (pastCopies m2) cs;
       attached = t;
       fileSize = t .made .next;
     })))))

@@ -4,5 +4,3 @@ pub mod Geometry
 pub mod Data
 pub mod Copies
 pub mod Layout
-pub mod PlanWords
-pub mod CopyWords

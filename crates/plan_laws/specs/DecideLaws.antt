@@ -15,7 +15,7 @@ use Rattle.mdf.specs.Block.{kindCG, kindCN, kindAt, linkAt, headerIn}
 use Rattle.mdf.specs.Chain.{Chain.signal, Found, found, stopped, limits, chain}
 use Rattle.mdf.specs.Group.{isStorage}
 use Rattle.plan.specs.Channel.{channelType, fits, isMasterType, both, either, Treatment, treatment}
-use Rattle.plan.specs.Columns.{kindCA, SrcGroup, firstMaster, masterOf, remoteLink, groupAt, TimeOf, time, untimed, differs, onMaster, onGroup, remoteTime, timeOf, Signal, unsigned, signalData, Decision, omitted, kept, keptSignal, decideSignal, decideComposition, onTreatment, decide, sizeOfSignal}
+use Rattle.plan.specs.Columns.{kindCA, SrcGroup, firstMaster, masterOf, remoteLink, groupAt, TimeOf, time, untimed, differs, onMaster, onGroup, remoteTime, timeOf, Signal, noSignal, signalData, Decision, omitted, kept, keptSignal, decideSignal, decideComposition, onTreatment, decide, sizeOfSignal}
 use Rattle.result.specs.Member.{In, here, there}
 use Rattle.result.specs.Recording.{leadsTo, reasonFor, SignalDue}
 use Rattle.result.specs.Recording as recording
@@ -163,7 +163,7 @@ treated Treatment.asFixed a e = e
 
 -- signal data is what the chain at CN link 6 lists; n fragments were found before
 abbrev pub SignalKnown : List ℕ → ℕ → ℕ → Signal → Type 0
-SignalKnown s n c unsigned = channelType s c ≡ 1 → linkAt s c 5 ≡ 0
+SignalKnown s n c noSignal = channelType s c ≡ 1 → linkAt s c 5 ≡ 0
 SignalKnown s n c (signalData fs) = (channelType s c ≡ 1) × (chain signal limits s n (linkAt s c 5) ≡ found fs)
 
 signal-kept : (s : List ℕ) (n c : ℕ) (d : Signal) (v : Found) → channelType s c ≡ 1 → chain signal limits s n (linkAt s c 5) ≡ v → keptSignal v ≡ ok (kept d) → SignalKnown s n c d
@@ -203,11 +203,11 @@ decide-kept s n g c d e =
     (λ _ q. absurd (omitted≢kept q))
 
 pub kept-due : (s : List ℕ) (n c : ℕ) (d : Signal) → SignalKnown s n c d → SignalDue s c d
-kept-due s n c unsigned k = k
+kept-due s n c noSignal k = k
 kept-due s n c (signalData fs) k = (k .0, n, k .1)
 
 -- a master has none
-pub master-unsigned : (s : List ℕ) (m : ℕ) → isMasterType s m ≡ true → SignalDue s m unsigned
+pub master-unsigned : (s : List ℕ) (m : ℕ) → isMasterType s m ≡ true → SignalDue s m noSignal
 unfolding isMasterType
 master-unsigned s m h t =
     let g : either (eqb 1 2) (eqb 1 3) ≡ true = rw t at h in
@@ -309,5 +309,5 @@ decide-reason s n g c d e =
 
 -- within the limit of fragments
 pub signal-few : (s : List ℕ) (n c : ℕ) (d : Signal) → n ≤ 1024 → SignalKnown s n c d → n + sizeOfSignal d ≤ 1024
-signal-few s n c unsigned h k = omega arith
+signal-few s n c noSignal h k = omega arith
 signal-few s n c (signalData fs) h k = chain-fits signal limits s n (linkAt s c 5) fs h (k .1)

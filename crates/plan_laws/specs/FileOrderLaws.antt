@@ -8,7 +8,7 @@ use native.Mathlib.Omega.{arith}
 use Rattle.base.specs.Choice.{pick}
 use Rattle.base.specs.Checked.{ok}
 use Rattle.mdf.specs.Group.{isStorage}
-use Rattle.plan.specs.Columns.{SrcGroup, masterOf, TimeOf, time, untimed, differs, timeOf, Column, Omission, Plan, withOmission, timeColumn, onPlanned, withColumn, withTime, Decision, omitted, kept, decide, sizeOfSignal, decided, planChannels, ownMaster, planTimed, planGroup, planGroups, plan, omissionAddresses}
+use Rattle.plan.specs.Columns.{SrcGroup, masterOf, TimeOf, time, untimed, differs, timeOf, Column, Omission, Plan, withOmission, timeColumn, onPlanned, withColumn, withTime, Decision, omitted, kept, decide, sizeOfSignal, withDecision, planChannels, ownMaster, planTimed, planGroup, planGroups, plan, omissionAddresses}
 use Rattle.result.specs.Member.{In, here, there}
 use Rattle.result.specs.Recording.{Differs, Among, filePlaces, signalChannels}
 use Rattle.plan_laws.specs.Answers.{ok-same, true≢false, with-ok, eq-cases, pick-cases}
@@ -98,7 +98,7 @@ left-more a m =
       among-channels = Among.left (m .among-channels);
     }
 
-decided-more : (g : SrcGroup) (m : Option ℕ) (c : ℕ) (p q : Plan) (d : Decision) (l : List ℕ) → More (decided g m c p d) q l → More p q (c ∷ l)
+decided-more : (g : SrcGroup) (m : Option ℕ) (c : ℕ) (p q : Plan) (d : Decision) (l : List ℕ) → More (withDecision g m c p d) q l → More p q (c ∷ l)
 decided-more g m c p q (omitted r) l h = omitted-more p q c r l h
 decided-more g m c p q (kept d) l h = kept-more p q _ (sizeOfSignal d) l refl h
 
@@ -108,7 +108,7 @@ channels-more s g own m [] p q e = no-more p q [] (ok-same e)
 channels-more s g own m (c ∷ cs) p q e =
     eq-cases c own _ _ e
     (λ _ r. left-more c (channels-more s g own m cs p q r))
-    (λ _ r. with-ok (decide s (p .fragments) (g .at) c) _ r (λ d _ r. decided-more g m c p q d cs (channels-more s g own m cs (decided g m c p d) q r)))
+    (λ _ r. with-ok (decide s (p .fragments) (g .at) c) _ r (λ d _ r. decided-more g m c p q d cs (channels-more s g own m cs (withDecision g m c p d) q r)))
 
 time-omissions : (o : Option ℕ) (c : Column) (p : Plan) → onPlanned o (withColumn c 0 p) p .omissions ≡ p .omissions
 time-omissions none c p = refl

@@ -12,7 +12,7 @@ use Rattle.base.specs.ChoiceLaws.{eq-yes, eq-no}
 use Rattle.base.specs.Checked.{ok}
 use Rattle.mdf.specs.Group.{isStorage}
 use Rattle.plan.specs.Channel.{fits}
-use Rattle.plan.specs.Columns.{SrcGroup, masterOf, TimeOf, time, untimed, differs, timeOf, unsigned, Column, Omission, Plan, withColumn, withOmission, timeColumn, onPlanned, withTime, Decision, omitted, kept, decide, sizeOfSignal, decided, planChannels, ownMaster, planTimed, planGroup, planGroups, plan, omissionAddresses}
+use Rattle.plan.specs.Columns.{SrcGroup, masterOf, TimeOf, time, untimed, differs, timeOf, noSignal, Column, Omission, Plan, withColumn, withOmission, timeColumn, onPlanned, withTime, Decision, omitted, kept, decide, sizeOfSignal, withDecision, planChannels, ownMaster, planTimed, planGroup, planGroups, plan, omissionAddresses}
 use Rattle.result.specs.Recording.{reasonFor, OmissionDue, SignalDue}
 use Rattle.result.specs.Guarantee.{In, here, there, columnsOf, omissionsOf, columnAt, IsTime, NamesMaster, Kinded}
 use Rattle.plan_laws.specs.Answers.{ok-same, true≢false, with-ok, eq-cases, pick-cases, or-not}
@@ -136,7 +136,7 @@ module _ (s : List ℕ) (all : List SrcGroup) (n : ℕ) (g : SrcGroup) (m : Opti
     pub times : (x : ℕ) → timesOf x (q .columns) ≡ timesOf x (p .columns)
 
   channel-done : (c : ℕ) (p : Plan) (d : Decision) → Planned s all n p → GivenDue (p .columns) m (g .records) (timeOf s all g)
-      → In c (g .channels) → (c ≡ ownMaster (masterOf s g) → ⊥) → decide s (p .fragments) (g .at) c ≡ ok d → ChannelDone c p (decided g m c p d)
+      → In c (g .channels) → (c ≡ ownMaster (masterOf s g) → ⊥) → decide s (p .fragments) (g .at) c ≡ ok d → ChannelDone c p (withDecision g m c p d)
   unfolding total
   channel-done c p (omitted r) h k i o e =
       let w = decide-reason s (p .fragments) (g .at) c (omitted r) e in
@@ -179,7 +179,7 @@ module _ (s : List ℕ) (all : List SrcGroup) (n : ℕ) (g : SrcGroup) (m : Opti
       })
       (λ o t. with-ok (decide s (p .fragments) (g .at) c) _ t (λ d b t.
       let a = channel-done c p d h k (i c here) o b in
-      let r = channels-done cs (decided g m c p d) q (a .planned) (a .due) (λ x j. i x (there j)) t in
+      let r = channels-done cs (withDecision g m c p d) q (a .planned) (a .due) (λ x j. i x (there j)) t in
       record {
         planned = r .planned;
         totals = λ x. rw (← eq-no c own 0 (same c x) o refl) (omega (arith, r .totals x, a .totals x));
@@ -197,7 +197,7 @@ pub record TimeIs (q : Plan) (g t : SrcGroup) (m k : ℕ) : Type 0 where
 
 -- the time column of t, made of m
 abbrev timeOfGroup : SrcGroup → ℕ → Column
-timeOfGroup t m = record { group = t; channel = m; isTime = true; master = none; signalOf = unsigned }
+timeOfGroup t m = record { group = t; channel = m; isTime = true; master = none; signalOf = noSignal }
 
 -- from plan p to plan q: the time column of t, made of m, is there
 pub record TimeDone (s : List ℕ) (all : List SrcGroup) (n : ℕ) (g t : SrcGroup) (m : ℕ) (p q : Plan) : Type 0 where

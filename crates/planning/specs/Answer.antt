@@ -12,9 +12,9 @@ use Rattle.mdf.specs.Identification.{identified}
 use Rattle.mdf.specs.Walk.{Source, walk}
 use Rattle.mdf.specs.Group.{dataGroups}
 use Rattle.mdf.specs.Count.{counts}
-use Rattle.mdf.specs.Words.{countsAt, laidItems, fragmentWords}
+use Rattle.work_words.specs.Words.{countsAt, laidItems, fragmentWords}
 use Rattle.plan.specs.Columns.{Column, Plan, srcGroups, plan}
-use Rattle.plan.specs.PlanWords.{signalFragments, laidPlan}
+use Rattle.work_words.specs.PlanWords.{signalFragments, laidPlan}
 use Rattle.plan.specs.Data.{allDataIn, blocksIn}
 use Rattle.reading.specs.Reading.{Recording, reading, zeros}
 use Rattle.planning.specs.declared.recording.Planned.{Planned}

@@ -17,11 +17,11 @@ use Rattle.mdf.specs.Identification.{identified}
 use Rattle.mdf.specs.Walk.{Item, Source, walk}
 use Rattle.mdf.specs.Group.{dataGroups}
 use Rattle.mdf.specs.Count.{counts}
-use Rattle.mdf.specs.Words.{sourceWords, fragmentWords}
+use Rattle.work_words.specs.Words.{sourceWords, fragmentWords}
 use Rattle.chains.specs.Kept.{kept}
 use Rattle.chains.specs.KeptLaws.{length-words, words-append}
 use Rattle.plan.specs.Columns.{Plan, srcGroups, plan}
-use Rattle.plan.specs.PlanWords.{signalFragments}
+use Rattle.work_words.specs.PlanWords.{signalFragments}
 use Rattle.plan.specs.Data.{allDataIn, blocksIn}
 use Rattle.plan_laws.specs.Answers.{with-ok}
 use Rattle.plan_laws.specs.WalkLaws.{walk-sound}

@@ -8,8 +8,8 @@ use lib.Dec.{eqb}
 use Rattle.base.specs.Choice.{pick, ifEq}
 use Rattle.base.specs.Checked.{Checked, ok, refused, andThen}
 use Rattle.mdf.specs.Group.{isStorage}
-use Rattle.plan.specs.Columns.{SrcGroup, Column, Plan, unsigned, onPlanned, Decision, omitted, kept, TimeOf, time, untimed, differs, masterOf, groupAt, remoteLink, onGroup, onMaster, remoteTime, timeOf, timeColumn, withColumn, withOmission, withTime, decide, decided, ownMaster, planChannels, planTimed, planGroup, planGroups, plan, sizeOfSignal}
-use Rattle.plan.specs.PlanWords.{columnWords, columnsWords, signalFragments, laidPlan}
+use Rattle.plan.specs.Columns.{SrcGroup, Column, Plan, noSignal, onPlanned, Decision, omitted, kept, TimeOf, time, untimed, differs, masterOf, groupAt, remoteLink, onGroup, onMaster, remoteTime, timeOf, timeColumn, withColumn, withOmission, withTime, decide, withDecision, ownMaster, planChannels, planTimed, planGroup, planGroups, plan, sizeOfSignal}
+use Rattle.work_words.specs.PlanWords.{columnWords, columnsWords, signalFragments, laidPlan}
 use Rattle.plan.specs.Data.{isNonempty, anyNonempty, signalsIn, blocksIn}
 use Rattle.planning.specs.Bare.{bare, bares, bareColumn, bareColumns, barePlan, bareChecked, bareGroup, bareTime}
 
@@ -71,7 +71,7 @@ one-bare c = refl
 added-bare : (c : Column) (n : ℕ) (p : Plan) → withColumn (bareColumn c) n (barePlan p) ≡ barePlan (withColumn c n p)
 added-bare c n p = rw (append-bare (p .columns) (c ∷ []), one-bare c)
 
-decided-bare : (g : SrcGroup) (m : Option ℕ) (c : ℕ) (p : Plan) (d : Decision) → decided (bare g) m c (barePlan p) d ≡ barePlan (decided g m c p d)
+decided-bare : (g : SrcGroup) (m : Option ℕ) (c : ℕ) (p : Plan) (d : Decision) → withDecision (bare g) m c (barePlan p) d ≡ barePlan (withDecision g m c p d)
 decided-bare g m c p (omitted r) = refl
 decided-bare g m c p (kept d) = added-bare (record { group = g; channel = c; isTime = false; master = m; signalOf = d }) (sizeOfSignal d) p
 
@@ -79,9 +79,9 @@ timed-bare : (t : SrcGroup) (m : ℕ) (p : Plan) → withTime (bare t) m (barePl
 unfolding withTime
 timed-bare t m p = rw (column-bare (t .at) 0 (p .columns)) (go (timeColumn (t .at) 0 (p .columns)))
   where
-    go : (o : Option ℕ) → onPlanned o (withColumn (bareColumn (record { group = t; channel = m; isTime = true; master = none; signalOf = unsigned })) 0 (barePlan p)) (barePlan p)
-        ≡ barePlan (onPlanned o (withColumn (record { group = t; channel = m; isTime = true; master = none; signalOf = unsigned }) 0 p) p)
-    go none = added-bare (record { group = t; channel = m; isTime = true; master = none; signalOf = unsigned }) 0 p
+    go : (o : Option ℕ) → onPlanned o (withColumn (bareColumn (record { group = t; channel = m; isTime = true; master = none; signalOf = noSignal })) 0 (barePlan p)) (barePlan p)
+        ≡ barePlan (onPlanned o (withColumn (record { group = t; channel = m; isTime = true; master = none; signalOf = noSignal }) 0 p) p)
+    go none = added-bare (record { group = t; channel = m; isTime = true; master = none; signalOf = noSignal }) 0 p
     go (some k) = refl
 
 channels-bare : (s : List ℕ) (g : SrcGroup) (own : ℕ) (m : Option ℕ) (cs : List ℕ) (p : Plan)
@@ -89,14 +89,14 @@ channels-bare : (s : List ℕ) (g : SrcGroup) (own : ℕ) (m : Option ℕ) (cs :
 unfolding planChannels ifEq
 channels-bare s g own m [] p = refl
 channels-bare s g own m (c ∷ cs) p =
-    go (λ d. ap (planChannels s (bare g) own m cs) (decided-bare g m c p d) ∙ channels-bare s g own m cs (decided g m c p d))
+    go (λ d. ap (planChannels s (bare g) own m cs) (decided-bare g m c p d) ∙ channels-bare s g own m cs (withDecision g m c p d))
     (channels-bare s g own m cs p) (eqb c own) (decide s (p .fragments) (g .at) c)
   where
-    go : ((d : Decision) → planChannels s (bare g) own m cs (decided (bare g) m c (barePlan p) d) ≡ bareChecked (planChannels s g own m cs (decided g m c p d)))
+    go : ((d : Decision) → planChannels s (bare g) own m cs (withDecision (bare g) m c (barePlan p) d) ≡ bareChecked (planChannels s g own m cs (withDecision g m c p d)))
         → planChannels s (bare g) own m cs (barePlan p) ≡ bareChecked (planChannels s g own m cs p)
         → (t : Bool) (o : Checked Decision)
-        → pick t (planChannels s (bare g) own m cs (barePlan p)) (andThen o (λ d. planChannels s (bare g) own m cs (decided (bare g) m c (barePlan p) d)))
-        ≡ bareChecked (pick t (planChannels s g own m cs p) (andThen o (λ d. planChannels s g own m cs (decided g m c p d))))
+        → pick t (planChannels s (bare g) own m cs (barePlan p)) (andThen o (λ d. planChannels s (bare g) own m cs (withDecision (bare g) m c (barePlan p) d)))
+        ≡ bareChecked (pick t (planChannels s g own m cs p) (andThen o (λ d. planChannels s g own m cs (withDecision g m c p d))))
     go f h true o = h
     go f h false (ok d) = f d
     go f h false (refused x y) = refl

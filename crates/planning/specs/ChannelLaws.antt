@@ -13,9 +13,9 @@ use Rattle.base.specs.ChoiceLaws.{eq-yes, eq-no}
 use Rattle.base.specs.Blit.{blit}
 use Rattle.base.specs.Checked.{Checked, ok, refused, andThen}
 use Rattle.chains.specs.Kept.{kept}
-use Rattle.plan.specs.Columns.{SrcGroup, Plan, Signal, unsigned, signalData, sizeOfSignal, omitted, decide, decided, planChannels}
+use Rattle.plan.specs.Columns.{SrcGroup, Plan, Signal, noSignal, signalData, sizeOfSignal, omitted, decide, withDecision, planChannels}
 use Rattle.plan.specs.Columns as columns
-use Rattle.plan.specs.PlanWords.{masterWord, signalWord, columnWords, fragmentsIn}
+use Rattle.work_words.specs.PlanWords.{masterWord, signalWord, columnWords, fragmentsIn}
 use Rattle.plan_laws.specs.DecideLaws.{decide-kept, signal-few}
 use Rattle.planning.specs.declared.decide.Decision.{Decision}
 use Rattle.planning.specs.declared.decide.Decision.the-variants.{Omitted, Kept}
@@ -71,7 +71,7 @@ pub signal-clear : (b : Bool) (n : ℕ) → b ≡ false → 0 ≡ signalIf b n
 signal-clear b n e = rw e
 
 signal-word : (d : Signal) (n : ℕ) → signalIf (isSigned d) n ≡ signalWord n d
-signal-word unsigned n = refl
+signal-word noSignal n = refl
 signal-word (signalData fs) n = refl
 
 kept-plan : (s : List ℕ) (g d records master c nc no nf : ℕ) (w f : List ℕ) {b : Bool} {m x : ℕ} {w' f' : List ℕ} (e : Signal)
@@ -149,17 +149,17 @@ module _ (s : List ℕ) (g : SrcGroup) (own : ℕ) (m : Option ℕ) where
   plan-own c cs p h = sym (eq-yes _ _ _ _ h refl)
 
   plan-more : (c : ℕ) (cs : List ℕ) (p : Plan) → (c ≡ own → ⊥)
-      → planChannels s g own m (c ∷ cs) p ≡ andThen (andThen (decide s (p .fragments) (g .at) c) (λ d. ok (decided g m c p d))) (planChannels s g own m cs)
+      → planChannels s g own m (c ∷ cs) p ≡ andThen (andThen (decide s (p .fragments) (g .at) c) (λ d. ok (withDecision g m c p d))) (planChannels s g own m cs)
   unfolding planChannels
   plan-more c cs p h = sym (eq-no _ _ _ _ h (go (decide s (p .fragments) (g .at) c)))
     where
-      go : (o : Checked columns.Decision) → andThen (andThen o (λ d. ok (decided g m c p d))) (planChannels s g own m cs)
-          ≡ andThen o (λ d. planChannels s g own m cs (decided g m c p d))
+      go : (o : Checked columns.Decision) → andThen (andThen o (λ d. ok (withDecision g m c p d))) (planChannels s g own m cs)
+          ≡ andThen o (λ d. planChannels s g own m cs (withDecision g m c p d))
       go (ok d) = refl
       go (refused x y) = refl
 
   plan-step : (c : ℕ) (cs : List ℕ) (p : Plan) (nf : ℕ) → p .fragments ≡ nf → (c ≡ own → ⊥)
-      → andThen (andThen (decide s nf (g .at) c) (λ d. ok (decided g m c p d))) (planChannels s g own m cs) ≡ planChannels s g own m (c ∷ cs) p
+      → andThen (andThen (decide s nf (g .at) c) (λ d. ok (withDecision g m c p d))) (planChannels s g own m cs) ≡ planChannels s g own m (c ∷ cs) p
   plan-step c cs p nf e h = rw (← e) (sym (plan-more c cs p h))
 
 -- ---- the code's answer back to the plan
@@ -275,7 +275,7 @@ module _ {s src : List ℕ} {n i g d records own master nc₀ no₀ nf₀ : ℕ}
           stood = t .now b p m cs j y u
 
           abbrev step : Checked Plan
-          step = andThen (decide s nf g c) (λ a. ok (decided (groupOf d g cs records) m c (stood .plan) a))
+          step = andThen (decide s nf g c) (λ a. ok (withDecision (groupOf d g cs records) m c (stood .plan) a))
 
           next-budget : nc + (1 + others own (channelsIn src n (k + 1))) ≤ 512
           next-budget = rw (channels-next src n k h e z v, others-more own c (channelsIn src n (k + 1)) q) at (stood .budget)

@@ -8,7 +8,7 @@ use Rattle.base.specs.Blit.{part}
 use Rattle.base.specs.Checked.{andThen, Verdict, fine}
 use Rattle.mdf.specs.Walk.{Item, dg, cg, cn}
 use Rattle.mdf.specs.Group.{addresses, groupsOf, upTo}
-use Rattle.mdf.specs.Words.{fragmentsOf}
+use Rattle.work_words.specs.Words.{fragmentsOf}
 use Rattle.mdf.specs.Records.{rangesIn, sortedIn}
 use Rattle.planning.specs.Stage.{nonemptyIn}
 

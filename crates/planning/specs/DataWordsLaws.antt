@@ -20,12 +20,12 @@ use Rattle.fields.specs.Answer.{verdictOf}
 use Rattle.mdf.specs.Chain.{Fragment}
 use Rattle.mdf.specs.Walk.{Item, dg, cg, cn}
 use Rattle.mdf.specs.Group.{DataGroup, addresses, groupsOf, upTo, dataGroupsOf}
-use Rattle.mdf.specs.Words.{fragmentWords, fragmentsOf}
+use Rattle.work_words.specs.Words.{fragmentWords, fragmentsOf}
 use Rattle.mdf.specs.Records.{rangesIn, sortedIn, unsortedFrames}
 use Rattle.mdf.specs.Count.{countGroups}
 use Rattle.chains.specs.KeptLaws.{length-words, words-append, words-back}
-use Rattle.plan.specs.Columns.{Column, Signal, unsigned, signalData, sizeOfSignal}
-use Rattle.plan.specs.PlanWords.{columnWords, columnsWords, signalWord, fragmentsIn, signalFragments}
+use Rattle.plan.specs.Columns.{Column, Signal, noSignal, signalData, sizeOfSignal}
+use Rattle.work_words.specs.PlanWords.{columnWords, columnsWords, signalWord, fragmentsIn, signalFragments}
 use Rattle.plan.specs.Data.{anyNonempty, recordsIn, signalIn, signalsIn, dataIn, allDataIn}
 use Rattle.result.specs.Guarantee.{In, here, there}
 use Rattle.plan_laws.specs.Answers.{with-ok}
@@ -231,7 +231,7 @@ module _ (s w f : List ℕ) (d n k : ℕ) (c : Column) (cs : List Column) (h : S
       inner : (g : Signal) → getD w (8 * k + 6) 0 ≡ signalWord n g → getD w (8 * k + 7) 0 ≡ sizeOfSignal g → Stands f (3 * n) (fragmentWords (fragmentsIn g))
           → n + length (fragmentsIn g) ≤ 1024
           → ifEq (getD w (8 * k + 6) 0) 0 fine (rangesOver s f (getD w (8 * k + 6) 0 - 1) (getD w (8 * k + 7) 0)) ≡ signalIn s g
-      inner unsigned p q t l = sym (eq-yes _ _ _ _ p refl)
+      inner noSignal p q t l = sym (eq-yes _ _ _ _ p refl)
       inner (signalData fs) p q t l =
           let z : n + 1 - 1 ≡ n = omega arith in
           sym (eq-no _ _ _ _ (λ x. omega (arith, x, p)) refl) ∙ rw (p, q, z) (ranges-stand s f n fs t l)

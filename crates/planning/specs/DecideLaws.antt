@@ -22,7 +22,7 @@ use Rattle.chains.specs.declared.chain.Chained.the-variants.{Stopped, Done}
 use Rattle.chains.specs.Kept.{kept, given, laid}
 use Rattle.chains.specs.KeptLaws.{kept-none}
 use Rattle.plan.specs.Channel.{channelType, fits, isMasterType, keep, asFixed, treatment}
-use Rattle.plan.specs.Columns.{unsigned, omitted, kindCA, keptSignal, decideSignal, decideComposition, onTreatment, decide}
+use Rattle.plan.specs.Columns.{noSignal, omitted, kindCA, keptSignal, decideSignal, decideComposition, onTreatment, decide}
 use Rattle.plan.specs.Columns as columns
 use Rattle.planning.specs.declared.decide.Decision.{Decision}
 use Rattle.planning.specs.declared.decide.Decision.the-variants.{Refused, Omitted, Kept}
@@ -38,7 +38,7 @@ module _ {d : Checked columns.Decision} (n : ℕ) (w : List ℕ) where
   unfolding laidDecision
   left-omitted e = rw (← e)
 
-  pub left-unsigned : ok (columns.kept unsigned) ≡ d → leaves (Kept false n) w ≡ laidDecision d n w
+  pub left-unsigned : ok (columns.kept noSignal) ≡ d → leaves (Kept false n) w ≡ laidDecision d n w
   unfolding laidDecision
   left-unsigned e = rw (← e, add-zero, kept-none)
 
@@ -65,12 +65,12 @@ module _ (f : Found) (n : ℕ) (w : List ℕ) {o : Chained} {w' : List ℕ} (e :
 
 -- ---- reason 7 and signal data
 module _ (s : List ℕ) (n c : ℕ) {t : ℕ} (e : t ≡ channelType s c) where
-  pub signal-other : (t ≡ 1 → ⊥) → ok (columns.kept unsigned) ≡ decideSignal s n c
+  pub signal-other : (t ≡ 1 → ⊥) → ok (columns.kept noSignal) ≡ decideSignal s n c
   unfolding decideSignal
   signal-other h = eq-no _ _ _ _ (λ q. h (e ∙ q)) refl
 
   module _ (h : t ≡ 1) {a : ℕ} (l : a ≡ linkAt s c 5) where
-    pub signal-none : a ≡ 0 → ok (columns.kept unsigned) ≡ decideSignal s n c
+    pub signal-none : a ≡ 0 → ok (columns.kept noSignal) ≡ decideSignal s n c
     unfolding decideSignal
     signal-none z = eq-yes _ _ _ _ (sym e ∙ h) (eq-yes _ _ _ _ (sym l ∙ z) refl)
 

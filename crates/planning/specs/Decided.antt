@@ -4,9 +4,9 @@ use mathlib.Core.List.{List}
 use mathlib.Core.Bool.{Bool, true, false}
 use Rattle.base.specs.Checked.{Checked, ok, refused}
 use Rattle.chains.specs.Kept.{kept}
-use Rattle.plan.specs.Columns.{Signal, unsigned, signalData, sizeOfSignal, omitted}
+use Rattle.plan.specs.Columns.{Signal, noSignal, signalData, sizeOfSignal, omitted}
 use Rattle.plan.specs.Columns as columns
-use Rattle.plan.specs.PlanWords.{fragmentsIn}
+use Rattle.work_words.specs.PlanWords.{fragmentsIn}
 use Rattle.planning.specs.declared.decide.Decision.{Decision}
 use Rattle.planning.specs.declared.decide.Decision.the-variants.{Refused, Omitted, Kept}
 
@@ -20,7 +20,7 @@ left (Omitted reason) w = leaves (Omitted reason) w
 left (Kept signal count) w = leaves (Kept signal count) w
 
 abbrev pub isSigned : Signal → Bool
-isSigned unsigned = false
+isSigned noSignal = false
 isSigned (signalData fs) = true
 
 -- n fragments are kept before

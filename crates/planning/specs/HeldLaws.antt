@@ -9,12 +9,12 @@ use Rattle.base.specs.Blit.{blit}
 use Rattle.base.specs.BlitLaws.{blit-append, blit-comm}
 use Rattle.chains.specs.Kept.{kept}
 use Rattle.chains.specs.KeptLaws.{kept-append}
-use Rattle.plan.specs.Columns.{Column, Omission, Plan, Signal, unsigned, signalData, sizeOfSignal, withColumn, withOmission}
-use Rattle.plan.specs.PlanWords.{columnWords, columnsWords, omissionPairs, fragmentsIn, signalFragments, laidPlan}
+use Rattle.plan.specs.Columns.{Column, Omission, Plan, Signal, noSignal, signalData, sizeOfSignal, withColumn, withOmission}
+use Rattle.work_words.specs.PlanWords.{columnWords, columnsWords, omissionPairs, fragmentsIn, signalFragments, laidPlan}
 use Rattle.planning.specs.Planning.{Base, Held}
 
 pub size-is : (d : Signal) → sizeOfSignal d ≡ length (fragmentsIn d)
-size-is unsigned = refl
+size-is noSignal = refl
 size-is (signalData fs) = refl
 
 signals-more : (cs : List Column) (c : Column) → signalFragments (cs ++ (c ∷ [])) ≡ signalFragments cs ++ fragmentsIn (c .signalOf)

@@ -6,7 +6,7 @@ use lib.ListN.{getD}
 use Rattle.base.specs.Choice.{ifEq}
 use Rattle.mdf.specs.Walk.{Item, dg, cg, cn}
 use Rattle.mdf.specs.Group.{channelsOf}
-use Rattle.mdf.specs.Words.{marksAt, countsAt}
+use Rattle.work_words.specs.Words.{marksAt, countsAt}
 use Rattle.plan.specs.Columns.{SrcGroup}
 use Rattle.planning.specs.declared.groups.Sought.{Sought}
 use Rattle.planning.specs.declared.groups.Sought.the-variants.{Nothing, Group}

@@ -5,7 +5,7 @@ use lib.ListN.{length}
 use Rattle.base.specs.Checked.{Checked, ok, refused}
 use Rattle.chains.specs.Kept.{kept}
 use Rattle.plan.specs.Columns.{Plan}
-use Rattle.plan.specs.PlanWords.{signalFragments, laidPlan}
+use Rattle.work_words.specs.PlanWords.{signalFragments, laidPlan}
 use Rattle.planning.specs.declared.column.Progress.{Progress}
 use Rattle.planning.specs.declared.column.Progress.the-variants.{Refused, Done}
 

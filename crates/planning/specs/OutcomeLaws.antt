@@ -10,11 +10,11 @@ use Rattle.base.specs.Checked.{Checked, ok, refused}
 use Rattle.mdf.specs.Walk.{Source, walk, levelCG, tally}
 use Rattle.mdf.specs.Group.{dataGroups}
 use Rattle.mdf.specs.Count.{counts}
-use Rattle.mdf.specs.Words.{countsAt, laidItems}
+use Rattle.work_words.specs.Words.{countsAt, laidItems}
 use Rattle.chains.specs.Kept.{kept}
 use Rattle.chains.specs.KeptLaws.{kept-none}
 use Rattle.plan.specs.Columns.{SrcGroup, Column, Plan, srcGroups, plan}
-use Rattle.plan.specs.PlanWords.{columnsWords, omissionPairs, signalFragments, laidPlan}
+use Rattle.work_words.specs.PlanWords.{columnsWords, omissionPairs, signalFragments, laidPlan}
 use Rattle.plan_laws.specs.WalkLaws.{walk-sound, walk-open}
 use Rattle.plan_laws.specs.SourceLaws.{groups-known}
 use Rattle.planning.specs.declared.column.Progress.{Progress}

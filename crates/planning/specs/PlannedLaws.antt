@@ -12,7 +12,7 @@ use Rattle.base.specs.Choice.{ifEq}
 use Rattle.base.specs.ChoiceLaws.{eq-no}
 use Rattle.base.specs.Checked.{ok, refused, andThen}
 use Rattle.mdf.specs.Group.{isStorage}
-use Rattle.plan.specs.Columns.{SrcGroup, Plan, Decision, omitted, kept, TimeOf, time, untimed, differs, masterOf, timeOf, ownMaster, decide, decided, withOmission, withTime, planChannels, planTimed, planGroup, planGroups}
+use Rattle.plan.specs.Columns.{SrcGroup, Plan, Decision, omitted, kept, TimeOf, time, untimed, differs, masterOf, timeOf, ownMaster, decide, withDecision, withOmission, withTime, planChannels, planTimed, planGroup, planGroups}
 use Rattle.result.specs.Guarantee.{In, here}
 use Rattle.plan_laws.specs.Answers.{with-ok, eq-cases, pick-cases, ok-same}
 use Rattle.plan_laws.specs.Lists.{in-right}
@@ -80,7 +80,7 @@ pub record Took (s : List ℕ) (all : List SrcGroup) (k : ℕ) (p q : Plan) : Ty
   pub waits : waiting s (q .columns) all ≡ waiting s (p .columns) all
   pub few : length (q .columns) ≤ length (p .columns) + k
 
-decided-took : (s : List ℕ) (all : List SrcGroup) (g : SrcGroup) (m : Option ℕ) (c : ℕ) (p : Plan) (d : Decision) → Took s all 1 p (decided g m c p d)
+decided-took : (s : List ℕ) (all : List SrcGroup) (g : SrcGroup) (m : Option ℕ) (c : ℕ) (p : Plan) (d : Decision) → Took s all 1 p (withDecision g m c p d)
 decided-took s all g m c p (omitted r) = record { waits = refl; few = omega arith }
 decided-took s all g m c p (kept d) =
     record {
@@ -100,7 +100,7 @@ channels-took s all g own m (c ∷ cs) p q e =
     record { waits = t .waits; few = omega arith })
     (λ h i. with-ok (decide s (p .fragments) (g .at) c) _ i (λ d j k.
     let a = decided-took s all g m c p d in
-    let t = channels-took s all g own m cs (decided g m c p d) q k in
+    let t = channels-took s all g own m cs (withDecision g m c p d) q k in
     let l = t .few in
     let l' = a .few in
     let o : _≡_ {A = ℕ} 1 (ifEq c own 0 1) = eq-no _ _ _ _ h refl in

@@ -11,7 +11,7 @@ use Rattle.base.specs.BlitLaws.{length-blit}
 use Rattle.mdf.specs.Chain.{Fragment}
 use Rattle.mdf.specs.Walk.{Item, dg, cg, cn, address, levelDG, levelCG, levelCN, tally}
 use Rattle.mdf.specs.Group.{groupsOf, dataGroupsOf}
-use Rattle.mdf.specs.Words.{mark, addressWords, markWords, groupWords, laidItems, marksAt, countsAt}
+use Rattle.work_words.specs.Words.{mark, addressWords, markWords, groupWords, laidItems, marksAt, countsAt}
 use Rattle.plan_laws.specs.WalkLaws.{Open}
 use Rattle.plan_laws.specs.GroupLaws.{groupCount}
 use Rattle.planning.specs.Items.{item, itemsFrom}

@@ -9,8 +9,8 @@ use native.Mathlib.Omega.{arith}
 use lib.ListN.{length, length-append}
 use Rattle.base.specs.Blit.{blit}
 use Rattle.chains.specs.KeptLaws.{kept-none}
-use Rattle.plan.specs.Columns.{SrcGroup, Column, Plan, unsigned, TimeOf, time, untimed, differs, masterOf, timeOf, timeColumn, withColumn, withOmission, withTime, ownMaster}
-use Rattle.plan.specs.PlanWords.{masterWord, columnWords}
+use Rattle.plan.specs.Columns.{SrcGroup, Column, Plan, noSignal, TimeOf, time, untimed, differs, masterOf, timeOf, timeColumn, withColumn, withOmission, withTime, ownMaster}
+use Rattle.work_words.specs.PlanWords.{masterWord, columnWords}
 use Rattle.result.specs.Guarantee.{In}
 use Rattle.plan_laws.specs.DecideLaws.{time-known}
 use Rattle.planning.specs.declared.masters.Master.{Master}
@@ -37,7 +37,7 @@ module _ (m : Master) (o : Option ℕ) (e : masterFrom m ≡ o) where
 
 -- ---- the plan with a time column
 abbrev timeOfGroup : SrcGroup → ℕ → Column
-timeOfGroup t m = record { group = t; channel = m; isTime = true; master = none; signalOf = unsigned }
+timeOfGroup t m = record { group = t; channel = m; isTime = true; master = none; signalOf = noSignal }
 
 old-time : (t : SrcGroup) (m : ℕ) (p : Plan) {k : ℕ} → timeColumn (t .at) 0 (p .columns) ≡ some k → withTime t m p ≡ p
 unfolding withTime

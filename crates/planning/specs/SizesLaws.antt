@@ -8,7 +8,7 @@ use native.Mathlib.Omega.{arith}
 use lib.ListN.{length, getD, List·getD-eq-default}
 use Rattle.base.specs.ChoiceLaws.{eq-yes, eq-no}
 use Rattle.mdf.specs.Chain.{Fragment}
-use Rattle.mdf.specs.Words.{fragmentWords}
+use Rattle.work_words.specs.Words.{fragmentWords}
 use Rattle.mdf.specs.Records.{sizeOf}
 use Rattle.planning.specs.Sizes.{sizesFrom, signalSize}
 

@@ -9,7 +9,7 @@ use Rattle.fields.specs.declared.Check.{Check}
 use Rattle.fields.specs.Answer.{verdictOf}
 use Rattle.plan.specs.Channel.{width, both}
 use Rattle.plan.specs.Columns.{Column}
-use Rattle.plan.specs.PlanWords.{columnsWords}
+use Rattle.work_words.specs.PlanWords.{columnsWords}
 use Rattle.plan.specs.Data.{blocksIn}
 
 -- columns that stand in words from number k on; n fragments are kept before theirs

@@ -14,7 +14,7 @@ use Rattle.base.specs.Checked.{refused}
 use Rattle.fields.specs.declared.Check.the-variants.{Fine, Refused}
 use Rattle.plan.specs.Channel.{width}
 use Rattle.plan.specs.Columns.{Column, sizeOfSignal}
-use Rattle.plan.specs.PlanWords.{columnWords, columnsWords}
+use Rattle.work_words.specs.PlanWords.{columnWords, columnsWords}
 use Rattle.plan.specs.Geometry.{blockCount}
 use Rattle.plan.specs.Data.{isNonempty, anyNonempty, blocksIn}
 use Rattle.planning.specs.Stage.{Stand, nonemptyIn, BlocksStage}

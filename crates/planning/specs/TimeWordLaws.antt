@@ -14,7 +14,7 @@ use Rattle.base.specs.Blit.{blit}
 use Rattle.base.specs.BlitLaws.{length-blit}
 use Rattle.plan.specs.Channel.{both}
 use Rattle.plan.specs.Columns.{Column, Plan, sizeOfSignal, timeColumn}
-use Rattle.plan.specs.PlanWords.{timeWord, masterWord, columnWords, columnsWords, omissionPairs, laidPlan}
+use Rattle.work_words.specs.PlanWords.{timeWord, masterWord, columnWords, columnsWords, omissionPairs, laidPlan}
 use Rattle.planning.specs.Planning.{Base, Held}
 use Rattle.planning.specs.Stage.{Stand}
 use Rattle.planning.specs.TimeIn.{isTimeIn, timeIn}

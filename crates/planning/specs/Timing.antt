@@ -5,7 +5,7 @@ use mathlib.Core.Option.{Option, none, some}
 use mathlib.Core.Path.{_≡_}
 use lib.ListN.{length}
 use Rattle.plan.specs.Columns.{SrcGroup, Column, Plan, masterOf, timeOf, timeColumn, withTime, planChannels, planTimed, ownMaster}
-use Rattle.plan.specs.PlanWords.{masterWord}
+use Rattle.work_words.specs.PlanWords.{masterWord}
 use Rattle.result.specs.Guarantee.{In}
 use Rattle.planning.specs.declared.timing.Settled.{Settled}
 use Rattle.planning.specs.Items.{groupOf, groupsIn, channelsIn}

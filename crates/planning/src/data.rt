@@ -13,7 +13,7 @@ ghost use Prim.Native.Nat.{_*_, _-_, _≤_};
 ghost use lib.ListN.{length};
 ghost use Rattle.base.specs.Blit.{part};
 ghost use Rattle.fields.specs.Answer.{verdictOf};
-ghost use Rattle.mdf.specs.Words.{fragmentsOf};
+ghost use Rattle.work_words.specs.Words.{fragmentsOf};
 ghost use Rattle.mdf.specs.Records.{sortedIn};
 ghost use Rattle.planning.specs.Items.{itemsFrom};
 ghost use Rattle.planning.specs.DataWords.{rangesOver, signalOver, signalsOver, recordsOver, dataOver, allDataOver};

@@ -10,7 +10,7 @@ use Rattle.fields.specs.declared.Check.{Check}
 use Rattle.mdf.specs.Walk.{Source, levelCG, tally, mostItems}
 use Rattle.mdf.specs.Group.{dataGroups}
 use Rattle.mdf.specs.Count.{countGroups, counts}
-use Rattle.mdf.specs.Words.{marksAt, groupsAt, countsAt, sourceWords, fragmentsOf}
+use Rattle.work_words.specs.Words.{marksAt, groupsAt, countsAt, sourceWords, fragmentsOf}
 use Rattle.reading.specs.Steps.{after}
 use Rattle.reading.specs.Holding.{Holding}
 

@@ -20,7 +20,7 @@ use Rattle.mdf.specs.Walk.{Item, dg, cg, cn, levelDG, levelCG, levelCN, tally, 
 use Rattle.mdf.specs.Group.{DataGroup, addresses, groupsOf, upTo, dataGroupsOf, dataGroups}
 use Rattle.mdf.specs.Count.{countOne, countGroups, tallies, countsFrom, counts}
 use Rattle.mdf.specs.Records.{Frame, unsortedFrames}
-use Rattle.mdf.specs.Words.{marksAt, groupsAt, addressWords, markWords, groupWords, fragmentWords, fragmentsOf}
+use Rattle.work_words.specs.Words.{marksAt, groupsAt, addressWords, markWords, groupWords, fragmentWords, fragmentsOf}
 use Rattle.chains.specs.KeptLaws.{words-back, length-words}
 use Rattle.reading.specs.declared.answer.Span.{Span}
 use Rattle.reading.specs.Steps.{after}

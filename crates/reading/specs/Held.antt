@@ -6,7 +6,7 @@ use lib.ListN.{length}
 use Rattle.base.specs.Blit.{blit}
 use Rattle.base.specs.Checked.{Checked, ok, refused}
 use Rattle.mdf.specs.Walk.{Source, levelDG, levelCG, levelCN, tally, mostItems}
-use Rattle.mdf.specs.Words.{fragmentWords, laidItems, sourceWords}
+use Rattle.work_words.specs.Words.{fragmentWords, laidItems, sourceWords}
 
 -- what the code has: the words of blocks and of fragments, and how many blocks there are, DG, CG, CN, fragments
 pub record State : Type 0 where

@@ -14,7 +14,7 @@ use Rattle.mdf.specs.Block.{DG, CG, CN, linkAt, blockAt}
 use Rattle.mdf.specs.Name.{nameAt}
 use Rattle.mdf.specs.Chain.{isIn, Fragment, Chain.records, Found, found, stopped, Limits, chain}
 use Rattle.mdf.specs.Walk.{Item, dg, cg, cn, address, Source, source, isMet, Level, levelDG, levelCG, levelCN, tally, mostItems, visit, entered, idSizeIn, withFound}
-use Rattle.mdf.specs.Words.{mark, addressWords, marksAt, groupsAt, sourceWords, laidItems, fragmentWords, kindWord}
+use Rattle.work_words.specs.Words.{mark, addressWords, marksAt, groupsAt, sourceWords, laidItems, fragmentWords, kindWord}
 use Rattle.reading.specs.Steps.{after, visited, metCG, metCN, Pieces, pieces, afterData, laidFound, dataIn}
 use Rattle.reading.specs.declared.answer.Taken.{Taken}
 use Rattle.reading.specs.declared.answer.Taken.the-variants.{Done}

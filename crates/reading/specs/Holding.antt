@@ -5,7 +5,7 @@ use mathlib.Core.Path.{_≡_}
 use lib.ListN.{length}
 use Rattle.base.specs.Blit.{part}
 use Rattle.mdf.specs.Walk.{Source}
-use Rattle.mdf.specs.Words.{marksAt, groupsAt, sourceWords, addressWords, markWords, groupWords, fragmentWords}
+use Rattle.work_words.specs.Words.{marksAt, groupsAt, sourceWords, addressWords, markWords, groupWords, fragmentWords}
 use Rattle.reading.specs.Sound.{Sound}
 
 -- bs stands at a in l

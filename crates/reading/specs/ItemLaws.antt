@@ -11,7 +11,7 @@ use Rattle.base.specs.Blit.{part}
 use Rattle.mdf.specs.Chain.{Fragment}
 use Rattle.mdf.specs.Walk.{Item, dg, cg, cn, levelCG, tally}
 use Rattle.mdf.specs.Group.{addresses, groupsOf, upTo, dataGroupsOf}
-use Rattle.mdf.specs.Words.{kindWord, addressWords, markWords, groupWords, fragmentWords}
+use Rattle.work_words.specs.Words.{kindWord, addressWords, markWords, groupWords, fragmentWords}
 use Rattle.reading.specs.Sound.{Rising, none, next-dg, next-cg, next-cn, Starts, empty, first-dg}
 use Rattle.reading.specs.Spans.{ownMarks, ownGroups}
 

@@ -20,7 +20,7 @@ use Rattle.mdf.specs.Chain.{limits}
 use Rattle.mdf.specs.Walk.{Item, dg, cg, cn, Source, levelCG, tally, mostItems, walk}
 use Rattle.mdf.specs.Group.{DataGroup, addresses, groupsOf, dataGroupsOf, dataGroups, upTo}
 use Rattle.mdf.specs.Count.{countGroups, countsFrom, counts}
-use Rattle.mdf.specs.Words.{countsAt, sourceWords, laidItems, fragmentWords}
+use Rattle.work_words.specs.Words.{countsAt, sourceWords, laidItems, fragmentWords}
 use Rattle.chains.specs.KeptLaws.{length-words}
 use Rattle.reading.specs.declared.answer.Read.{Read}
 use Rattle.reading.specs.declared.answer.Read.the-variants.{Refused, Done}

@@ -9,7 +9,7 @@ use Rattle.mdf.specs.Identification.{identified}
 use Rattle.mdf.specs.Walk.{Source, levelCG, tally, walk}
 use Rattle.mdf.specs.Group.{dataGroups}
 use Rattle.mdf.specs.Count.{counts}
-use Rattle.mdf.specs.Words.{sourceWords, countsAt, laidItems, fragmentWords}
+use Rattle.work_words.specs.Words.{sourceWords, countsAt, laidItems, fragmentWords}
 use Rattle.reading.specs.declared.answer.Read.{Read}
 use Rattle.reading.specs.declared.answer.Read.the-variants.{Refused, Done}
 use Rattle.reading.specs.Walked.{Kept}

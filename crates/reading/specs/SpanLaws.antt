@@ -9,7 +9,7 @@ use lib.ListN.{length, getD}
 use lib.Seq.{drop-cons}
 use Rattle.base.specs.ChoiceLaws.{lt-yes, lt-no}
 use Rattle.base.specs.Blit.{part}
-use Rattle.mdf.specs.Words.{marksAt, sourceWords}
+use Rattle.work_words.specs.Words.{marksAt, sourceWords}
 use Rattle.reading.specs.declared.answer.Span.{Span}
 use Rattle.reading.specs.Spans.{ownMarks, ownGroups, marksFrom, spanAt}
 

@@ -3,7 +3,7 @@ use Prim.Native.Nat.{ℕ, _+_, _-_}
 use mathlib.Core.List.{List, [], _∷_}
 use Rattle.base.specs.Choice.{ifLt}
 use Rattle.base.specs.Blit.{part}
-use Rattle.mdf.specs.Words.{marksAt}
+use Rattle.work_words.specs.Words.{marksAt}
 use Rattle.reading.specs.declared.answer.Span.{Span}
 
 -- how many marks there are up to the next DG's

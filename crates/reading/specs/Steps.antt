@@ -12,7 +12,7 @@ use Rattle.mdf.specs.Block.{Wanted, CG, CN, linkAt, blockAt}
 use Rattle.mdf.specs.Name.{nameAt}
 use Rattle.mdf.specs.Chain.{isIn, Chain.records, Found, found, stopped, Limits, chain}
 use Rattle.mdf.specs.Walk.{mostItems, idSizeIn}
-use Rattle.mdf.specs.Words.{marksAt, groupsAt, fragmentWords}
+use Rattle.work_words.specs.Words.{marksAt, groupsAt, fragmentWords}
 
 -- the words that a check leaves
 abbrev pub after : Check → List ℕ → Checked (List ℕ)

@@ -14,7 +14,7 @@ use Rattle.mdf.specs.Block.{Wanted, CG, CN, linkAt, blockAt}
 use Rattle.mdf.specs.Name.{nameAt}
 use Rattle.mdf.specs.Chain.{isIn}
 use Rattle.mdf.specs.Walk.{mostItems}
-use Rattle.mdf.specs.Words.{marksAt, groupsAt}
+use Rattle.work_words.specs.Words.{marksAt, groupsAt}
 use Rattle.reading.specs.Steps.{after, visited, metCG, metCN}
 use Rattle.reading.specs.CheckedLaws.{refused≢ok}
 

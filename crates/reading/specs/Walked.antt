@@ -6,7 +6,7 @@ use Rattle.base.specs.Blit.{blit}
 use Rattle.base.specs.Checked.{Checked, ok, refused, andThen}
 use Rattle.mdf.specs.Chain.{Limits}
 use Rattle.mdf.specs.Walk.{Source, source, levelDG, levelCG, tally, level, turns, belowDG, walkOf}
-use Rattle.mdf.specs.Words.{fragmentWords, laidItems}
+use Rattle.work_words.specs.Words.{fragmentWords, laidItems}
 use Rattle.reading.specs.declared.answer.Read.{Read}
 use Rattle.reading.specs.declared.answer.Read.the-variants.{Refused, Done}
 

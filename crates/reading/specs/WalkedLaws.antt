@@ -11,7 +11,7 @@ use Rattle.fields.specs.Answer.{verdictOf}
 use Rattle.mdf.specs.Block.{HD, linkAt, blockAt}
 use Rattle.mdf.specs.Chain.{Limits}
 use Rattle.mdf.specs.Walk.{Source, source, levelDG, levelCG, tally, level, turns, belowDG, walkOf}
-use Rattle.mdf.specs.Words.{addressWords, markWords, groupWords, fragmentWords, laidItems, sourceWords}
+use Rattle.work_words.specs.Words.{addressWords, markWords, groupWords, fragmentWords, laidItems, sourceWords}
 use Rattle.reading.specs.declared.answer.Read.{Read}
 use Rattle.reading.specs.Held.{State, state, Held, Within, Gives, Stops}
 use Rattle.reading.specs.Walked.{Kept, given, keptOf, walkedFrom, walked}

@@ -10,7 +10,7 @@ use Rattle.base.specs.BlitLaws.{length-blit, blit-append, blit-one, blit-comm, 
 use Rattle.mdf.specs.Chain.{isIn}
 use Rattle.mdf.specs.Walk.{Item, dg, cg, cn, address, isMet, levelCG, tally, mostItems}
 use Rattle.reading.specs.Holding.{Stands}
-use Rattle.mdf.specs.Words.{mark, addressWords, markWords, groupWords, marksAt, groupsAt, sourceWords, laidItems}
+use Rattle.work_words.specs.Words.{mark, addressWords, markWords, groupWords, marksAt, groupsAt, sourceWords, laidItems}
 
 -- ---- one item more
 pub address-snoc : (is : List Item) (i : Item) → addressWords (is ++ (i ∷ [])) ≡ addressWords is ++ (address i ∷ [])

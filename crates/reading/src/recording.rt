@@ -23,7 +23,7 @@ ghost use Rattle.fields.specs.Answer.{verdictOf};
 ghost use Rattle.mdf.specs.Chain.{isIn, fileLimits};
 ghost use Rattle.mdf.specs.Walk.{idSizeIn};
 ghost use Rattle.chains.specs.Node.{limitsFor};
-ghost use Rattle.mdf.specs.Words.{sourceWords, countsAt};
+ghost use Rattle.work_words.specs.Words.{sourceWords, countsAt};
 ghost use Rattle.base.specs.Blit.{blit};
 ghost use Rattle.reading.specs.Steps.{after, visited, metCG, metCN, afterData, dataIn};
 ghost use Rattle.reading.specs.Walked.{given, walkedFrom, walked};

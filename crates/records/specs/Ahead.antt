@@ -6,7 +6,7 @@ use lib.ListN.{length, getD, drop}
 use Rattle.base.specs.Choice.{ifLe}
 use Rattle.base.specs.Blit.{part}
 use Rattle.mdf.specs.Chain.{dt, Fragment}
-use Rattle.mdf.specs.Words.{kindOf, fragmentsOf}
+use Rattle.work_words.specs.Words.{kindOf, fragmentsOf}
 use Rattle.mdf.specs.Records.{Framed, framed, broken, joined, frameAt}
 
 -- the fragment whose words begin at i

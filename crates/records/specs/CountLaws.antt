@@ -9,7 +9,7 @@ use lib.ListN.{length, getD}
 use Rattle.base.specs.ChoiceLaws.{lt-yes, lt-no, lt-back, lt-first, eq-yes, eq-no}
 use Rattle.base.specs.Checked.{Checked, ok, refused}
 use Rattle.mdf.specs.Chain.{Kind, dt, dv, Fragment}
-use Rattle.mdf.specs.Words.{kindOf, fragmentsOf}
+use Rattle.work_words.specs.Words.{kindOf, fragmentsOf}
 use Rattle.mdf.specs.Records.{isDV, most64, recordSize}
 use Rattle.mdf.specs.Count.{sizeDT, sizeDV, quotient, sortedCount, countOne}
 use Rattle.records.specs.declared.sorted.Counted.{Counted}

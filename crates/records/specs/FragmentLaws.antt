@@ -12,7 +12,7 @@ use lib.Seq.{drop-cons}
 use Rattle.base.specs.ChoiceLaws.{lt-yes, lt-no, lt-back, eq-yes, eq-no}
 use Rattle.base.specs.Checked.{refused, Verdict, fine}
 use Rattle.mdf.specs.Chain.{Kind, dt, dv, Fragment}
-use Rattle.mdf.specs.Words.{kindOf, fragmentsOf}
+use Rattle.work_words.specs.Words.{kindOf, fragmentsOf}
 use Rattle.records.specs.Ahead.{fragmentAt, fragmentsFrom}
 use Rattle.records.specs.Straddle.{kindIf}
 use Rattle.mdf.specs.Records.{rangesIn, isDV, anyDV}

@@ -15,7 +15,7 @@ use Rattle.base.specs.Field.{leAt}
 use Rattle.base.specs.Checked.{ok, refused, fine}
 use Rattle.mdf.specs.Chain.{Fragment}
 use Rattle.mdf.specs.Group.{recordId, samples, invalBytes, isStorage}
-use Rattle.mdf.specs.Words.{fragmentsOf}
+use Rattle.work_words.specs.Words.{fragmentsOf}
 use Rattle.mdf.specs.Records.{most64, rangesIn, joined, placeOf, sizeOf, Frame, Framed, framed, broken, Known, known, unknown, withId, onKnown, ofBytes, frameOf, frameAt, onFramed, framesFrom, frames}
 use Rattle.mdf.specs.Count.{tallies}
 use Rattle.records.specs.Ahead.{fragmentsFrom, clipped, ahead, Skipped, short, onto, skip, stepped, stuck, past, onFrame, stepAt}

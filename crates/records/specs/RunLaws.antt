@@ -15,7 +15,7 @@ use Rattle.records.specs.FragmentLaws.{lt-or-le, from-start, from-more, 
 use borrow.Author.Tests.{ltb-true, ltb-false}
 use Rattle.records.specs.Straddle.{kindIf, straddles, remainder, startOf, dvFits}
 use Rattle.mdf.specs.Group.{invalBytes}
-use Rattle.mdf.specs.Words.{kindOf, fragmentsOf}
+use Rattle.work_words.specs.Words.{kindOf, fragmentsOf}
 use Rattle.mdf.specs.Chain.{Kind, dt, dv, Fragment}
 use Rattle.mdf.specs.Records.{isDV, placeOf, rangesIn, anyDV, sortedIn, recordSize, Run, inFront, runs, sizeOf, runWhole, runsWhole}
 

@@ -18,7 +18,7 @@ use Rattle.base.specs.Checked.{Checked, ok, refused, andThen, Verdict, fine}
 use Rattle.mdf.specs.Chain.{Fragment}
 use Rattle.mdf.specs.Walk.{idSize}
 use Rattle.mdf.specs.Group.{recordId}
-use Rattle.mdf.specs.Words.{fragmentsOf}
+use Rattle.work_words.specs.Words.{fragmentsOf}
 use Rattle.mdf.specs.Records.{most64, rangesIn, anyDV, sizeOf, isIdOf, equalIds, Frame, frames, unsortedFrames}
 use Rattle.mdf.specs.Count.{ofGroup, tallies, countOne, countGroups}
 use Rattle.records.specs.Ahead.{fragmentsFrom}

@@ -3,7 +3,7 @@ use fields::Check;
 ghost use mathlib.Core.Path.{_≡_};
 ghost use lib.ListN.{getD};
 ghost use Rattle.fields.specs.Answer.{verdictOf};
-ghost use Rattle.mdf.specs.Words.{kindOf, fragmentsOf};
+ghost use Rattle.work_words.specs.Words.{kindOf, fragmentsOf};
 ghost use Rattle.mdf.specs.Records.{rangesIn, isDV, anyDV};
 
 // Word i, 0 past the end.

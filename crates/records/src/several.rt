@@ -20,7 +20,7 @@ ghost use lib.ListN.{length, getD, set, drop, replicate};
 ghost use Rattle.base.specs.Blit.{blit};
 ghost use Rattle.base.specs.Checked.{fine};
 ghost use Rattle.fields.specs.Answer.{verdictOf};
-ghost use Rattle.mdf.specs.Words.{fragmentsOf};
+ghost use Rattle.work_words.specs.Words.{fragmentsOf};
 ghost use Rattle.mdf.specs.Records.{most64, rangesIn, sizeOf, isIdOf, equalIds, frames, unsortedFrames};
 ghost use Rattle.mdf.specs.Count.{countGroups};
 ghost use Rattle.records.specs.Several.{sizeIn, severalIn, tallied, laid, laidCounts};

@@ -11,7 +11,7 @@ ghost use Prim.Native.Nat.{_+_, _<_, _≤_};
 ghost use lib.ListN.{getD};
 ghost use Rattle.base.specs.Checked.{fine};
 ghost use Rattle.fields.specs.Answer.{verdictOf};
-ghost use Rattle.mdf.specs.Words.{kindOf, fragmentsOf};
+ghost use Rattle.work_words.specs.Words.{kindOf, fragmentsOf};
 ghost use Rattle.mdf.specs.Records.{rangesIn, sortedIn, runs, runsWhole};
 ghost use Rattle.mdf.specs.Count.{quotient, countOne};
 ghost use Rattle.records.specs.Straddle.{straddles, remainder, startOf, dvFits};

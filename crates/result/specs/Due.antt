@@ -15,7 +15,7 @@ use Rattle.mdf.specs.Chain.{Kind, dt, dv, Fragment}
 use Rattle.mdf.specs.Group.{groupFlags}
 use Rattle.mdf.specs.Identification.{fileMark}
 use Rattle.plan.specs.Channel.{channelType, bitOffset, bitCount, channelFlags, keepsInval, channelBytes, width}
-use Rattle.plan.specs.Columns.{Column, Signal, unsigned, signalData}
+use Rattle.plan.specs.Columns.{Column, Signal, noSignal, signalData}
 use Rattle.plan.specs.Data.{isNonempty}
 use Rattle.plan.specs.Geometry.{blockCount, blockPayload}
 use Rattle.plan.specs.Layout.{Placed, cgOf, cnOf}
@@ -66,7 +66,7 @@ listDue n q =
 
 -- one SD with a channel's signal data
 abbrev pub signalDue : List ℕ → Signal → ℕ → List Fragment
-signalDue s unsigned a = []
+signalDue s noSignal a = []
 signalDue s (signalData fs) a = record { offset = a + 24; size = length (signalBytes s (signalData fs)); kind = dt } ∷ []
 
 -- ---- CG and CN

@@ -11,7 +11,7 @@ use Rattle.base.specs.Blit.{part}
 use Rattle.mdf.specs.Block.{kindHD, kindDG, kindCG, kindCN, kindDT, kindDV, kindDL, kindSD, kindMD, kindAt, sizeAt, linksAt, linkAt, dataAt}
 use Rattle.mdf.specs.Group.{groupFlags}
 use Rattle.plan.specs.Channel.{channelType, channelBytes, channelFlags, keepsInval, bit, Treatment, treatment}
-use Rattle.plan.specs.Columns.{Column, Signal, unsigned, signalData}
+use Rattle.plan.specs.Columns.{Column, Signal, noSignal, signalData}
 use Rattle.plan.specs.Geometry.{blockPayload}
 use Rattle.plan.specs.Copies.{kindFH, Copy, copyOf, Attachment}
 use Rattle.plan.specs.Layout.{columnWidth, columnBlocks, cgLinks, cgSize, dlSize, Placed, cgOf, cnOf, dlOf, mdSize}
@@ -152,7 +152,7 @@ cnData s g c =
 
 -- CN link 6: its SD
 abbrev pub sdLink : Signal → ℕ → ℕ
-sdLink unsigned a = 0
+sdLink noSignal a = 0
 sdLink (signalData fs) a = a
 
 -- CN: no next CN, no composition, links 3, 4, 5, 7, 8 led to the copies, its SD
@@ -197,18 +197,18 @@ dataKind true = kindDT
 dataKind false = kindDV
 
 -- a data block: header and payload
-unfoldable pub framed : ℕ → List ℕ → List ℕ
-framed kind bytes = header kind (24 + length bytes) 0 ++ bytes
+unfoldable pub blockOf : ℕ → List ℕ → List ℕ
+blockOf kind bytes = header kind (24 + length bytes) 0 ++ bytes
 
 -- "its blocks, 24 + payload apart"
 unfoldable pub payloadBlocks : ℕ → ℕ → List (List ℕ) → List Block
 payloadBlocks kind a [] = []
-payloadBlocks kind a (p ∷ ps) = block a (framed kind p) ∷ payloadBlocks kind (a + (24 + length p)) ps
+payloadBlocks kind a (p ∷ ps) = block a (blockOf kind p) ∷ payloadBlocks kind (a + (24 + length p)) ps
 
 -- "and its SD"
 abbrev pub sdBlocks : List ℕ → Signal → ℕ → List Block
-sdBlocks s unsigned a = []
-sdBlocks s (signalData fs) a = block a (framed kindSD (signalBytes s (signalData fs))) ∷ []
+sdBlocks s noSignal a = []
+sdBlocks s (signalData fs) a = block a (blockOf kindSD (signalBytes s (signalData fs))) ∷ []
 
 -- "Then per column its blocks .. and its SD"
 unfoldable pub dataBlocks : List ℕ → ℕ → List Placed → List Block

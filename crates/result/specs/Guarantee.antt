@@ -16,7 +16,7 @@ use Rattle.plan.specs.Data.{isNonempty}
 use Rattle.plan.specs.Copies.{isCopied}
 use Rattle.plan.specs.Layout.{Placed}
 pub use Rattle.result.specs.Member.{In, here, there}
-use Rattle.result.specs.Recording.{Recorded, Met, Framed, Sorted, IsMaster, Uses, Differs, reasonFor, OmissionDue, Among, filePlaces, signalChannels, SignalDue, signalSize, Followed, isAT, attachedFrom}
+use Rattle.result.specs.Recording.{Recorded, Met, SharedRecords, Sorted, IsMaster, Uses, Differs, reasonFor, OmissionDue, Among, filePlaces, signalChannels, SignalDue, signalSize, Followed, isAT, attachedFrom}
 use Rattle.result.specs.Payload.{recordsOf, signalBytes}
 use Rattle.result.specs.Fill.{Block}
 use Rattle.result.specs.Result.{Args, Decided, blocksOf}
@@ -144,7 +144,7 @@ pub record Guaranteed (x : Args) (d : Decided) (f l : List ℕ) : Type 0 where
   pub sorted : (c : Column) → In c (d .planned .columns) → isNonempty (x .image) c ≡ true → length (c .group .dataGroup .groups) ≡ 1
       → Sorted (x .image) (c .group)
   -- those of a group that shares its DG are its own among all that the DG's data holds
-  pub framed : (g : SrcGroup) → In g (d .groups) → 1 < length (g .dataGroup .groups) → Framed (x .image) g
+  pub framed : (g : SrcGroup) → In g (d .groups) → 1 < length (g .dataGroup .groups) → SharedRecords (x .image) g
   -- signal data is that of a type 1 channel's SD chain, and lacks no byte
   pub signals : (c : Column) → In c (d .planned .columns)
       → SignalDue (x .image) (c .channel) (c .signalOf) × (length (signalBytes (x .image) (c .signalOf)) ≡ signalSize (c .signalOf))

@@ -9,7 +9,7 @@ use Rattle.mdf.specs.Chain.{Fragment}
 use Rattle.mdf.specs.Group.{addresses}
 use Rattle.mdf.specs.Records.{runs, sortedRecords, Frame, unsortedFrames, unsortedRecords, joined}
 use Rattle.plan.specs.Channel.{byteOffset, channelBytes, keepsInval, invalBit}
-use Rattle.plan.specs.Columns.{SrcGroup, Column, Signal, unsigned, signalData}
+use Rattle.plan.specs.Columns.{SrcGroup, Column, Signal, noSignal, signalData}
 use Rattle.plan.specs.Geometry.{perFull}
 use Rattle.plan.specs.Layout.{columnWidth, columnBlocks}
 
@@ -49,5 +49,5 @@ columnPayloads s size c =
 
 -- "signal data .. the joined data of a type 1 channel's SD chain, else nothing"
 abbrev pub signalBytes : List ℕ → Signal → List ℕ
-signalBytes s unsigned = []
+signalBytes s noSignal = []
 signalBytes s (signalData fs) = joined s fs

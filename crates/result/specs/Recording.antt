@@ -15,7 +15,7 @@ use Rattle.mdf.specs.Group.{Group, DataGroup, addresses, recordId, samples, inv
 use Rattle.mdf.specs.Records.{joined, idBytes, sizeOf, Frame, unsortedRecords}
 use Rattle.mdf.specs.Walk.{cg, cn, Source, idSize}
 use Rattle.plan.specs.Channel.{channelType, fits, isMasterType, both}
-use Rattle.plan.specs.Columns.{kindCA, SrcGroup, remoteLink, Signal, unsigned, signalData, Column, Omission}
+use Rattle.plan.specs.Columns.{kindCA, SrcGroup, remoteLink, Signal, noSignal, signalData, Column, Omission}
 use Rattle.plan.specs.Copies.{kindAT, Attachment}
 use Rattle.result.specs.Member.{In}
 use Rattle.result.specs.Payload.{recordsOf}
@@ -91,7 +91,7 @@ Fill s n gs (r ∷ rs) d = (rest : List ℕ) × IsRecord s n gs d r rest × Fill
 
 -- the records of a group that shares its DG: those with its id among all that the DG's joined fragments hold, as many as its count; no fragment
 -- lacks a byte
-pub record Framed (s : List ℕ) (g : SrcGroup) : Type 0 where
+pub record SharedRecords (s : List ℕ) (g : SrcGroup) : Type 0 where
   pub frames : List Frame
   pub fill : Fill s (idSize s (g .dataGroup .at)) (addresses (g .dataGroup .groups)) frames (joined s (g .dataGroup .fragments))
   pub whole : length (joined s (g .dataGroup .fragments)) ≡ sizeOf (g .dataGroup .fragments)
@@ -196,11 +196,11 @@ signalChannels (c ∷ cs) = pick (c .isTime) [] (c .channel ∷ []) ++ signalCha
 -- the signal data of channel c: "source is the joined data of a type 1 channel's SD chain, else nothing", "Any other nonzero link 6 of type 1 is an
 -- SD chain"; n fragments were found before the chain
 abbrev pub SignalDue : List ℕ → ℕ → Signal → Type 0
-SignalDue s c unsigned = channelType s c ≡ 1 → linkAt s c 5 ≡ 0
+SignalDue s c noSignal = channelType s c ≡ 1 → linkAt s c 5 ≡ 0
 SignalDue s c (signalData fs) = (channelType s c ≡ 1) × (n : ℕ) × (chain signal limits s n (linkAt s c 5) ≡ found fs)
 
 abbrev pub signalSize : Signal → ℕ
-signalSize unsigned = 0
+signalSize noSignal = 0
 signalSize (signalData fs) = sizeOf fs
 
 -- ---- the history and the attachments

@@ -11,7 +11,7 @@ use Rattle.mdf.specs.Identification.{fileMark, identified}
 use Rattle.mdf.specs.Walk.{walk}
 use Rattle.mdf.specs.Group.{dataGroups, isStorage}
 use Rattle.mdf.specs.Count.{counts}
-use Rattle.plan.specs.Columns.{SrcGroup, srcGroups, Column, Signal, unsigned, signalData, Plan, plan, omissionWords}
+use Rattle.plan.specs.Columns.{SrcGroup, srcGroups, Column, Signal, noSignal, signalData, Plan, plan, omissionWords}
 use Rattle.plan.specs.Data.{allDataIn, blocksIn}
 use Rattle.plan.specs.Copies.{Copy}
 use Rattle.plan.specs.Layout.{Layout, layout, columnBlocks}
@@ -85,7 +85,7 @@ timeColumns (c ∷ cs) = pick (c .isTime) 1 0 + timeColumns cs
 
 -- "one for each SD written"
 abbrev pub signalBlocks : Signal → ℕ
-signalBlocks unsigned = 0
+signalBlocks noSignal = 0
 signalBlocks (signalData fs) = 1
 
 -- "data blocks (DT and DV, and one for each SD written)"

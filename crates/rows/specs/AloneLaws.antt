@@ -15,7 +15,7 @@ use Rattle.base.specs.Checked.{ok, andThen, fine}
 use Rattle.base.specs.CheckedLaws.{refused≢ok, then-fine}
 use Rattle.mdf.specs.Chain.{Kind, dt, dv, Fragment}
 use Rattle.mdf.specs.Walk.{idSize}
-use Rattle.mdf.specs.Words.{kindOf, fragmentsOf}
+use Rattle.work_words.specs.Words.{kindOf, fragmentsOf}
 use Rattle.mdf.specs.Records.{rangesIn, joined, isDV, recordSize, idBytes, Run, inFront, runs, sizeOf, runWhole, runsWhole, pieces, withoutIds}
 use Rattle.mdf.specs.Records.{runRecords}
 use Rattle.mdf.specs.Records.{sortedRecords, sortedIn}

@@ -21,7 +21,7 @@ use Rattle.blocks.specs.AnswerLaws.{so-fine, so-refused}
 use Rattle.mdf.specs.Chain.{Fragment}
 use Rattle.mdf.specs.Walk.{idSize}
 use Rattle.mdf.specs.Group.{samples, invalBytes, isStorage}
-use Rattle.mdf.specs.Words.{fragmentsOf}
+use Rattle.work_words.specs.Words.{fragmentsOf}
 use Rattle.mdf.specs.Records.{joined, placeOf, Frame, framed, broken, Known, known, unknown, withId, onKnown, ofBytes, frameOf, frameAt}
 use Rattle.mdf.specs.Records.{onFramed, framesFrom, frames, unsortedFrames, unsortedRecords}
 use Rattle.result.specs.Payload.{framedRecords}

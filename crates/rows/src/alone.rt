@@ -11,7 +11,7 @@ ghost use Prim.Native.Nat.{_+_, _<_, _≤_};
 ghost use lib.ListN.{length};
 ghost use Rattle.base.specs.Blit.{part};
 ghost use Rattle.base.specs.Checked.{ok, fine};
-ghost use Rattle.mdf.specs.Words.{fragmentsOf};
+ghost use Rattle.work_words.specs.Words.{fragmentsOf};
 ghost use Rattle.mdf.specs.Records.{idBytes, rangesIn, runs, sortedIn, sortedRecords};
 ghost use Rattle.records.specs.Straddle.{kindIf, remainder};
 ghost use Rattle.records.specs.Bounded.{Bounded};

@@ -3,7 +3,7 @@ use crate::alone::own_alone;
 use crate::several::own_several;
 use records::fragment::word_at;
 ghost use mathlib.Core.Path.{_≡_};
-ghost use Rattle.mdf.specs.Words.{fragmentsOf};
+ghost use Rattle.work_words.specs.Words.{fragmentsOf};
 ghost use Rattle.rows.specs.Rows.{ownRecords, filled, givenBytes};
 ghost use Rattle.rows.specs.Answer.{rowsOf};
 

@@ -15,7 +15,7 @@ ghost use Prim.Native.Nat.{_<_, _≤_};
 ghost use lib.ListN.{length, take};
 ghost use Rattle.base.specs.Blit.{part};
 ghost use Rattle.base.specs.Checked.{ok, andThen, fine};
-ghost use Rattle.mdf.specs.Words.{fragmentsOf};
+ghost use Rattle.work_words.specs.Words.{fragmentsOf};
 ghost use Rattle.mdf.specs.Records.{joined, frames, unsortedFrames};
 ghost use Rattle.result.specs.Payload.{framedRecords};
 ghost use Rattle.records.specs.Ahead.{ahead};

@@ -21,7 +21,7 @@ use Rattle.mdf.specs.Group.{recordId, groupFlags, samples, invalBytes}
 use Rattle.mdf.specs.Records.{joined}
 use Rattle.mdf.specs.Walk.{idSize}
 use Rattle.plan.specs.Channel.{channelType, bitOffset, byteOffset, bitCount, channelFlags, invalPosition, bit, both, keepsInval, channelBytes, treatment}
-use Rattle.plan.specs.Columns.{Column, Signal, unsigned, signalData, remoteLink}
+use Rattle.plan.specs.Columns.{Column, Signal, noSignal, signalData, remoteLink}
 use Rattle.plan.specs.Copies.{Copy}
 use Rattle.plan.specs.Layout.{Placed, cgOf, cnOf, dlOf, cgSize, dlSize, columnWidth, columnBlocks}
 use Rattle.result.specs.Payload.{payloads, columnPayloads, signalBytes}
@@ -235,18 +235,18 @@ module _ {f : List ℕ} (s : List ℕ) (size : ℕ) (p : Placed) (k : ColumnSoun
 pub signal-chain : {f : List ℕ} (s : List ℕ) (g : Signal) (a m : ℕ) → 0 < a → a + 24 + length (signalBytes s g) < 256 ^ 8
     → ((b : Block) → In b (sdBlocks s g a) → Stands f (b .at) (b .bytes)) → m < fileLimits .fragments
     → chain signal fileLimits f m (sdLink g a) ≡ found (signalDue s g a)
-signal-chain {f} s unsigned a m z h blocks r = chain-none signal f m
+signal-chain {f} s noSignal a m z h blocks r = chain-none signal f m
 signal-chain s (signalData fs) a m z h blocks r =
     chain-signal a (signalBytes s (signalData fs)) m (blocks _ here) (omega arith) (λ e. omega arith) r
 
 pub signal-joined : {f : List ℕ} (s : List ℕ) (g : Signal) (a : ℕ) → ((b : Block) → In b (sdBlocks s g a) → Stands f (b .at) (b .bytes))
     → joined f (signalDue s g a) ≡ signalBytes s g
 unfolding joined
-signal-joined s unsigned a blocks = refl
+signal-joined s noSignal a blocks = refl
 signal-joined s (signalData fs) a blocks = rw (framed-data kindSD a (signalBytes s (signalData fs)) (blocks _ here), append-nil)
 
 sd-small : (g : Signal) (a k : ℕ) → a < k → sdLink g a < k
-sd-small unsigned a k h = omega arith
+sd-small noSignal a k h = omega arith
 sd-small (signalData fs) a k h = h
 
 -- ---- the master that a CG names, by its flags and links

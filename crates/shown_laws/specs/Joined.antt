@@ -39,7 +39,7 @@ use Rattle.mdf.specs.Chain.{
 }
 use Rattle.mdf.specs.Records.{joined}
 use Rattle.plan.specs.Layout.{Placed, columnBlocks, dlSize}
-use Rattle.result.specs.Fill.{Block, header, framed, payloadBlocks, blockLinks, columnPayload, dlBytes}
+use Rattle.result.specs.Fill.{Block, header, blockOf, payloadBlocks, blockLinks, columnPayload, dlBytes}
 use Rattle.result.specs.FillLaws.{length-blockLinks}
 use Rattle.mdf.specs.Chain.{fileLimits}
 use Rattle.result.specs.Due.{evenBlocks}
@@ -76,9 +76,9 @@ unfoldable pub fragmentsOf : Kind → ℕ → List (List ℕ) → List Fragment
 fragmentsOf k a [] = []
 fragmentsOf k a (p ∷ ps) = framedFragment k a p ∷ fragmentsOf k (a + (24 + length p)) ps
 
-module _ {f : List ℕ} (kind a : ℕ) (p : List ℕ) (s : Stands f a (framed kind p)) where
+module _ {f : List ℕ} (kind a : ℕ) (p : List ℕ) (s : Stands f a (blockOf kind p)) where
   framed-top : Stands f a (header kind (24 + length p) 0)
-  unfolding framed
+  unfolding blockOf
   framed-top = stands-front _ p s
 
   pub framed-kind : kind < 256 ^ 4 → kindAt f a ≡ kind
@@ -89,7 +89,7 @@ module _ {f : List ℕ} (kind a : ℕ) (p : List ℕ) (s : Stands f a (framed ki
 
   -- its data
   pub framed-data : part (a + 24) (length p) f ≡ p
-  unfolding framed
+  unfolding blockOf
   framed-data = stands-at {b = a + 24} (header kind (24 + length p) 0) p s (simp length-header) .is
 
   pub framed-in : headerIn f a ≡ fine
@@ -100,14 +100,14 @@ module _ {f : List ℕ} (kind a : ℕ) (p : List ℕ) (s : Stands f a (framed ki
 
 -- it is found in a chain in which its kind is a fragment's
 module _ {f : List ℕ} (c : Chain) (l : Limits) (kind : ℕ) (k : Kind) (leafy : leafOf c kind ≡ leaf k) (small : kind < 256 ^ 4) where
-  pub framed-found : (a : ℕ) (p : List ℕ) (n : ℕ) (fs : List Fragment) → Stands f a (framed kind p) → 24 + length p < 256 ^ 8
+  pub framed-found : (a : ℕ) (p : List ℕ) (n : ℕ) (fs : List Fragment) → Stands f a (blockOf kind p) → 24 + length p < 256 ^ 8
       → n + length fs < l .fragments → fragmentAt c l f n a fs ≡ found (fs ++ (framedFragment k a p ∷ []))
   unfolding fragmentAt added
   framed-found a p n fs s h r =
       rw (framed-in kind a p s, framed-kind kind a p s small, leafy, framed-size kind a p s h) (sym (lt-yes _ _ _ _ r refl))
 
   -- alone in its chain
-  pub framed-alone : (turns a : ℕ) (p : List ℕ) (n : ℕ) → Stands f a (framed kind p) → 24 + length p < 256 ^ 8 → (a ≡ 0 → ⊥) → n < l .fragments
+  pub framed-alone : (turns a : ℕ) (p : List ℕ) (n : ℕ) → Stands f a (blockOf kind p) → 24 + length p < 256 ^ 8 → (a ≡ 0 → ⊥) → n < l .fragments
       → chainFrom c l (suc turns) f n [] a [] ≡ found (framedFragment k a p ∷ [])
   unfolding chainFrom isIn added
   framed-alone turns a p n s h z r =
@@ -168,7 +168,7 @@ unfolding chain
 chain-none c f n = chain-ends c fileLimits 257 f n [] []
 
 -- ---- an SD that stands
-pub chain-signal : {f : List ℕ} (a : ℕ) (p : List ℕ) (n : ℕ) → Stands f a (framed kindSD p) → 24 + length p < 256 ^ 8 → (a ≡ 0 → ⊥)
+pub chain-signal : {f : List ℕ} (a : ℕ) (p : List ℕ) (n : ℕ) → Stands f a (blockOf kindSD p) → 24 + length p < 256 ^ 8 → (a ≡ 0 → ⊥)
     → n < fileLimits .fragments → chain signal fileLimits f n a ≡ found (framedFragment dt a p ∷ [])
 unfolding chain leafOf ifEq
 chain-signal a p n s h z r = framed-alone signal fileLimits kindSD dt refl (lit< tt) 257 a p n s h z r

@@ -5,7 +5,7 @@ use mathlib.Core.Path.{_≡_}
 use lib.ListN.{getD, drop}
 use Rattle.base.specs.Choice.{ifLe, ifEq}
 use Rattle.mdf.specs.Chain.{Fragment}
-use Rattle.mdf.specs.Words.{kindOf, fragmentsOf}
+use Rattle.work_words.specs.Words.{kindOf, fragmentsOf}
 use Rattle.writing.specs.declared.cursor.Cursor.{Cursor}
 
 -- the fragments whose words begin at an index or later

@@ -15,7 +15,7 @@ use Rattle.base.specs.Blit.{part, blit}
 use Rattle.base.specs.BlitLaws.{blit-append}
 use Rattle.base.specs.Checked.{fine}
 use Rattle.mdf.specs.Chain.{Fragment}
-use Rattle.mdf.specs.Words.{kindOf, fragmentsOf}
+use Rattle.work_words.specs.Words.{kindOf, fragmentsOf}
 use Rattle.mdf.specs.Records.{rangesIn, joined, sizeOf}
 use Rattle.payload_laws.specs.Answers.{refused≢ok}
 use Rattle.payload_laws.specs.Lists.{length-part}

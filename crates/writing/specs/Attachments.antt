@@ -5,7 +5,7 @@ use mathlib.Core.Path.{_≡_}
 use lib.ListN.{getD}
 use Rattle.mdf.specs.Block.{sizeAt}
 use Rattle.plan.specs.Copies.{Copy, Attachment}
-use Rattle.plan.specs.CopyWords.{attachmentsAt}
+use Rattle.work_words.specs.CopyWords.{attachmentsAt}
 use Rattle.placing.specs.Standing.{copiesFrom}
 use Rattle.result.specs.Fill.{nextAttachment}
 use Rattle.copies_laws.specs.Laid.{Laid}

@@ -5,7 +5,7 @@ use mathlib.Core.List.{List}
 use lib.ListN.{getD}
 use Rattle.base.specs.Choice.{pick, ifEq}
 use Rattle.mdf.specs.Group.{isStorage}
-use Rattle.mdf.specs.Words.{marksAt}
+use Rattle.work_words.specs.Words.{marksAt}
 use Rattle.plan.specs.Channel.{width}
 use Rattle.plan.specs.Geometry.{blockCount}
 

@@ -9,13 +9,13 @@ use Rattle.base.specs.Blit.{part}
 use Rattle.base.specs.Checked.{fine}
 use Rattle.mdf.specs.Block.{kindSD}
 use Rattle.mdf.specs.Group.{samples, invalBytes, isStorage}
-use Rattle.mdf.specs.Words.{fragmentsOf}
+use Rattle.work_words.specs.Words.{fragmentsOf}
 use Rattle.mdf.specs.Records.{joined, runs, sortedRecords, sortedIn, unsortedFrames}
 use Rattle.plan.specs.Channel.{fits, keepsInval, width}
 use Rattle.plan.specs.Geometry.{blockCount, perFull}
 use Rattle.plan.specs.Data.{recordsIn}
 use Rattle.result.specs.Payload.{framedRecords, groupRecords, payloads}
-use Rattle.result.specs.Fill.{Block, block, framed, dataKind, payloadBlocks}
+use Rattle.result.specs.Fill.{Block, block, blockOf, dataKind, payloadBlocks}
 use Rattle.result.specs.Ordered.{Ordered}
 use Rattle.payload_laws.specs.Lists.{Long}
 use Rattle.writing.specs.declared.own.Own.{Own}
@@ -61,7 +61,7 @@ entryKind s e = dataKind (keepsInval s (e .group) (e .channel))
 -- the blocks of payloads, one after the other
 unfoldable pub framedAll : ℕ → List (List ℕ) → List ℕ
 framedAll kind [] = []
-framedAll kind (p ∷ ps) = framed kind p ++ framedAll kind ps
+framedAll kind (p ∷ ps) = blockOf kind p ++ framedAll kind ps
 
 -- those of its records, with their addresses
 unfoldable pub entryBlocks : List ℕ → ℕ → List ℕ → ℕ → List ℕ → ℕ → Entry → List Block
@@ -72,7 +72,7 @@ unfoldable pub signalWords : List ℕ → Entry → List ℕ
 signalWords fs e = part (3 * (e .signal - 1)) (3 * (e .signal - 1) + 3 * e .pieces - 3 * (e .signal - 1)) fs
 
 unfoldable pub entrySignal : List ℕ → List ℕ → Entry → List Block
-entrySignal s fs e = ifEq (e .signal) 0 [] (block (e .sd) (framed kindSD (joined s (fragmentsOf (signalWords fs e)))) ∷ [])
+entrySignal s fs e = ifEq (e .signal) 0 [] (block (e .sd) (blockOf kindSD (joined s (fragmentsOf (signalWords fs e)))) ∷ [])
 
 -- of so many columns from number k on
 unfoldable pub dataFrom : List ℕ → ℕ → List ℕ → ℕ → List ℕ → ℕ → List ℕ → List ℕ → ℕ → ℕ → List Block

@@ -14,13 +14,13 @@ use Rattle.base.specs.Checked.{fine}
 use Rattle.mdf.specs.Block.{kindSD}
 use Rattle.mdf.specs.Chain.{Fragment}
 use Rattle.mdf.specs.Group.{samples, invalBytes}
-use Rattle.mdf.specs.Words.{fragmentsOf}
+use Rattle.work_words.specs.Words.{fragmentsOf}
 use Rattle.mdf.specs.Records.{joined, runs, sortedRecords, unsortedFrames}
 use Rattle.plan.specs.Channel.{fits, width}
 use Rattle.plan.specs.Geometry.{blockCount, perFull}
 use Rattle.plan.specs.Data.{recordsIn}
 use Rattle.result.specs.Payload.{framedRecords, groupRecords, payloads}
-use Rattle.result.specs.Fill.{Block, block, framed, payloadBlocks}
+use Rattle.result.specs.Fill.{Block, block, blockOf, payloadBlocks}
 use Rattle.result.specs.Ordered.{Ordered}
 use Rattle.result.specs.Result.{flat}
 use Rattle.payload_laws.specs.Lists.{Long, together}
@@ -126,9 +126,9 @@ pub payloads-end : (kind a first : ℕ) (p : List ℕ) (ps : List (List ℕ))
 unfolding endOf payloadBlocks framedAll
 payloads-end kind a first p [] = rw append-nil
 payloads-end kind a first p (q ∷ ps) =
-    let h = payloads-end kind (first + length (framed kind p)) (first + (24 + length p)) q ps in
+    let h = payloads-end kind (first + length (blockOf kind p)) (first + (24 + length p)) q ps in
     let l = length-framed kind p in
-    h ∙ rw (length-append (framed kind p) (framedAll kind (q ∷ ps))) (omega arith)
+    h ∙ rw (length-append (blockOf kind p) (framedAll kind (q ∷ ps))) (omega arith)
 
 none-left : (a : ℕ) → replicate {A = ℕ} (a - a) 0 ≡ []
 none-left a = let e : a - a ≡ 0 = omega arith in rw e
@@ -139,15 +139,15 @@ unfolding flat payloadBlocks framedAll
 flat-blocks kind a e [] bs = rw add-zero
 flat-blocks kind a e (p ∷ ps) bs =
     let z : a - a ≡ 0 = omega arith in
-    let n : length (framed kind p) ≡ 24 + length p = length-framed kind p in
-    let m : a + (24 + length p) + length (framedAll kind ps) ≡ a + length (framed kind p ++ framedAll kind ps) =
+    let n : length (blockOf kind p) ≡ 24 + length p = length-framed kind p in
+    let m : a + (24 + length p) + length (framedAll kind ps) ≡ a + length (blockOf kind p ++ framedAll kind ps) =
     rw length-append (omega arith) in
-    rw (z, n, flat-blocks kind (a + (24 + length p)) e ps bs, m) (sym (append-assoc (framed kind p) (framedAll kind ps) _))
+    rw (z, n, flat-blocks kind (a + (24 + length p)) e ps bs, m) (sym (append-assoc (blockOf kind p) (framedAll kind ps) _))
 
 pub flat-later : (kind a first r : ℕ) (p : List ℕ) (ps : List (List ℕ))
     → flat a (payloadBlocks kind first (p ∷ ps)) r ≡ replicate (first - a) 0 ++ flat first (payloadBlocks kind first (p ∷ ps)) r
 unfolding flat payloadBlocks
-flat-later kind a first r p ps = rw (none-left first) (append-assoc (replicate (first - a) 0) (framed kind p) _)
+flat-later kind a first r p ps = rw (none-left first) (append-assoc (replicate (first - a) 0) (blockOf kind p) _)
 
 pub flat-ended : (kind first r : ℕ) (ps : List (List ℕ)) → r ≡ first + length (framedAll kind ps)
     → flat first (payloadBlocks kind first ps) r ≡ framedAll kind ps
@@ -223,7 +223,7 @@ module _ {s w : List ℕ} {n : ℕ} {fs : List ℕ} {nf : ℕ} {e : Entry} (size
 pub same-small : (r l : ℕ) → r < 18446744073709551616 → l < 18446744073709551616 → r % 2 ^ 64 ≡ l % 2 ^ 64 → r ≡ l
 same-small r l a b e = sym (mod-eq-of-lt a) ∙ e ∙ mod-eq-of-lt b
 
-module _ (s ws : List ℕ) (sd size : ℕ) (out : List ℕ) (h : sd + length (framed kindSD (joined s (fragmentsOf ws))) ≤ length out)
+module _ (s ws : List ℕ) (sd size : ℕ) (out : List ℕ) (h : sd + length (blockOf kindSD (joined s (fragmentsOf ws))) ≤ length out)
     (e : size % 2 ^ 64 ≡ length (joined s (fragmentsOf ws)) % 2 ^ 64) (few : length out < 18446744073709551616)
     (small : size < 18446744073709551616) where
   pub sd-size : size ≡ length (joined s (fragmentsOf ws))
@@ -235,12 +235,12 @@ module _ (s ws : List ℕ) (sd size : ℕ) (out : List ℕ) (h : sd + length (fr
   sd-room = let l = length-framed kindSD (joined s (fragmentsOf ws)) in let z = sd-size in omega arith
 
   pub sd-wrote : (at : ℕ) {mid last : List ℕ} → at ≤ sd → mid ≡ blit at (replicate (sd - at) 0) out
-      → last ≡ blit sd (framed kindSD (joined s (fragmentsOf ws))) mid
-      → Wrote at (block sd (framed kindSD (joined s (fragmentsOf ws))) ∷ []) (sd + (24 + size)) out last
+      → last ≡ blit sd (blockOf kindSD (joined s (fragmentsOf ws))) mid
+      → Wrote at (block sd (blockOf kindSD (joined s (fragmentsOf ws))) ∷ []) (sd + (24 + size)) out last
   sd-wrote at a m q =
       let l = length-framed kindSD (joined s (fragmentsOf ws)) in
-      let y : 24 + size ≡ length (framed kindSD (joined s (fragmentsOf ws))) = let z = sd-size in omega arith in
-      rw y (wrote-block (block sd (framed kindSD (joined s (fragmentsOf ws)))) a (rw (← m) q))
+      let y : 24 + size ≡ length (blockOf kindSD (joined s (fragmentsOf ws))) = let z = sd-size in omega arith in
+      rw y (wrote-block (block sd (blockOf kindSD (joined s (fragmentsOf ws)))) a (rw (← m) q))
 
 module _ (s fs : List ℕ) (e : Entry) where
   no-signal : e .signal ≡ 0 → entrySignal s fs e ≡ []
@@ -250,17 +250,17 @@ module _ (s fs : List ℕ) (e : Entry) where
   pub signal-none : e .signal ≡ 0 → (at : ℕ) (out : List ℕ) → Wrote at (entrySignal s fs e) at out out
   signal-none z at out = rw (no-signal z) (wrote-none at out)
 
-  signal-some : (e .signal ≡ 0 → ⊥) → entrySignal s fs e ≡ block (e .sd) (framed kindSD (joined s (fragmentsOf (signalWords fs e)))) ∷ []
+  signal-some : (e .signal ≡ 0 → ⊥) → entrySignal s fs e ≡ block (e .sd) (blockOf kindSD (joined s (fragmentsOf (signalWords fs e)))) ∷ []
   unfolding entrySignal
   signal-some z = sym (eq-no _ _ _ _ z refl)
 
   pub signal-room : (e .signal ≡ 0 → ⊥) → (at room : ℕ) → Ordered at (entrySignal s fs e) room
-      → (at ≤ e .sd) × (e .sd + length (framed kindSD (joined s (fragmentsOf (signalWords fs e)))) ≤ room)
+      → (at ≤ e .sd) × (e .sd + length (blockOf kindSD (joined s (fragmentsOf (signalWords fs e)))) ≤ room)
   unfolding Ordered
   signal-room z at room o = rw (signal-some z) at o
 
   pub signal-wrote : (e .signal ≡ 0 → ⊥) → {at r : ℕ} {out last : List ℕ}
-      → Wrote at (block (e .sd) (framed kindSD (joined s (fragmentsOf (signalWords fs e)))) ∷ []) r out last
+      → Wrote at (block (e .sd) (blockOf kindSD (joined s (fragmentsOf (signalWords fs e)))) ∷ []) r out last
       → Wrote at (entrySignal s fs e) r out last
   signal-wrote z v = rw (signal-some z) v
 

@@ -15,11 +15,11 @@ use Rattle.base.specs.Checked.{fine}
 use Rattle.mdf.specs.Chain.{Fragment}
 use Rattle.mdf.specs.Walk.{Item, dg, levelCG, tally}
 use Rattle.mdf.specs.Group.{addresses, groupsOf, dataGroups}
-use Rattle.mdf.specs.Words.{fragmentWords, fragmentsOf, laidItems, countsAt}
+use Rattle.work_words.specs.Words.{fragmentWords, fragmentsOf, laidItems, countsAt}
 use Rattle.plan.specs.Channel.{width, keepsInval}
-use Rattle.plan.specs.Columns.{SrcGroup, Column, Signal, unsigned, signalData, sizeOfSignal}
-use Rattle.plan.specs.PlanWords.{signalWord, columnWords, columnsWords, fragmentsIn, signalFragments, laidPlan}
-use Rattle.plan.specs.CopyWords.{placedWords, laidCopies}
+use Rattle.plan.specs.Columns.{SrcGroup, Column, Signal, noSignal, signalData, sizeOfSignal}
+use Rattle.work_words.specs.PlanWords.{signalWord, columnWords, columnsWords, fragmentsIn, signalFragments, laidPlan}
+use Rattle.work_words.specs.CopyWords.{placedWords, laidCopies}
 use Rattle.plan.specs.Data.{isNonempty, recordsIn}
 use Rattle.plan.specs.Layout.{columnWidth, columnBlocks, Placed, Layout}
 use Rattle.result.specs.Payload.{recordsOf, columnPayloads}
@@ -117,21 +117,21 @@ module _ (s l : List ℕ) (before after : List Fragment) where
       → e .signal ≡ signalWord (length before) g → e .pieces ≡ sizeOfSignal g → e .sd ≡ sd
       → entrySignal s (blit 0 (fragmentWords (before ++ (fragmentsIn g ++ after))) l) e ≡ sdBlocks s g sd
   unfolding entrySignal
-  signal-same unsigned e sd h x y z = sym (eq-yes _ _ _ _ x refl)
+  signal-same noSignal e sd h x y z = sym (eq-yes _ _ _ _ x refl)
   signal-same (signalData gs) e sd h x y z =
       sym (eq-no _ _ _ _ (λ q. omega (arith, x, q)) (sym (rw (signal-words gs e h x y, words-back gs, z))))
 
   signal-fits : (g : Signal) (e : Entry) → 3 * length (before ++ (fragmentsIn g ++ after)) ≤ length l
       → e .signal ≡ signalWord (length before) g → e .pieces ≡ sizeOfSignal g
       → (e .signal ≡ 0 → ⊥) → 3 * (e .signal - 1) + 3 * e .pieces ≤ length (blit 0 (fragmentWords (before ++ (fragmentsIn g ++ after))) l)
-  signal-fits unsigned e h x y z = absurd (z x)
+  signal-fits noSignal e h x y z = absurd (z x)
   signal-fits (signalData gs) e h x y z =
       let a = length-append before (gs ++ after) in
       let b = length-append gs after in
       rw length-blit (omega arith)
 
 size-is : (g : Signal) → sizeOfSignal g ≡ length (fragmentsIn g)
-size-is unsigned = refl
+size-is noSignal = refl
 size-is (signalData fs) = refl
 
 -- ---- placed columns that stand in words from number k on

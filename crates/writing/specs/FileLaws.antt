@@ -15,9 +15,9 @@ use Rattle.mdf.specs.Chain.{Fragment}
 use Rattle.mdf.specs.Walk.{Source}
 use Rattle.mdf.specs.Group.{dataGroups}
 use Rattle.mdf.specs.Count.{counts}
-use Rattle.mdf.specs.Words.{countsAt, laidItems, fragmentWords}
+use Rattle.work_words.specs.Words.{countsAt, laidItems, fragmentWords}
 use Rattle.plan.specs.Columns.{Column, Plan}
-use Rattle.plan.specs.PlanWords.{signalFragments, laidPlan}
+use Rattle.work_words.specs.PlanWords.{signalFragments, laidPlan}
 use Rattle.base.specs.CheckedLaws.{ok-same}
 use Rattle.plan_laws.specs.ColumnLaws.{signalsOf}
 use Rattle.planning.specs.HeldLaws.{size-is}
@@ -25,8 +25,8 @@ use Rattle.writing.specs.Data.{dataFrom, DataReady}
 use Rattle.writing.specs.DataReadyLaws.{data-blocks, data-ready}
 use Rattle.writing.specs.Answer.{fileFor}
 use Rattle.plan.specs.Copies.{Copy, Attachment}
-use Rattle.plan.specs.CopyWords.{historyAt, laidCopies}
-use Rattle.plan.specs.Layout.{Layout, structurePlace}
+use Rattle.work_words.specs.CopyWords.{historyAt, laidCopies}
+use Rattle.plan.specs.Layout.{Layout, pastCopies}
 use Rattle.placing.specs.Standing.{copiesIn}
 use Rattle.result.specs.Fill.{Block, block, newLink, copiedBlocks, mdBytes, fhBytes, hdBytes, nextDG, structureBlocks, dataBlocks, nextAttachment, attachmentBlocks}
 use Rattle.result.specs.Ordered.{Ordered}
@@ -316,8 +316,8 @@ module _ {x : Args} {items pieces columns omitted : ℕ} {n : numbers.Numbers} {
           q .1,
           q .2,
           long,
-          laid-ordered s (l .fh + 56) a (length last) (structurePlace (l .metadata)) _ _ _ _
-              (columns-room laid counted (st .d) m (st .by .longD) (st .by .numbered .words) (structurePlace (l .metadata)) (omega arith)) r,
+          laid-ordered s (l .fh + 56) a (length last) (pastCopies (l .metadata)) _ _ _ _
+              (columns-room laid counted (st .d) m (st .by .longD) (st .by .numbered .words) (pastCopies (l .metadata)) (omega arith)) r,
         )
 
     pub columns-done : Begun before (partColumns ++ ys) (l .fileSize) a out last → {r : ℕ} {next : List ℕ}

@@ -11,10 +11,10 @@ use Rattle.base.specs.Checked.{ok, refused, andThen, Verdict, fine}
 use Rattle.base.specs.BlitLaws.{length-blit}
 use Rattle.base.specs.CheckedLaws.{ok-same, then-fine}
 use Rattle.mdf.specs.Group.{dataGroups}
-use Rattle.mdf.specs.Words.{laidItems}
-use Rattle.plan.specs.CopyWords.{laidCopies}
+use Rattle.work_words.specs.Words.{laidItems}
+use Rattle.work_words.specs.CopyWords.{laidCopies}
 use Rattle.plan.specs.Columns.{srcGroups, Omission, omissionAddresses, omissionReasons, omissionWords}
-use Rattle.plan.specs.PlanWords.{laidPlan}
+use Rattle.work_words.specs.PlanWords.{laidPlan}
 use Rattle.result.specs.Result.{Args, Report, Decided, decided, lentIn, answer, report, sourceGroupsOf, timeColumns, blocksWritten, Outcome, zeros}
 use Rattle.result.specs.Result.{workIn, fileOf, convert}
 use Rattle.guarantee.specs.Theorem.{guaranteed}

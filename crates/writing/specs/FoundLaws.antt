@@ -13,7 +13,7 @@ use Rattle.base.specs.BlitLaws.{length-blit, blit-append, part-blit, part-blit-
 use Rattle.mdf.specs.Chain.{Fragment}
 use Rattle.mdf.specs.Walk.{Item, dg, cg, cn, levelCG, tally}
 use Rattle.mdf.specs.Group.{DataGroup, addresses, groupsOf, upTo, dataGroupsOf}
-use Rattle.mdf.specs.Words.{mark, addressWords, markWords, groupWords, fragmentWords, fragmentsOf, laidItems, countsAt}
+use Rattle.work_words.specs.Words.{mark, addressWords, markWords, groupWords, fragmentWords, fragmentsOf, laidItems, countsAt}
 use Rattle.result.specs.Guarantee.{In, here, there}
 use Rattle.chains.specs.KeptLaws.{length-words, words-append, words-back}
 use Rattle.plan_laws.specs.Lists.{same, same-yes, occurs, occurs-append}

@@ -13,8 +13,8 @@ use Rattle.mdf.specs.Block.{kindAt, linksAt, firstLink, wholeAt}
 use Rattle.mdf.specs.Chain.{isIn}
 use Rattle.plan.specs.Columns.{Column}
 use Rattle.plan.specs.Copies.{Copy, Copies, isCopied, copyRoot, mostCopies, History, history, historyFrom, historyOf, Attachment}
-use Rattle.plan.specs.CopyWords.{copyWords, attachmentWords, attachmentsAt, historyAt, placedAt, placedWords, laidCopies}
-use Rattle.plan.specs.Layout.{Layout, structurePlace, dataEnd}
+use Rattle.work_words.specs.CopyWords.{copyWords, attachmentWords, attachmentsAt, historyAt, placedAt, placedWords, laidCopies}
+use Rattle.plan.specs.Layout.{Layout, pastCopies, dataEnd}
 use Rattle.placing.specs.Standing.{copiesFrom, copiesIn}
 use Rattle.placing.specs.AttachingLaws.{length-words}
 use Rattle.copies_laws.specs.AnswerLaws.{refused≢ok, ok-same, then-ok, by-eq, by-pick, eq-back}
@@ -257,8 +257,8 @@ module _ {s : List ℕ} {size n : ℕ} {cs : List Column} {l : Layout} (o : Laid
         subst (λ (m : List Copy). Laid s 168 m f) (sym first-is)
         (laid-to s 168 _ f (l .past .made .memo) (history-laid o) (omega (arith, align-past (l .past .made .next), o .md)))
 
-    pub columns-room : (f : ℕ) → structurePlace (l .metadata) ≤ f → Laid s (l .fh + 56) (part past (metadata - past) (copiesIn w' used)) f
-    unfolding structurePlace
+    pub columns-room : (f : ℕ) → pastCopies (l .metadata) ≤ f → Laid s (l .fh + 56) (part past (metadata - past) (copiesIn w' used)) f
+    unfolding pastCopies
     columns-room f h =
         subst (λ (m : List Copy). Laid s (l .fh + 56) m f) (sym next-is)
         (laid-to s (l .fh + 56) _ f (drop (length (l .past .made .memo)) (l .metadata .memo)) (columns-laid o) (omega (arith, align-past (l .metadata .next))))

@@ -2,7 +2,7 @@
 use Prim.Native.Nat.{ℕ, zero, suc, _+_}
 use mathlib.Core.List.{List, [], _∷_, _++_}
 use lib.ListN.{getD}
-use Rattle.plan.specs.PlanWords.{omissionsAt}
+use Rattle.work_words.specs.PlanWords.{omissionsAt}
 
 -- n words from index i on, every second one
 unfoldable pub everyOther : List ℕ → ℕ → ℕ → List ℕ

@@ -8,7 +8,7 @@ use lib.ListN.{length, getD, set, length-set}
 use Rattle.base.specs.Blit.{blit}
 use Rattle.base.specs.BlitLaws.{length-blit, blit-append, blit-one}
 use Rattle.plan.specs.Columns.{Omission, Plan, omissionAddresses, omissionReasons, omissionWords}
-use Rattle.plan.specs.PlanWords.{columnsWords, omissionPairs, laidPlan}
+use Rattle.work_words.specs.PlanWords.{columnsWords, omissionPairs, laidPlan}
 use Rattle.planning.specs.TimeWordLaws.{blit-among}
 use Rattle.writing.specs.Omissions.{everyOther, listed}
 

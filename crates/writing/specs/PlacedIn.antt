@@ -4,9 +4,9 @@ use mathlib.Core.List.{List, [], _∷_}
 use mathlib.Core.Bool.{Bool, true, false}
 use mathlib.Core.Option.{Option, none, some}
 use lib.ListN.{getD}
-use Rattle.plan.specs.Columns.{Column, Signal, unsigned, signalData}
+use Rattle.plan.specs.Columns.{Column, Signal, noSignal, signalData}
 use Rattle.plan.specs.Layout.{Placed}
-use Rattle.plan.specs.CopyWords.{placedAt}
+use Rattle.work_words.specs.CopyWords.{placedAt}
 
 unfoldable pub timeIn : ℕ → Bool
 timeIn zero = false
@@ -19,7 +19,7 @@ masterIn (suc m) = some m
 
 -- 0 for none; which fragments is left out
 unfoldable pub signalIn : ℕ → Signal
-signalIn zero = unsigned
+signalIn zero = noSignal
 signalIn (suc n) = signalData []
 
 -- the column whose words begin at i: of its group's DG only the address

@@ -11,11 +11,11 @@ use lib.ListN.{length, getD, set, length-set, length-append}
 use lib.Seq.{getD-set-same, getD-set-other, getD-append-add}
 use Rattle.base.specs.Blit.{blit}
 use Rattle.base.specs.BlitLaws.{length-blit}
-use Rattle.plan.specs.Columns.{Column, Signal, unsigned, signalData, sizeOfSignal, Plan}
+use Rattle.plan.specs.Columns.{Column, Signal, noSignal, signalData, sizeOfSignal, Plan}
 use Rattle.plan.specs.Copies.{Copy}
-use Rattle.plan.specs.CopyWords.{placedAt, placedWords, laidCopies}
+use Rattle.work_words.specs.CopyWords.{placedAt, placedWords, laidCopies}
 use Rattle.plan.specs.Layout.{columnWidth, columnBlocks, Placed, cgOf, cnOf, Layout}
-use Rattle.plan.specs.PlanWords.{timeWord, masterWord, signalWord, columnWords, columnsWords, omissionsAt, omissionPairs, laidPlan}
+use Rattle.work_words.specs.PlanWords.{timeWord, masterWord, signalWord, columnWords, columnsWords, omissionsAt, omissionPairs, laidPlan}
 use Rattle.result.specs.Fill.{
   Block,
   block,
@@ -41,7 +41,7 @@ use Rattle.writing.specs.Structure.{StructureReady}
 
 -- ---- a column without what its blocks do not show
 abbrev pub bareSignal : Signal → Signal
-bareSignal unsigned = unsigned
+bareSignal noSignal = noSignal
 bareSignal (signalData fs) = signalData []
 
 unfoldable pub bareColumn : Column → Column
@@ -78,7 +78,7 @@ bare-master ps none = refl
 bare-master ps (some m) = rw (bare-cg m ps)
 
 bare-sd : (g : Signal) (a : ℕ) → sdLink (bareSignal g) a ≡ sdLink g a
-bare-sd unsigned a = refl
+bare-sd noSignal a = refl
 bare-sd (signalData fs) a = refl
 
 pub bare-next : (ps : List Placed) → nextDG (bareAll ps) ≡ nextDG ps
@@ -142,7 +142,7 @@ master-back (some m) = rw add-one
 
 signal-back : (n : ℕ) (g : Signal) → signalIn (signalWord n g) ≡ bareSignal g
 unfolding signalIn
-signal-back n unsigned = refl
+signal-back n noSignal = refl
 signal-back n (signalData fs) = rw add-one
 
 -- words from i on are those of a list

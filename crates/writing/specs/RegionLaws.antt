@@ -17,7 +17,7 @@ use Rattle.mdf.specs.Records.{joined, sizeOf}
 use Rattle.plan.specs.Channel.{fits, keepsInval, width, channelBytes}
 use Rattle.plan.specs.Geometry.{perFull}
 use Rattle.result.specs.Payload.{cell, cells, payloads}
-use Rattle.result.specs.Fill.{header, framed, dataKind}
+use Rattle.result.specs.Fill.{header, blockOf, dataKind}
 use Rattle.payload_laws.specs.Lists.{Long, long-take, long-drop, together}
 use Rattle.payload_laws.specs.GeometryLaws.{Split, split, split-some}
 use Rattle.payload_laws.specs.PayloadLaws.{length-header, length-framed, length-payloads, payloads-joined}
@@ -219,7 +219,7 @@ framed-append : (kind : ℕ) (ps qs : List (List ℕ)) → framedAll kind (ps ++
 unfolding framedAll
 framed-append kind [] qs = refl
 framed-append kind (p ∷ ps) qs =
-    rw (framed-append kind ps qs) (sym (append-assoc (framed kind p) (framedAll kind ps) (framedAll kind qs)))
+    rw (framed-append kind ps qs) (sym (append-assoc (blockOf kind p) (framedAll kind ps) (framedAll kind qs)))
 
 framed-size : (kind : ℕ) (ps : List (List ℕ)) → length (framedAll kind ps) ≡ 24 * length ps + length (together ps)
 unfolding framedAll together
@@ -242,7 +242,7 @@ module _ (s : List ℕ) (g c kind m : ℕ) where
   -- blocks before block number q, this, and those past it
   block-at : (q j : ℕ) (rs : List (List ℕ)) → framedAll kind (payloads s g c m (q + suc j) rs)
       ≡ framedAll kind (payloads s g c m q rs)
-      ++ (framed kind (cells s g c (take m (drop (q * m) rs))) ++ framedAll kind (payloads s g c m j (drop m (drop (q * m) rs))))
+      ++ (blockOf kind (cells s g c (take m (drop (q * m) rs))) ++ framedAll kind (payloads s g c m j (drop m (drop (q * m) rs))))
   unfolding framedAll payloads
   block-at q j rs = ap (framedAll kind) (payloads-add q (suc j) rs) ∙ framed-append kind (payloads s g c m q rs) _
 
@@ -261,7 +261,7 @@ module _ (s : List ℕ) (g c kind m : ℕ) where
       -- the header of block number q
       header-part : part (24 * q + q * m * width s g c) 24 (framedAll kind (payloads s g c m (q + suc j) rs))
           ≡ header kind (24 + min m (length rs - q * m) * width s g c) 0
-      unfolding framed
+      unfolding blockOf
       header-part =
           let t : List (List ℕ) = take m (drop (q * m) rs) in
           let n : length (cells s g c t) ≡ min m (length rs - q * m) * width s g c =
@@ -275,7 +275,7 @@ module _ (s : List ℕ) (g c kind m : ℕ) where
       cells-part : (r n : ℕ) → r + n ≤ m → q * m + r + n ≤ length rs
           → part (24 * q + (q * m + r) * width s g c + 24) (n * width s g c) (framedAll kind (payloads s g c m (q + suc j) rs))
           ≡ cells s g c (take n (drop (q * m + r) rs))
-      unfolding framed
+      unfolding blockOf
       cells-part r n a b =
           let o : List (List ℕ) = drop (q * m) rs in
           let lo : Long (samples s g + invalBytes s g) o = long-drop (q * m) l in

@@ -9,9 +9,9 @@ use lib.ListN.{length, getD}
 use Rattle.base.specs.Choice.{pick, ifEq}
 use Rattle.base.specs.ChoiceLaws.{eq-yes, eq-no}
 use Rattle.mdf.specs.Group.{isStorage}
-use Rattle.plan.specs.Columns.{SrcGroup, Column, Signal, unsigned, signalData, sizeOfSignal}
+use Rattle.plan.specs.Columns.{SrcGroup, Column, Signal, noSignal, signalData, sizeOfSignal}
 use Rattle.plan.specs.Layout.{columnWidth, columnBlocks}
-use Rattle.plan.specs.PlanWords.{columnWords, columnsWords, timeWord, signalWord}
+use Rattle.work_words.specs.PlanWords.{columnWords, columnsWords, timeWord, signalWord}
 use Rattle.result.specs.Result.{sourceGroupsOf, timeColumns, signalBlocks, blocksWritten}
 use Rattle.result.specs.Guarantee.{In, here, there}
 use Rattle.planning.specs.Items.{item, itemsFrom, flat, groupsIn}
@@ -85,7 +85,7 @@ module _ (s : List ℕ) (size : ℕ) (w : List ℕ) where
 
   signal-word : (m k : ℕ) (g : Signal) → getD w (8 * k + 6) 0 ≡ signalWord m g → signalAt w k ≡ signalBlocks g
   unfolding signalAt
-  signal-word m k unsigned e = sym (eq-yes _ _ _ _ e refl)
+  signal-word m k noSignal e = sym (eq-yes _ _ _ _ e refl)
   signal-word m k (signalData fs) e = sym (eq-no _ _ _ _ (λ z. omega (arith, z, e)) refl)
 
   pub blocks-report : (m k : ℕ) (cs : List Column) → Stand w m k cs → sumOf (blocksAt s size w) k (length cs) ≡ blocksWritten s size cs

@@ -12,7 +12,7 @@ use Rattle.base.specs.Blit.{part}
 use Rattle.base.specs.Checked.{ok, fine}
 use Rattle.mdf.specs.Chain.{Kind, dt, dv, Fragment}
 use Rattle.mdf.specs.Walk.{idSize}
-use Rattle.mdf.specs.Words.{kindOf, fragmentsOf}
+use Rattle.work_words.specs.Words.{kindOf, fragmentsOf}
 use Rattle.mdf.specs.Group.{samples, invalBytes}
 use Rattle.mdf.specs.Records.{most64, rangesIn, joined, sizeOf, idBytes, runs, sortedRecords, sortedIn}
 use Rattle.mdf.specs.Records.{Frame, framed, frameAt, unsortedFrames, unsortedRecords}

@@ -8,9 +8,9 @@ use lib.ListN.{length, getD, drop, length-append, length-take, length-drop}
 use Rattle.base.specs.Field.{le}
 use Rattle.base.specs.Blit.{part, blit}
 use Rattle.base.specs.BlitLaws.{blit-append}
-use Rattle.mdf.specs.Words.{fragmentsOf}
+use Rattle.work_words.specs.Words.{fragmentsOf}
 use Rattle.mdf.specs.Records.{joined}
-use Rattle.result.specs.Fill.{header, framed}
+use Rattle.result.specs.Fill.{header, blockOf}
 use Rattle.puts.specs.PutLaws.{blit-past, part-past, le-wrap, length-header}
 use Rattle.writing.specs.Ahead.{later}
 use Rattle.writing.specs.AheadLaws.{later-more, later-none}
@@ -76,8 +76,8 @@ unfolding header
 header-same kind x y links e = rw (le-same x y e)
 
 pub signal-is : (kind : ℕ) (p d e f : List ℕ) (r x : ℕ) → r % 2 ^ 64 ≡ length p % 2 ^ 64 → x ≡ (24 + r) % 2 ^ 64
-    → e ≡ blit 0 (header kind x 0) d → f ≡ blit 24 p e → f ≡ blit 0 (framed kind p) d
-unfolding framed
+    → e ≡ blit 0 (header kind x 0) d → f ≡ blit 24 p e → f ≡ blit 0 (blockOf kind p) d
+unfolding blockOf
 signal-is kind p d e f r x a b c q =
     let m : (24 + r) % 2 ^ 64 ≡ (24 + length p) % 2 ^ 64 = sym (add-mod-mod 24 r (2 ^ 64)) ∙ rw a (add-mod-mod 24 (length p) (2 ^ 64)) in
     let n : x % 2 ^ 64 ≡ (24 + length p) % 2 ^ 64 = rw b (wrap-wrap (24 + r)) ∙ m in

@@ -8,7 +8,7 @@ use Rattle.base.specs.Choice.{pick, ifLt, ifEq}
 use Rattle.mdf.specs.Block.{linkAt, dataAt}
 use Rattle.plan.specs.Channel.{channelBytes, keepsInval, width}
 use Rattle.plan.specs.Copies.{Copy}
-use Rattle.plan.specs.CopyWords.{placedAt}
+use Rattle.work_words.specs.CopyWords.{placedAt}
 use Rattle.plan.specs.Geometry.{blockCount, blockPayload}
 use Rattle.plan.specs.Layout.{cgSize, dlSize}
 use Rattle.result.specs.Fill.{Block, block, newLink, sdLink, structureBlocks}

@@ -19,7 +19,7 @@ use Rattle.base.specs.BlitLaws.{length-part}
 use Rattle.mdf.specs.Block.{linkAt, dataAt}
 use Rattle.plan.specs.Channel.{channelBytes, keepsInval, width}
 use Rattle.plan.specs.Copies.{Copy, copyOf}
-use Rattle.plan.specs.CopyWords.{placedAt}
+use Rattle.work_words.specs.CopyWords.{placedAt}
 use Rattle.plan.specs.Geometry.{powerIn, stepOf, perBlock, perFull, blockCount, blockPayload}
 use Rattle.plan.specs.Layout.{columnWidth, columnBlocks, cgSize, dlSize, Placed, cgOf, cnOf}
 use Rattle.result.specs.Fill.{

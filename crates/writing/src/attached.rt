@@ -8,7 +8,7 @@ ghost use Prim.Native.Nat.{_+_, _-_, _≤_};
 ghost use lib.ListN.{length};
 ghost use Rattle.base.specs.Blit.{part};
 ghost use Rattle.mdf.specs.Block.{sizeAt};
-ghost use Rattle.plan.specs.CopyWords.{historyAt};
+ghost use Rattle.work_words.specs.CopyWords.{historyAt};
 ghost use Rattle.placing.specs.Standing.{copiesIn};
 ghost use Rattle.result.specs.Fill.{block, copiedBlocks, atBytes, attachmentBlocks};
 ghost use Rattle.copies_laws.specs.AttachLaws.{Moved, LaidAt, ownCopies};

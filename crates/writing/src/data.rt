@@ -11,9 +11,9 @@ ghost use Prim.Native.Nat.{_+_, _*_, _-_, _≤_};
 ghost use lib.ListN.{length};
 ghost use Rattle.base.specs.Blit.{part};
 ghost use Rattle.mdf.specs.Block.{kindSD};
-ghost use Rattle.mdf.specs.Words.{fragmentsOf};
+ghost use Rattle.work_words.specs.Words.{fragmentsOf};
 ghost use Rattle.mdf.specs.Records.{joined};
-ghost use Rattle.result.specs.Fill.{block, framed};
+ghost use Rattle.result.specs.Fill.{block, blockOf};
 ghost use Rattle.result.specs.Ordered.{Ordered};
 ghost use Rattle.writing.specs.Wrote.{Wrote};
 ghost use Rattle.writing.specs.Data.{entryIn, entryBlocks, entrySignal, dataFrom, EntryReady, DataReady};
@@ -83,8 +83,8 @@ fn pass_blocks(
 
 // Zeros from at up to sd, and an SD there with the data of fragments; the answer is past it.
 fn write_sd(out: &mut [u8], at: usize, sd: usize, image: &[u8], fragments: &[u64]) -> usize
-    requires { ⌜ (at ≤ sd) × (sd + length (framed kindSD (joined (now image) (fragmentsOf (now fragments)))) ≤ length (now out)) ⌝ }
-    ensures { λ r. ⌜ Wrote at (block sd (framed kindSD (joined (now (image .entry)) (fragmentsOf (now (fragments .entry))))) ∷ []) r
+    requires { ⌜ (at ≤ sd) × (sd + length (blockOf kindSD (joined (now image) (fragmentsOf (now fragments)))) ≤ length (now out)) ⌝ }
+    ensures { λ r. ⌜ Wrote at (block sd (blockOf kindSD (joined (now (image .entry)) (fragmentsOf (now (fragments .entry))))) ∷ []) r
         (now (out .entry)) (now (out .exit)) ⌝ }
 {
     let size = joined_size(image, fragments);

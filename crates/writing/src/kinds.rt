@@ -3,7 +3,7 @@ use crate::cursor::Cursor;
 ghost use mathlib.Core.Path.{_≡_};
 ghost use Prim.Native.Nat.{_-_};
 ghost use lib.ListN.{getD};
-ghost use Rattle.mdf.specs.Words.{kindOf};
+ghost use Rattle.work_words.specs.Words.{kindOf};
 ghost use Rattle.result.specs.Fill.{dataKind};
 ghost use Rattle.writing.specs.Rows.{idIn};
 

@@ -7,9 +7,9 @@ ghost use Prim.Native.Nat.{_%_, _^_};
 ghost use lib.ListN.{length};
 ghost use Rattle.base.specs.Blit.{part, blit};
 ghost use Rattle.mdf.specs.Block.{kindSD};
-ghost use Rattle.mdf.specs.Words.{fragmentsOf};
+ghost use Rattle.work_words.specs.Words.{fragmentsOf};
 ghost use Rattle.mdf.specs.Records.{joined};
-ghost use Rattle.result.specs.Fill.{framed};
+ghost use Rattle.result.specs.Fill.{blockOf};
 
 // How many of n bytes from an offset on lie in the image.
 fn inside(image: &[u8], offset: u64, n: u64) -> u64
@@ -63,7 +63,7 @@ fn copy_all(out: &mut [u8], at: usize, image: &[u8], fragments: &[u64])
 
 // The SD block at the front of out.
 pub fn write_signal(out: &mut [u8], image: &[u8], fragments: &[u64])
-    ensures { λ _. ⌜ now (out .exit) ≡ blit 0 (framed kindSD (joined (now (image .entry)) (fragmentsOf (now (fragments .entry)))))
+    ensures { λ _. ⌜ now (out .exit) ≡ blit 0 (blockOf kindSD (joined (now (image .entry)) (fragmentsOf (now (fragments .entry)))))
         (now (out .entry)) ⌝ }
 {
     let size = std::num::wrapping_add_u64(24, joined_size(image, fragments));

@@ -2,7 +2,7 @@
 use Rattle.copying.specs.CopyingLaws.{Chain, chain-begin, history-last, history-next, history-miss, history-end}
 use Rattle.result.specs.Fill.{historyLink, firstNew}
 use Rattle.placing.specs.Standing.{copiesIn}
-use Rattle.plan.specs.CopyWords.{historyAt}
+use Rattle.work_words.specs.CopyWords.{historyAt}
 use Rattle.base.specs.Blit.{part}
 use Prim.Native.Nat.{_-_}
 use borrow.Author.Needs.{needs}

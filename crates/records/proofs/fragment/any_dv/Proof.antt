@@ -1,6 +1,6 @@
 -- What is left of the search gives what the whole gives.
 use Rattle.mdf.specs.Records.{anyDV}
-use Rattle.mdf.specs.Words.{fragmentsOf}
+use Rattle.work_words.specs.Words.{fragmentsOf}
 use Rattle.records.specs.Ahead.{fragmentsFrom}
 use Rattle.records.specs.FragmentLaws.{from-start, dv-met, dv-next, dv-end}
 use mathlib.Core.Path.{_≡_}

@@ -1,6 +1,6 @@
 -- What is left of the check gives what the whole gives.
 use Rattle.mdf.specs.Records.{rangesIn}
-use Rattle.mdf.specs.Words.{fragmentsOf}
+use Rattle.work_words.specs.Words.{fragmentsOf}
 use Rattle.records.specs.Ahead.{fragmentsFrom}
 use Rattle.records.specs.FragmentLaws.{from-start, ranges-out, ranges-next, ranges-end}
 use mathlib.Core.Path.{_≡_}

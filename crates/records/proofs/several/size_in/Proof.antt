@@ -1,6 +1,6 @@
 -- The sum so far and what is left give the whole.
 use Rattle.mdf.specs.Records.{sizeOf}
-use Rattle.mdf.specs.Words.{fragmentsOf}
+use Rattle.work_words.specs.Words.{fragmentsOf}
 use Rattle.records.specs.SeveralLaws.{size-start, size-next, size-end, size-over, size-fits}
 use Rattle.records.specs.Ahead.{fragmentsFrom}
 use native.Mathlib.Nat.{zero-add}

@@ -1,5 +1,5 @@
 -- The sum so far and what is left give the whole.
-use Rattle.mdf.specs.Words.{fragmentsOf}
+use Rattle.work_words.specs.Words.{fragmentsOf}
 use Rattle.records.specs.CountLaws.{bytes-start, bytes-next, bytes-end, within-over, within-in}
 use Rattle.records.specs.Counted.{bytesOf}
 use Rattle.records.specs.Ahead.{fragmentsFrom}

@@ -1,7 +1,7 @@
 -- What is left of the fragments, laid over the present bytes, gives the result.
 use mathlib.Core.Path.{_≡_, refl}
 use Prim.Native.Nat.{_-_, _≤_, _<_}
-use Rattle.mdf.specs.Words.{fragmentsOf}
+use Rattle.work_words.specs.Words.{fragmentsOf}
 use Rattle.rows.specs.Alone.{ownFrom}
 use Rattle.rows.specs.Rows.{laidFrom}
 use Rattle.rows.specs.AloneLaws.{Going, going-begin, going-in, going-end, going-on}

@@ -1,5 +1,5 @@
 -- The checks read the data to the end, so that all of it is framed when the records are laid.
-use Rattle.mdf.specs.Words.{fragmentsOf}
+use Rattle.work_words.specs.Words.{fragmentsOf}
 use Rattle.rows.specs.SeveralLaws.{several-fine, several-refused, framed-by, several-laid}
 use borrow.Author.Needs.{needs}
 use Rattle.rows.proofs.several.own_several.Statement.{statement}

@@ -3,7 +3,7 @@ use Rattle.writing.specs.AttachmentsLaws.{AttachmentsLeft, attachments-b
 use Rattle.writing.specs.Attachments.{attachmentsIn}
 use Rattle.result.specs.Fill.{attachmentBlocks}
 use Rattle.placing.specs.Standing.{copiesIn}
-use Rattle.plan.specs.CopyWords.{historyAt}
+use Rattle.work_words.specs.CopyWords.{historyAt}
 use Rattle.base.specs.Blit.{part}
 use Prim.Native.Nat.{_-_}
 use mathlib.Core.Path.{refl}

@@ -2,7 +2,7 @@
 use Rattle.writing.specs.CopiesLaws.{CopiesLeft, copies-begin, next-copy, copies-turn, copies-end}
 use Rattle.result.specs.Fill.{copiedBlocks}
 use Rattle.placing.specs.Standing.{copiesIn}
-use Rattle.plan.specs.CopyWords.{historyAt}
+use Rattle.work_words.specs.CopyWords.{historyAt}
 use Rattle.base.specs.Blit.{part}
 use Prim.Native.Nat.{_-_}
 use borrow.Author.Needs.{needs}

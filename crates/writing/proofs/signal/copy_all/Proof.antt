@@ -2,7 +2,7 @@
 use Prim.Native.Nat.{_-_, _≤_}
 use mathlib.Core.Path.{_≡_, refl}
 use Rattle.base.specs.Blit.{blit}
-use Rattle.mdf.specs.Words.{fragmentsOf}
+use Rattle.work_words.specs.Words.{fragmentsOf}
 use Rattle.mdf.specs.Records.{joined}
 use Rattle.writing.specs.Ahead.{later}
 use Rattle.writing.specs.SignalLaws.{later-all, copy-lost, copy-turn, copy-full, copy-end}

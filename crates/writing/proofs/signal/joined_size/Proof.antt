@@ -2,7 +2,7 @@
 use Prim.Native.Nat.{ℕ, _+_, _-_, _%_, _^_, _≤_}
 use mathlib.Core.Path.{_≡_, refl, ap}
 use native.Mathlib.Nat.{zero-add}
-use Rattle.mdf.specs.Words.{fragmentsOf}
+use Rattle.work_words.specs.Words.{fragmentsOf}
 use Rattle.mdf.specs.Records.{joined}
 use Rattle.writing.specs.Ahead.{later}
 use Rattle.writing.specs.SignalLaws.{later-all, sum-turn, sum-end}

@@ -5,7 +5,7 @@ use mathlib.Core.Bool.{Bool, true, false}
 use mathlib.Core.Option.{Option, none, some}
 use Rattle.base.specs.Blit.{blit}
 use Rattle.mdf.specs.Chain.{Fragment}
-use Rattle.plan.specs.Columns.{Column, Signal, unsigned, signalData, sizeOfSignal, Omission, Plan}
+use Rattle.plan.specs.Columns.{Column, Signal, noSignal, signalData, sizeOfSignal, Omission, Plan}
 
 -- 1 for a time column
 abbrev pub timeWord : Bool → ℕ
@@ -19,7 +19,7 @@ masterWord (some m) = m + 1
 
 -- 0 for none, else the number of fragments before its own and 1
 abbrev pub signalWord : ℕ → Signal → ℕ
-signalWord n unsigned = 0
+signalWord n noSignal = 0
 signalWord n (signalData fs) = n + 1
 
 -- CN, CG, DG, records, time, master, signal data, its number of fragments; n fragments are kept before this column's
@@ -40,7 +40,7 @@ omissionPairs (o ∷ os) = o .at ∷ o .reason ∷ omissionPairs os
 
 -- the fragments of a column's signal data
 abbrev pub fragmentsIn : Signal → List Fragment
-fragmentsIn unsigned = []
+fragmentsIn noSignal = []
 fragmentsIn (signalData fs) = fs
 
 -- the same of all columns, in order

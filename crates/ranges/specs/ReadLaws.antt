@@ -1,0 +1,249 @@
+-- The laws of the two calls, way by way.
+use Prim.{Unit, tt}
+use Prim.Native.Nat.{ℕ, zero, suc, _+_, _*_, _-_, _/_, _%_, _≤_, _<_}
+use mathlib.Core.List.{List, [], _∷_, _++_}
+use mathlib.Core.Bool.{Bool, true, false}
+use mathlib.Core.Option.{Option, none, some}
+use mathlib.Core.Path.{_≡_, refl, sym, ap, subst, _∙_}
+use native.Mathlib.Nat.{add-zero, zero-add, mul-zero, mul-div-cancel, div-add-mod', mul-pos}
+use native.Mathlib.Omega.{arith}
+use lib.ListN.{length, getD, take}
+use lib.Seq.{take-length}
+use lib.Dec.{eqb, ltb}
+use borrow.Author.Tests.{eq-eqb, ne-eqb, eqb-true, eqb-false, ltb-true, ltb-false}
+use Rattle.base.specs.Blit.{blit, part}
+use Rattle.base.specs.BlitLaws.{length-blit, part-blit, length-part}
+use Rattle.base.specs.Choice.{pick, ifLt}
+use Rattle.base.specs.ChoiceLaws.{lt-yes, lt-no}
+use Rattle.base.specs.Checked.{Checked, ok, refused, andThen, Verdict, fine}
+use Rattle.mdf.specs.Block.{linkAt}
+use Rattle.mdf.specs.Chain.{Fragment}
+use Rattle.mdf.specs.Records.{rangesIn, joined, sizeOf}
+use Rattle.file.specs.Form.{FileColumn, cycles, recordBytes}
+use Rattle.file.specs.Opened.{onColumn, opened}
+use Rattle.file.specs.Range.{fileColumnAt, asked, startOf, bytesOf, rangeOf, Copied, copied, intoBuffer, readInto}
+use Rattle.file_laws.specs.JoinedLaws.{part-back, ranges-cons, length-joined}
+use Rattle.file_laws.specs.RangeLaws.{Asked, asked-back, range-inside, range-length, read-fits, read-other}
+use Rattle.ranges.specs.declared.open.Opened.{Opened}
+use Rattle.ranges.specs.declared.open.Opened.the-variants.{Columns}
+use Rattle.ranges.specs.declared.open.Opened.the-variants as opens
+use Rattle.ranges.specs.declared.read.Granted.{Granted}
+use Rattle.ranges.specs.declared.read.Granted.the-variants.{Refused, Column}
+use Rattle.ranges.specs.declared.seek.Spot.{Spot}
+use Rattle.ranges.specs.Blocks.{listedFrom, linksOf, blocksOf, columnOf}
+use Rattle.ranges.specs.BlocksLaws.{from-end}
+use Rattle.ranges.specs.Seek.{FirstIn, Sought, nowhere, here, seekIn, spotted}
+use Rattle.ranges.specs.Open.{columnAt, columnsOf, few, openedAs}
+use Rattle.ranges.specs.Read.{askedAs, copiedAs, Fills}
+
+-- ---- n bytes are so many records
+module _ (n count w : ℕ) where
+  pub fits-none : w ≡ 0 → eqb n 0 ≡ eqb n (count * w)
+  fits-none z = rw (z, mul-zero)
+
+  module _ (z : w ≡ 0 → ⊥) where
+    over-zero : 0 < w
+    over-zero = omega (arith, z)
+
+    is-count : n ≡ count * w → n / w ≡ count
+    is-count e = ap (λ (k : ℕ). k / w) e ∙ mul-div-cancel count over-zero
+
+    pub fits-part : (n % w ≡ 0 → ⊥) → false ≡ eqb n (count * w)
+    fits-part h =
+        sym (ne-eqb n (count * w) (λ e. h (let a = div-add-mod' n w in let b : n / w * w ≡ count * w = ap (λ (k : ℕ). k * w) (is-count e) in omega arith)))
+
+    pub fits-whole : n % w ≡ 0 → eqb (n / w) count ≡ eqb n (count * w)
+    fits-whole h = go (eqb (n / w) count) refl
+      where
+        go : (t : Bool) → eqb (n / w) count ≡ t → t ≡ eqb n (count * w)
+        go true e = sym (eq-eqb n (count * w)
+            (let a = div-add-mod' n w in let b : n / w * w ≡ count * w = ap (λ (k : ℕ). k * w) (eqb-true (n / w) count e) in omega arith))
+        go false e = sym (ne-eqb n (count * w) (λ q. eqb-false (n / w) count e (is-count q)))
+
+-- ---- the column asked for
+column-at : (s w : List ℕ) (n k i : ℕ) → k < n → fileColumnAt k (columnsOf s w n i) ≡ some (columnAt s w (i + k))
+unfolding fileColumnAt columnsOf
+column-at s w zero k i h = absurd (omega arith)
+column-at s w (suc n) zero i h = rw (add-zero i)
+column-at s w (suc n) (suc k) i h =
+    let e : i + 1 + k ≡ i + suc k = omega arith in
+    rw (← e) (column-at s w n k (i + 1) (omega arith))
+
+column-none : (s w : List ℕ) (n k i : ℕ) → n ≤ k → fileColumnAt k (columnsOf s w n i) ≡ none
+unfolding fileColumnAt columnsOf
+column-none s w zero k i h = refl
+column-none s w (suc n) zero i h = absurd (omega arith)
+column-none s w (suc n) (suc k) i h = column-none s w n k (i + 1) (omega arith)
+
+pub columns-few : {o : Opened} {n : ℕ} → few o → o ≡ Columns n → n ≤ 512
+columns-few f q = subst few q f
+
+module _ (s w : List ℕ) (k first count : ℕ) {o : Opened} (e : openedAs s w o ≡ opened s) where
+  pub ask-refused : {x p : ℕ} → o ≡ opens.Refused x p → refused x p ≡ asked s k first count
+  unfolding asked
+  ask-refused q = rw (← e, q)
+
+  module _ {n : ℕ} (q : o ≡ Columns n) where
+    pub ask-22 : n ≤ k → refused 22 0 ≡ asked s k first count
+    unfolding asked
+    ask-22 h = rw (← e, q, column-none s w n k 0 h)
+
+    module _ (h : k < n) {c : ℕ} (f : c ≡ cycles s (getD w (3 * k + 1) 0)) where
+      found-column : fileColumnAt k (columnsOf s w n 0) ≡ some (columnAt s w k)
+      found-column = let z : 0 + k ≡ k = zero-add k in column-at s w n k 0 h ∙ rw z
+
+      pub ask-23 : c < first + count → refused 23 0 ≡ asked s k first count
+      unfolding asked
+      ask-23 g = rw (← e, q, found-column) (lt-yes _ _ _ _ (rw f at g) refl)
+
+      pub ask-column : first + count ≤ c → ok (columnAt s w k) ≡ asked s k first count
+      unfolding asked
+      ask-column g = rw (← e, q, found-column) (lt-no _ _ _ _ (rw f at g) refl)
+
+-- ---- the block that holds the first byte
+record Sight (s : List ℕ) (fs : List Fragment) (p : ℕ) (gs : List Fragment) (q : ℕ) : Type 0 where
+  ranges : rangesIn s gs ≡ fine
+  first : FirstIn gs q
+  same : (n : ℕ) → part p n (joined s fs) ≡ part q n (joined s gs)
+
+here-gs : {fs gs : List Fragment} {p q : ℕ} → here fs p ≡ here gs q → fs ≡ gs
+here-gs e = cc
+
+here-p : {fs gs : List Fragment} {p q : ℕ} → here fs p ≡ here gs q → p ≡ q
+here-p e = cc
+
+nowhere≢here : {A : Type 0} {gs : List Fragment} {q : ℕ} → nowhere ≡ here gs q → A
+nowhere≢here e = absurd (let z : _≡_ {A = ℕ} 0 1 = cc in omega arith)
+
+sight : (s : List ℕ) (fs : List Fragment) (p : ℕ) (gs : List Fragment) (q : ℕ) → rangesIn s fs ≡ fine → seekIn fs p ≡ here gs q → Sight s fs p gs q
+unfolding seekIn joined ifLt
+sight s [] p gs q r e = nowhere≢here e
+sight s (f ∷ fs) p gs q r e = go (ltb p (f .size)) refl e (λ z. sight s fs (p - f .size) gs q (b .1) z)
+  where
+    b : (f .offset + f .size ≤ length s) × (rangesIn s fs ≡ fine)
+    b = ranges-cons s f fs r
+
+    size : length (part (f .offset) (f .size) s) ≡ f .size
+    size = length-part (f .offset) (f .size) s (b .0)
+
+    go : (t : Bool) → ltb p (f .size) ≡ t → pick t (here (f ∷ fs) p) (seekIn fs (p - f .size)) ≡ here gs q
+        → (seekIn fs (p - f .size) ≡ here gs q → Sight s fs (p - f .size) gs q) → Sight s (f ∷ fs) p gs q
+    go true t h later =
+        let y = ltb-true p (f .size) t in
+        subst (λ (x : ℕ). Sight s (f ∷ fs) p gs x) (here-p h)
+        (subst (λ (l : List Fragment). Sight s (f ∷ fs) p l p) (here-gs h) (record { ranges = r; first = omega arith; same = λ n. refl }))
+    go false t h later =
+        let y = ltb-false p (f .size) t in
+        let z = later h in
+        record {
+          ranges = z .ranges;
+          first = z .first;
+          same = λ n. part-back p n (part (f .offset) (f .size) s) (joined s fs) (rw size y) ∙ rw size (z .same n);
+        }
+
+sees : (fs : List Fragment) (p : ℕ) → p < sizeOf fs → seekIn fs p ≡ nowhere → ⊥
+unfolding seekIn sizeOf ifLt
+sees [] p h e = omega arith
+sees (f ∷ fs) p h e = go (ltb p (f .size)) refl e (λ g z. sees fs (p - f .size) g z)
+  where
+    go : (t : Bool) → ltb p (f .size) ≡ t → pick t (here (f ∷ fs) p) (seekIn fs (p - f .size)) ≡ nowhere
+        → (p - f .size < sizeOf fs → seekIn fs (p - f .size) ≡ nowhere → ⊥) → ⊥
+    go true t q more = nowhere≢here (sym q)
+    go false t q more = let y = ltb-false p (f .size) t in more (omega arith) q
+
+blit-whole : (xs l : List ℕ) → length xs ≡ length l → blit 0 xs l ≡ xs
+unfolding part
+blit-whole xs l h =
+    let e : length (blit 0 xs l) ≡ length xs = length-blit 0 xs l ∙ sym h in
+    sym (take-length (blit 0 xs l)) ∙ rw e (part-blit 0 xs l (omega arith))
+
+module _ (s : List ℕ) (d first w n : ℕ) (f : Fills s d first w n) {a links : ℕ} (p : a ≡ linkAt s d 2) (q : links ≡ linksOf s a) (r : Spot)
+    (e : spotted s a links r ≡ seekIn (listedFrom s a links 1) (first * w)) where
+  all-is : listedFrom s a links 1 ≡ blocksOf s (linkAt s d 2)
+  all-is = rw (q, p)
+
+  is-here : seekIn (listedFrom s a links 1) (first * w) ≡ here (listedFrom s a links (r .link)) (r .place)
+  unfolding spotted ifLt
+  is-here = go (ltb (r .link) links) e
+    where
+      go : (t : Bool) → pick t (here (listedFrom s a links (r .link)) (r .place)) nowhere ≡ seekIn (listedFrom s a links 1) (first * w)
+          → seekIn (listedFrom s a links 1) (first * w) ≡ here (listedFrom s a links (r .link)) (r .place)
+      go true y = sym y
+      go false y =
+          let i = f .inside in
+          let b = f .bytes in
+          absurd (sees (listedFrom s a links 1) (first * w) (rw all-is (omega arith)) (sym y))
+
+  seen : Sight s (listedFrom s a links 1) (first * w) (listedFrom s a links (r .link)) (r .place)
+  seen = sight s (listedFrom s a links 1) (first * w) (listedFrom s a links (r .link)) (r .place) (rw all-is (f .ranges)) is-here
+
+  pub fill-asks : (rangesIn s (listedFrom s a links (r .link)) ≡ fine) × FirstIn (listedFrom s a links (r .link)) (r .place)
+  fill-asks = (seen .ranges, seen .first)
+
+  pub fill-is : (b : List ℕ) {b' : List ℕ} → length b ≡ n → b' ≡ blit 0 (part (r .place) (length b) (joined s (listedFrom s a links (r .link)))) b
+      → b' ≡ part (first * w) (length b) (joined s (blocksOf s (linkAt s d 2)))
+  fill-is b {b'} h g =
+      let x : part (r .place) (length b) (joined s (listedFrom s a links (r .link))) ≡ part (first * w) (length b) (joined s (blocksOf s (linkAt s d 2)))
+      = sym (seen .same (length b)) ∙ ap (λ (fs : List Fragment). part (first * w) (length b) (joined s fs)) all-is in
+      let y : length (part (first * w) (length b) (joined s (blocksOf s (linkAt s d 2)))) ≡ length b
+      = length-part _ _ _ (rw (length-joined s (blocksOf s (linkAt s d 2)) (f .ranges), h) (f .inside)) in
+      g ∙ rw x (blit-whole _ b y)
+
+-- ---- reading into the buffer
+module _ (s : List ℕ) (k first count : ℕ) (b : List ℕ) {r : Granted} (e : askedAs s r ≡ asked s k first count) where
+  pub read-refused : {x p : ℕ} → r ≡ Refused x p → copied b (refused x p) ≡ readInto s k first count b
+  unfolding readInto intoBuffer
+  read-refused q = rw (← e, q)
+
+  module _ {d g c : ℕ} (q : r ≡ Column d g c) {w : ℕ} (f : w ≡ recordBytes s g) {t : Bool} (h : t ≡ eqb (length b) (count * w)) where
+    column : asked s k first count ≡ ok (columnOf s d g c)
+    column = sym e ∙ rw q
+
+    known : Asked s k first count (columnOf s d g c)
+    known = asked-back s k first count (columnOf s d g c) column
+
+    bytes-is : bytesOf s (columnOf s d g c) count ≡ count * w
+    unfolding bytesOf
+    bytes-is = rw f
+
+    pub read-short : t ≡ false → copied b (refused 24 0) ≡ readInto s k first count b
+    read-short z = sym (read-other s k first count b (columnOf s d g c) column (λ y. eqb-false _ _ (sym h ∙ z) (y ∙ bytes-is)))
+
+    module _ (z : t ≡ true) where
+      fit : length b ≡ bytesOf s (columnOf s d g c) count
+      fit = eqb-true _ _ (sym h ∙ z) ∙ sym bytes-is
+
+      pub read-fills : w < 8589934591 → 0 < length b → Fills s d first w (length b)
+      unfolding startOf bytesOf
+      read-fills y x =
+          let i = range-inside s k first count (columnOf s d g c) known in
+          let j : length b ≡ count * w = eqb-true _ _ (sym h ∙ z) in
+          record {
+            some = positive w (λ o. let l : count * w ≡ 0 = rw (o, mul-zero) in omega arith);
+            small = omega arith;
+            ranges = known .column .ranges;
+            bytes = x;
+            inside = (rw (← f, ← j) at i);
+          }
+        where
+          positive : (m : ℕ) → (m ≡ 0 → ⊥) → 0 < m
+          positive zero o = absurd (o refl)
+          positive (suc m) o = omega arith
+
+      pub read-copied : {b' : List ℕ} → b' ≡ part (first * w) (length b) (joined s (blocksOf s (linkAt s d 2)))
+          → copied b (ok b') ≡ readInto s k first count b
+      unfolding rangeOf startOf
+      read-copied {b'} y =
+          let x : b' ≡ rangeOf s first count (columnOf s d g c) = y ∙ rw (f, fit) in
+          rw x (sym (read-fits s k first count b (columnOf s d g c) column fit))
+
+      pub read-empty : length b ≤ 0 → copied b (ok b) ≡ readInto s k first count b
+      unfolding rangeOf part
+      read-empty y =
+          let v : bytesOf s (columnOf s d g c) count ≡ 0 = omega (arith, fit) in
+          let x : b ≡ rangeOf s first count (columnOf s d g c) = nothing b y ∙ rw v in
+          ap (λ (l : List ℕ). copied b (ok l)) x ∙ sym (read-fits s k first count b (columnOf s d g c) column fit)
+        where
+          nothing : (l : List ℕ) → length l ≤ 0 → l ≡ []
+          nothing [] o = refl
+          nothing (u ∷ l) o = absurd (omega arith)

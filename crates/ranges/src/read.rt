@@ -1,0 +1,116 @@
+// The two calls: records copied into a buffer, or handed back as a part of the file's own bytes.
+use crate::block::bytes_at;
+use crate::block::links_of;
+use crate::form::cycles_of;
+use crate::form::record_bytes;
+use crate::open::Opened;
+use crate::open::open_file;
+use crate::seek::copy_from;
+use crate::seek::seek;
+use blocks::block::link_at;
+use fields::Check;
+ghost use mathlib.Core.Path.{_≡_};
+ghost use lib.Dec.{eqb};
+ghost use Prim.Native.Nat.{_+_, _*_, _≤_, _<_};
+ghost use lib.ListN.{length};
+ghost use Rattle.base.specs.Blit.{part};
+ghost use Rattle.base.specs.Checked.{fine};
+ghost use Rattle.mdf.specs.Block.{linkAt};
+ghost use Rattle.mdf.specs.Records.{rangesIn, joined, sizeOf};
+ghost use Rattle.file.specs.Range.{asked, readInto};
+ghost use Rattle.ranges.specs.Blocks.{blocksOf};
+ghost use Rattle.ranges.specs.Read.{askedAs, copiedAs, Fills};
+
+// The column asked for.
+pub enum Granted {
+    Refused { number: u64, place: u64 },
+    Column { dg: u64, cg: u64, cn: u64 },
+}
+
+// 24 for the image, 22, 23.
+pub fn ask(image: &[u8], column: u64, first: u64, count: u64) -> Granted
+    ensures { λ r. ⌜ askedAs (now (image .entry)) r ≡ asked (now (image .entry)) column first count ⌝ }
+{
+    let mut source = [0u64; 4096];
+    let opened = open_file(image, &mut source);
+    match opened {
+        Opened::Refused { number, place } => Granted::Refused { number, place },
+        Opened::Columns { count: columns } => {
+            if column < columns {
+                let k = 3 * column as usize;
+                let dg = source[k];
+                let cg = source[k + 1];
+                let cn = source[k + 2];
+                let all = cycles_of(image, cg);
+                if all < first {
+                    return Granted::Refused {
+                        number: 23,
+                        place: 0,
+                    };
+                }
+                if all - first < count {
+                    return Granted::Refused {
+                        number: 23,
+                        place: 0,
+                    };
+                }
+                return Granted::Column { dg, cg, cn };
+            }
+            Granted::Refused {
+                number: 22,
+                place: 0,
+            }
+        }
+    }
+}
+
+// Whether n bytes are so many records of w bytes.
+fn fits(n: u64, count: u64, w: u64) -> bool
+    ensures { λ r. ⌜ r ≡ eqb n (count * w) ⌝ }
+{
+    if w == 0 {
+        return n == 0;
+    }
+    if n % w == 0 {
+        return n / w == count;
+    }
+    false
+}
+
+// The buffer is filled from the first byte of a record on.
+fn fill(image: &[u8], d: u64, first: u64, w: u64, buffer: &mut [u8])
+    requires { ⌜ Fills (now image) d first w (length (now buffer)) ⌝ }
+    ensures { λ _. ⌜ now (buffer .exit) ≡ part (first * w) (length (now (buffer .entry)))
+        (joined (now (image .entry)) (blocksOf (now (image .entry)) (linkAt (now (image .entry)) d 2))) ⌝ }
+{
+    let a = link_at(image, d, 2);
+    let links = links_of(image, a);
+    let spot = seek(image, a, links, first, w);
+    let link = spot.link;
+    let place = spot.place;
+    copy_from(image, a, links, link, place, buffer)
+}
+
+// Count records of a column, beginning at a given one, are copied into the buffer.
+pub fn read_range(image: &[u8], column: u64, first: u64, count: u64, buffer: &mut [u8]) -> Check
+    ensures { λ r. ⌜ copiedAs r (now (buffer .exit)) ≡ readInto (now (image .entry)) column first count (now (buffer .entry)) ⌝ }
+{
+    let asked = ask(image, column, first, count);
+    match asked {
+        Granted::Refused { number, place } => Check::Refused { number, place },
+        Granted::Column { dg, cg, cn } => {
+            let w = record_bytes(image, cg);
+            let all = buffer.len() as u64;
+            if fits(all, count, w) {
+                if 0 < all {
+                    fill(image, dg, first, w, buffer);
+                }
+                return Check::Fine;
+            }
+            Check::Refused {
+                number: 24,
+                place: 0,
+            }
+        }
+    }
+}
