@@ -42,6 +42,9 @@ static const char *const refusals[] = {
         "2048 copied blocks, 64 attachments, or blocks of a column",
     [SITAUNGO_REFUSED_OUTPUT] = "the output is too short for the result",
     [SITAUNGO_REFUSED_LIST] = "the omission list is too short",
+    [SITAUNGO_REFUSED_COLUMN] = "the file has no such column",
+    [SITAUNGO_REFUSED_RECORDS] = "the column has fewer records",
+    [SITAUNGO_REFUSED_FORM] = "the file lacks the form of a column file, or the buffer has another length",
 };
 
 static const char *const reasons[] = {

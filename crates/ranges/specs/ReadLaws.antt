@@ -5,23 +5,23 @@ use mathlib.Core.List.{List, [], _∷_, _++_}
 use mathlib.Core.Bool.{Bool, true, false}
 use mathlib.Core.Option.{Option, none, some}
 use mathlib.Core.Path.{_≡_, refl, sym, ap, subst, _∙_}
-use native.Mathlib.Nat.{add-zero, zero-add, mul-zero, mul-div-cancel, div-add-mod', mul-pos}
+use native.Mathlib.Nat.{le-refl, add-zero, zero-add, zero-mul, mul-zero, mul-div-cancel, div-add-mod', mul-pos, div-lt-iff-lt-mul, le-div-iff-mul-le}
 use native.Mathlib.Omega.{arith}
-use lib.ListN.{length, getD, take}
-use lib.Seq.{take-length}
+use lib.ListN.{length, getD, take, drop, length-drop, drop-of-length-le}
+use lib.Seq.{take-length, take-all}
 use lib.Dec.{eqb, ltb}
 use borrow.Author.Tests.{eq-eqb, ne-eqb, eqb-true, eqb-false, ltb-true, ltb-false}
 use Rattle.base.specs.Blit.{blit, part}
 use Rattle.base.specs.BlitLaws.{length-blit, part-blit, length-part}
-use Rattle.base.specs.Choice.{pick, ifLt}
-use Rattle.base.specs.ChoiceLaws.{lt-yes, lt-no}
+use Rattle.base.specs.Choice.{pick, ifLt, ifLe, ifEq}
+use Rattle.base.specs.ChoiceLaws.{lt-yes, lt-no, le-yes, le-no, eq-yes, eq-no}
 use Rattle.base.specs.Checked.{Checked, ok, refused, andThen, Verdict, fine}
-use Rattle.mdf.specs.Block.{linkAt}
+use Rattle.mdf.specs.Block.{sizeAt, linkAt}
 use Rattle.mdf.specs.Chain.{Fragment}
 use Rattle.mdf.specs.Records.{rangesIn, joined, sizeOf}
 use Rattle.file.specs.Form.{FileColumn, cycles, recordBytes}
 use Rattle.file.specs.Opened.{onColumn, opened}
-use Rattle.file.specs.Range.{fileColumnAt, asked, startOf, bytesOf, rangeOf, Copied, copied, intoBuffer, readInto}
+use Rattle.file.specs.Range.{Place, at, split, within, placeIn, located, fileColumnAt, asked, startOf, bytesOf, rangeOf, Copied, copied, intoBuffer, readInto, handed}
 use Rattle.file_laws.specs.JoinedLaws.{part-back, ranges-cons, length-joined}
 use Rattle.file_laws.specs.RangeLaws.{Asked, asked-back, range-inside, range-length, read-fits, read-other}
 use Rattle.ranges.specs.declared.open.Opened.{Opened}
@@ -30,11 +30,14 @@ use Rattle.ranges.specs.declared.open.Opened.the-variants as opens
 use Rattle.ranges.specs.declared.read.Granted.{Granted}
 use Rattle.ranges.specs.declared.read.Granted.the-variants.{Refused, Column}
 use Rattle.ranges.specs.declared.seek.Spot.{Spot}
-use Rattle.ranges.specs.Blocks.{listedFrom, linksOf, blocksOf, columnOf}
-use Rattle.ranges.specs.BlocksLaws.{from-end}
+use Rattle.ranges.specs.Blocks.{blockIn, listedFrom, linksOf, blocksOf, columnOf}
+use Rattle.ranges.specs.BlocksLaws.{from-next, from-end, block-size, block-offset}
 use Rattle.ranges.specs.Seek.{FirstIn, Sought, nowhere, here, seekIn, spotted}
 use Rattle.ranges.specs.Open.{columnAt, columnsOf, few, openedAs}
-use Rattle.ranges.specs.Read.{askedAs, copiedAs, Fills}
+use Rattle.ranges.specs.declared.read.Location.{Location}
+use Rattle.ranges.specs.declared.read.Location.the-variants.{Split, At}
+use Rattle.ranges.specs.declared.read.Location.the-variants as places
+use Rattle.ranges.specs.Read.{askedAs, copiedAs, Fills, locatedAs, handing}
 
 -- ---- n bytes are so many records
 module _ (n count w : ℕ) where
@@ -247,3 +250,134 @@ module _ (s : List ℕ) (k first count : ℕ) (b : List ℕ) {r : Granted} (e : 
           nothing : (l : List ℕ) → length l ≤ 0 → l ≡ []
           nothing [] o = refl
           nothing (u ∷ l) o = absurd (omega arith)
+
+-- ---- a range inside one block
+record InBlock (fs : List Fragment) (p n : ℕ) (f : Fragment) (q : ℕ) : Type 0 where
+  is : within fs p n ≡ ifLe (q + n) (f .size) (at (f .offset + q) n) split
+  inside : q < f .size
+
+in-block : (fs : List Fragment) (p n : ℕ) (f : Fragment) (gs : List Fragment) (q : ℕ) → seekIn fs p ≡ here (f ∷ gs) q → InBlock fs p n f q
+unfolding seekIn within ifLt
+in-block [] p n f gs q e = nowhere≢here e
+in-block (g ∷ fs) p n f gs q e = go (ltb p (g .size)) refl e (λ z. in-block fs (p - g .size) n f gs q z)
+  where
+    head : g ∷ fs ≡ f ∷ gs → g ≡ f
+    head z = cc
+
+    go : (t : Bool) → ltb p (g .size) ≡ t → pick t (here (g ∷ fs) p) (seekIn fs (p - g .size)) ≡ here (f ∷ gs) q
+        → (seekIn fs (p - g .size) ≡ here (f ∷ gs) q → InBlock fs (p - g .size) n f q) → InBlock (g ∷ fs) p n f q
+    go true t h later =
+        subst (λ (x : ℕ). InBlock (g ∷ fs) p n f x) (here-p h)
+        (subst (λ (x : Fragment). InBlock (g ∷ fs) p n x p) (head (here-gs h)) (record { is = rw t; inside = ltb-true p (g .size) t }))
+    go false t h later = let z = later h in record { is = rw t (z .is); inside = z .inside }
+
+module _ (s : List ℕ) (d first w n : ℕ) (f : Fills s d first w n) {a links : ℕ} (p : a ≡ linkAt s d 2) (q : links ≡ linksOf s a) (r : Spot)
+    (e : spotted s a links r ≡ seekIn (listedFrom s a links 1) (first * w)) {x z : ℕ} (y : x ≡ linkAt s a (r .link)) (u : z ≡ sizeAt s x - 24) where
+  spot-in : r .link < links
+  unfolding spotted ifLt
+  spot-in = go (ltb (r .link) links) refl e
+    where
+      go : (t : Bool) → ltb (r .link) links ≡ t → pick t (here (listedFrom s a links (r .link)) (r .place)) nowhere ≡ seekIn (listedFrom s a links 1) (first * w) → r .link < links
+      go true t i = ltb-true (r .link) links t
+      go false t i = absurd (nowhere≢here (i ∙ is-here s d first w n f p q r e))
+
+  spot-is : listedFrom s a links (r .link) ≡ blockIn s x ∷ listedFrom s a links (r .link + 1)
+  spot-is = from-next s a links (r .link) spot-in ∙ rw y
+
+  block-here : InBlock (listedFrom s a links 1) (first * w) n (blockIn s x) (r .place)
+  block-here = in-block (listedFrom s a links 1) (first * w) n (blockIn s x) (listedFrom s a links (r .link + 1)) (r .place) (is-here s d first w n f p q r e ∙ rw spot-is)
+
+  size-here : blockIn s x .size ≡ z
+  size-here = block-size s x ∙ sym u
+
+  pub block-place : r .place < z
+  block-place = rw (← size-here) (block-here .inside)
+
+  pub block-inside : x + 24 + z ≤ length s
+  block-inside =
+      let b = ranges-cons s (blockIn s x) (listedFrom s a links (r .link + 1)) (rw spot-is at (seen s d first w n f p q r e .ranges)) in
+      rw (← size-here, ← block-offset s x) (b .0)
+
+  within-is : within (blocksOf s (linkAt s d 2)) (first * w) n ≡ ifLe (r .place + n) z (at (x + 24 + r .place) n) split
+  within-is = rw (← all-is s d first w n f p q r e, block-here .is, size-here, block-offset s x) refl
+
+  pub block-split : z - r .place < n → ok split ≡ ok (within (blocksOf s (linkAt s d 2)) (first * w) n)
+  block-split h = ap ok (sym (within-is ∙ sym (le-no _ _ _ _ (let b = block-place in omega arith) refl)))
+
+  pub block-at : n ≤ z - r .place → ok (at (x + 24 + r .place) n) ≡ ok (within (blocksOf s (linkAt s d 2)) (first * w) n)
+  block-at h = ap ok (sym (within-is ∙ sym (le-yes _ _ _ _ (let b = block-place in omega arith) refl)))
+
+pub too-many : (left w count : ℕ) → 0 < w → left / w < count → left < count * w
+too-many left w count h g = div-lt-iff-lt-mul h .0 g
+
+pub not-many : (left w count : ℕ) → 0 < w → count ≤ left / w → count * w ≤ left
+not-many left w count h g = le-div-iff-mul-le h .0 g
+
+-- ---- where a range lies
+module _ (s : List ℕ) (k first count : ℕ) {r : Granted} (e : askedAs s r ≡ asked s k first count) where
+  pub locate-refused : {x p : ℕ} → r ≡ Refused x p → refused x p ≡ located s k first count
+  unfolding located
+  locate-refused q = rw (← e, q)
+
+  module _ {d g c : ℕ} (q : r ≡ Column d g c) {w : ℕ} (f : w ≡ recordBytes s g) where
+    pub locate-none : count * w ≡ 0 → ok (at 0 0) ≡ located s k first count
+    unfolding located placeIn bytesOf
+    locate-none z = rw (← e, q) (ap ok (eq-yes _ _ _ _ (rw (← f) z) refl))
+
+    pub locate-fills : w < 8589934591 → (count ≡ 0 → ⊥) → (w ≡ 0 → ⊥) → Fills s d first w (count * w)
+    unfolding startOf bytesOf
+    locate-fills y u v =
+        let a = asked-back s k first count (columnOf s d g c) (sym e ∙ rw q) in
+        let i = range-inside s k first count (columnOf s d g c) a in
+        record {
+          some = over v;
+          small = omega arith;
+          ranges = a .column .ranges;
+          bytes = mul-pos (over u) (over v);
+          inside = (rw (← f) at i);
+        }
+      where
+        over : {m : ℕ} → (m ≡ 0 → ⊥) → 0 < m
+        over h = omega (arith, h)
+
+    pub locate-some : {v : Checked Place} → (count ≡ 0 → ⊥) → (w ≡ 0 → ⊥) → v ≡ ok (within (blocksOf s (linkAt s d 2)) (first * w) (count * w))
+        → v ≡ located s k first count
+    unfolding located placeIn startOf bytesOf
+    locate-some u v h =
+        h ∙ rw (← e, q) (ap ok (eq-no _ _ _ _ (λ z. let y = mul-pos (over u) (over v) in omega (arith, (rw (← f) at z), y)) (rw f)))
+      where
+        over : {m : ℕ} → (m ≡ 0 → ⊥) → 0 < m
+        over h = omega (arith, h)
+
+pub none-of : (count w : ℕ) → count ≡ 0 → count * w ≡ 0
+none-of count w z = rw (z, zero-mul) refl
+
+pub of-none : (count w : ℕ) → w ≡ 0 → count * w ≡ 0
+of-none count w z = rw (z, mul-zero) refl
+
+-- ---- a part of the image
+module _ (a n : ℕ) (s : List ℕ) where
+  pub part-past : length s < a → [] ≡ part a n s
+  unfolding part
+  part-past h = sym (ap (λ (l : List ℕ). take n l) (drop-of-length-le s {i = a} (omega arith)) ∙ take-all n [] (omega arith))
+
+  pub part-rest : length s - a < n → take (length s - a) (drop a s) ≡ part a n s
+  unfolding part
+  part-rest h = take-all (length s - a) (drop a s) (simp length-drop (le-refl _)) ∙ sym (take-all n (drop a s) (simp length-drop (omega arith)))
+
+  pub part-within : take (a + n - a) (drop a s) ≡ part a n s
+  unfolding part
+  part-within = let e : a + n - a ≡ n = omega arith in ap (λ (m : ℕ). take m (drop a s)) e
+
+-- ---- the words and the part
+module _ (s : List ℕ) (k first count : ℕ) {r : Location} (e : locatedAs r ≡ located s k first count) where
+  pub hand-refused : {b : List ℕ} {x p : ℕ} → r ≡ places.Refused x p → b ≡ part 0 0 s → handing (2 ∷ x ∷ p ∷ []) b ≡ handed s (located s k first count)
+  unfolding part
+  hand-refused {b} {x} {p} q h = ap (λ (l : List ℕ). handing (2 ∷ x ∷ p ∷ []) l) h ∙ rw (← e, q)
+
+  pub hand-split : {b : List ℕ} → r ≡ Split → b ≡ part 0 0 s → handing (1 ∷ 0 ∷ 0 ∷ []) b ≡ handed s (located s k first count)
+  unfolding part
+  hand-split {b} q h = ap (λ (l : List ℕ). handing (1 ∷ 0 ∷ 0 ∷ []) l) h ∙ rw (← e, q)
+
+  pub hand-at : {b : List ℕ} {a n : ℕ} → r ≡ At a n → b ≡ part a n s → handing (0 ∷ a ∷ n ∷ []) b ≡ handed s (located s k first count)
+  hand-at {b} {a} {n} q h = ap (λ (l : List ℕ). handing (0 ∷ a ∷ n ∷ []) l) h ∙ rw (← e, q)

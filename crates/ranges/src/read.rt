@@ -17,9 +17,9 @@ ghost use Rattle.base.specs.Blit.{part};
 ghost use Rattle.base.specs.Checked.{fine};
 ghost use Rattle.mdf.specs.Block.{linkAt};
 ghost use Rattle.mdf.specs.Records.{rangesIn, joined, sizeOf};
-ghost use Rattle.file.specs.Range.{asked, readInto};
+ghost use Rattle.file.specs.Range.{asked, readInto, within, located, handed};
 ghost use Rattle.ranges.specs.Blocks.{blocksOf};
-ghost use Rattle.ranges.specs.Read.{askedAs, copiedAs, Fills};
+ghost use Rattle.ranges.specs.Read.{askedAs, copiedAs, Fills, locatedAs, PlaceAs, handing};
 
 // The column asked for.
 pub enum Granted {
@@ -111,6 +111,103 @@ pub fn read_range(image: &[u8], column: u64, first: u64, count: u64, buffer: &mu
                 number: 24,
                 place: 0,
             }
+        }
+    }
+}
+
+// A refusal; split; or offset and length in the image.
+pub enum Location {
+    Refused { number: u64, place: u64 },
+    Split,
+    At { offset: u64, length: u64 },
+}
+
+// Count records from a given one on, some, inside one block.
+fn within_block(image: &[u8], d: u64, first: u64, count: u64, w: u64) -> Location
+    requires { ⌜ Fills (now image) d first w (count * w) ⌝ }
+    ensures { λ r. ⌜ PlaceAs r (within (blocksOf (now (image .entry)) (linkAt (now (image .entry)) d 2)) (first * w) (count * w)) ⌝ }
+{
+    let a = link_at(image, d, 2);
+    let links = links_of(image, a);
+    let found = seek(image, a, links, first, w);
+    let link = found.link;
+    let place = found.place;
+    let x = link_at(image, a, link);
+    let left = bytes_at(image, x) - place;
+    if left / w < count {
+        return Location::Split;
+    }
+    Location::At {
+        offset: x + 24 + place,
+        length: count * w,
+    }
+}
+
+// Where the records of a range lie, as a part of the file's own bytes.
+pub fn locate(image: &[u8], column: u64, first: u64, count: u64) -> Location
+    ensures { λ r. ⌜ locatedAs r ≡ located (now (image .entry)) column first count ⌝ }
+{
+    let asked = ask(image, column, first, count);
+    match asked {
+        Granted::Refused { number, place } => Location::Refused { number, place },
+        Granted::Column { dg, cg, cn } => {
+            let w = record_bytes(image, cg);
+            if count == 0 {
+                return Location::At {
+                    offset: 0,
+                    length: 0,
+                };
+            }
+            if w == 0 {
+                return Location::At {
+                    offset: 0,
+                    length: 0,
+                };
+            }
+            within_block(image, dg, first, count, w)
+        }
+    }
+}
+
+// n bytes of s from index a on, as many as there are.
+fn part_of(s: &[u8], a: u64, n: u64) -> &[u8]
+    ensures { λ r. ⌜ now r ≡ part a n (now (s .entry)) ⌝ }
+{
+    let all = s.len() as u64;
+    if all < a {
+        return &s[0..0];
+    }
+    let from = a as usize;
+    if all - a < n {
+        return &s[from..];
+    }
+    let to = from + n as usize;
+    &s[from..to]
+}
+
+// The same range handed back: the words are 0, offset and length; 1, 0, 0 for split; or 2, a refusal's number and place.
+pub fn range_part<'a>(
+    image: &'a [u8],
+    column: u64,
+    first: u64,
+    count: u64,
+    answer: &mut [u64; 3],
+) -> &'a [u8]
+    ensures { λ r. ⌜ handing (now (answer .exit)) (now r) ≡ handed (now (image .entry)) (located (now (image .entry)) column first count) ⌝ }
+{
+    let at = locate(image, column, first, count);
+    match at {
+        Location::Refused { number, place } => {
+            *answer = [2, number, place];
+            part_of(image, 0, 0)
+        }
+        Location::Split => {
+            *answer = [1, 0, 0];
+            part_of(image, 0, 0)
+        }
+        Location::At { offset, length } => {
+            *answer = [0, offset, length];
+            part_of(image, offset, length)
         }
     }
 }

@@ -1,2 +1,4 @@
 pub mod Answer
 pub mod AnswerLaws
+pub mod ColumnFile
+pub mod ColumnFileLaws

@@ -1,4 +1,5 @@
-// The conversion and its listing, for programs that link them.
+// The conversion, its listing and the reader of column files, for programs that link them.
+pub mod column_file;
 use listing::recording::list;
 use writing::convert::Converted;
 use writing::convert::convert;

@@ -1,5 +1,7 @@
 //! bench TURNS [LOAD]: times the port, the Rust converter and a plain copy on the rack's loads, each also at twice the length.
+//! bench read TURNS: times reading ranges of column files.
 mod loads;
+mod reading;
 use loads::{bus, many_links, mixed, recording, shuffled, Group, Order};
 use mf4_rs::column::{to_column_oriented_bytes, to_column_oriented_with, ColumnOptions, ColumnSink};
 use mf4_rs::error::MdfError;
@@ -142,6 +144,18 @@ fn time(image: &[u8], turns: usize) -> Timed {
     Timed { decided, port, rust, copy }
 }
 
+// The result of an image.
+fn convert(image: &[u8]) -> Vec<u8> {
+    let mut work: [Vec<u64>; 4] = std::array::from_fn(|_| vec![0; 8192]);
+    let lent = Lent { ident: [&b"MDF     4.20    "[..], &[0; 48]].concat(), text: b"convert".to_vec(), time: 0 };
+    let mut list = vec![0; 2049];
+    let need = port(image, &lent, &mut work, &mut [], &mut list);
+    assert_eq!(need.number, 20);
+    let mut out = vec![0; need.place as usize];
+    assert!(port(image, &lent, &mut work, &mut out, &mut list).accepted);
+    out
+}
+
 // A line of the table; the ratio of the port's time to that at half the length, where there is one.
 fn line(name: &str, seconds: &str, image: &[u8], turns: usize, before: Option<f64>) -> f64 {
     let t = time(image, turns);
@@ -186,6 +200,9 @@ fn framed() -> Vec<(&'static str, Vec<u8>)> {
 }
 
 fn main() {
+    if std::env::args().nth(1).as_deref() == Some("read") {
+        return reading::run(std::env::args().nth(2).map_or(5, |t| t.parse().unwrap()));
+    }
     let turns: usize = std::env::args().nth(1).map_or(5, |t| t.parse().unwrap());
     let only = std::env::args().nth(2).unwrap_or_default();
     let sorted = [Group { channels: 300, bits: 32, inval: false, id: 0 }];

@@ -4,6 +4,7 @@
 //! differ image SEED K FILE: image K of a seed, written to a file.
 //! differ one FILE SIZE: one image with one block size.
 //! differ answers FILE: the list of answers for crates/answers.
+//! differ files RUNS SEED: the reader of column files beside a plain one.
 mod alone;
 mod answers;
 mod blocks;
@@ -11,6 +12,7 @@ mod case;
 mod child;
 mod compare;
 mod edit;
+mod files;
 mod generate;
 mod listed;
 mod omissions;
@@ -42,9 +44,10 @@ fn main() -> ExitCode {
         ["image", seed, k, file] => std::fs::write(file, Case::of(number(seed), number(k)).bytes()).unwrap(),
         ["one", file, size] => return one(file, number(size)),
         ["answers", file] => return status(answers::write(file)),
+        ["files", runs, seed] => return status(files::compared(number(runs), number(seed))),
         [runs, seed] => return compared(number(runs), number(seed)),
         _ => {
-            eprintln!("differ RUNS SEED | image SEED K FILE | one FILE SIZE | answers FILE");
+            eprintln!("differ RUNS SEED | image SEED K FILE | one FILE SIZE | answers FILE | files RUNS SEED");
             return ExitCode::from(2);
         }
     }

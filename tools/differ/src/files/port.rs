@@ -1,0 +1,55 @@
+//! The port's reader: `sitaungo_read_range` and `sitaungo_range_part` of the static library.
+use super::reader::Part;
+
+#[repr(C)]
+struct Read {
+    accepted: bool,
+    number: u64,
+    place: u64,
+}
+
+#[repr(C)]
+struct Handed {
+    accepted: bool,
+    split: bool,
+    number: u64,
+    place: u64,
+    offset: u64,
+    length: u64,
+}
+
+#[rustfmt::skip]
+#[link(name = "sitaungo", kind = "static")]
+extern "C" {
+    fn sitaungo_read_range(image: *const u8, image_len: usize, column: u64, first: u64, count: u64, buffer: *mut u8, buffer_len: usize) -> Read;
+    fn sitaungo_range_part(image: *const u8, image_len: usize, column: u64, first: u64, count: u64) -> Handed;
+}
+
+/// What stands in a buffer at entry.
+const BUFFER_BYTE: u8 = 0xa5;
+
+/// The answer with the bytes read; a refusal must leave the buffer as it was, and its other numbers zero.
+pub fn read(image: &[u8], column: u64, first: u64, count: u64, buffer: usize) -> Result<Vec<u8>, (u64, u64)> {
+    let mut bytes = vec![BUFFER_BYTE; buffer];
+    // Safety: both pointers lead to as many bytes as the lengths after them say, and the buffer is apart from the image.
+    let r = unsafe { sitaungo_read_range(image.as_ptr(), image.len(), column, first, count, bytes.as_mut_ptr(), buffer) };
+    if r.accepted {
+        assert!(r.number == 0 && r.place == 0, "an accepted read has number or place");
+        return Ok(bytes);
+    }
+    assert!(bytes.iter().all(|b| *b == BUFFER_BYTE), "a refused read changed the buffer");
+    Err((r.number, r.place))
+}
+
+pub fn part(image: &[u8], column: u64, first: u64, count: u64) -> Result<Part, (u64, u64)> {
+    // Safety: the pointer leads to as many bytes as the length after it says.
+    let h = unsafe { sitaungo_range_part(image.as_ptr(), image.len(), column, first, count) };
+    assert!(h.accepted || !h.split, "a refusal is split");
+    assert!(!h.accepted || h.number == 0 && h.place == 0, "an accepted part has number or place");
+    assert!(h.accepted && !h.split || h.offset == 0 && h.length == 0, "offset or length without a part");
+    match (h.accepted, h.split) {
+        (false, _) => Err((h.number, h.place)),
+        (true, true) => Ok(Part::Split),
+        (true, false) => Ok(Part::At { offset: h.offset, length: h.length }),
+    }
+}
