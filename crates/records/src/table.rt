@@ -70,7 +70,7 @@ fn free_slot(hints: &[u64; 1536], id: u64) -> usize {
 }
 
 // The places of the first n groups by their ids.
-pub fn fill_hints(ids: &[u64; 512], n: u64, hints: &mut [u64; 1536]) {
+pub(crate) fn fill_hints(ids: &[u64; 512], n: u64, hints: &mut [u64; 1536]) {
     let mut i: usize = 0;
     while i < 512 {
         if n <= i as u64 {
