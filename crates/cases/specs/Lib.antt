@@ -1,3 +1,4 @@
+pub mod Evaluated
 pub mod Starred
 pub mod Excluded
 pub mod Refuted
