@@ -26,21 +26,21 @@ use Rattle.shown_laws.specs.Header.{block-kind, block-size, block-links, block-
 use Rattle.shown_laws.specs.ImageBytes.{kind-below, size-below, links-below}
 
 -- ---- the links of a copied block as words
-unfoldable linkWords : List ℕ → List Copy → ℕ → ℕ → List ℕ
+unfoldable pub linkWords : List ℕ → List Copy → ℕ → ℕ → List ℕ
 linkWords s memo zero p = []
 linkWords s memo (suc k) p = newLink memo (leAt 8 s p) ∷ linkWords s memo k (p + 8)
 
-words-links : (s : List ℕ) (memo : List Copy) (k p : ℕ) → words (linkWords s memo k p) ≡ newLinks s memo k p
+pub words-links : (s : List ℕ) (memo : List Copy) (k p : ℕ) → words (linkWords s memo k p) ≡ newLinks s memo k p
 unfolding words linkWords newLinks
 words-links s memo zero p = refl
 words-links s memo (suc k) p = ap (λ (l : List ℕ). le 8 (newLink memo (leAt 8 s p)) ++ l) (words-links s memo k (p + 8))
 
-length-linkWords : (s : List ℕ) (memo : List Copy) (k p : ℕ) → length (linkWords s memo k p) ≡ k
+pub length-linkWords : (s : List ℕ) (memo : List Copy) (k p : ℕ) → length (linkWords s memo k p) ≡ k
 unfolding linkWords
 length-linkWords s memo zero p = refl
 length-linkWords s memo (suc k) p = ap suc (length-linkWords s memo k (p + 8))
 
-word-link : (s : List ℕ) (memo : List Copy) (k p i : ℕ) → i < k → getD (linkWords s memo k p) i 0 ≡ newLink memo (leAt 8 s (p + 8 * i))
+pub word-link : (s : List ℕ) (memo : List Copy) (k p i : ℕ) → i < k → getD (linkWords s memo k p) i 0 ≡ newLink memo (leAt 8 s (p + 8 * i))
 unfolding linkWords
 word-link s memo zero p i h = absurd (omega arith)
 word-link s memo (suc k) p zero h = ap (λ (q : ℕ). newLink memo (leAt 8 s q)) (omega arith)

@@ -39,7 +39,7 @@ use Rattle.shown_laws.specs.Final.{file-apart, file-filled, file-shows}
 use Rattle.guarantee.specs.List.{listed}
 use Rattle.guarantee.specs.Ends.{history-followed, attachments-followed}
 use Rattle.guarantee.specs.Places.{equal-even, flatten-together, data-inside, fragments-few, signal-small, Sized, DataWithin, data-within, data-ends, in-column}
-use Rattle.guarantee.specs.Copied.{comment-due, past-due, newest-due, names-due}
+use Rattle.guarantee.specs.Copied.{comment-due, past-due, newest-due, attached-due, names-due}
 use Rattle.guarantee.specs.Front.{front-due}
 
 -- the elements of an image are bytes
@@ -180,6 +180,7 @@ guaranteed x out list d bytes e =
           (column-in x d k p i) (sound x d k bytes p i) n;
       historyKept = past-due x (d .planned .columns) (d .laidOut) (o x d k) _ bytes (ordered x d k) (file-below x d k) filled;
       historyNew = newest-due x (d .planned .columns) (d .laidOut) (o x d k) _ bytes (ordered x d k) (file-below x d k) filled;
+      attachments = attached-due x (d .planned .columns) (d .laidOut) (o x d k) _ bytes (ordered x d k) (file-below x d k) filled;
       filled = filled;
       apart = file-apart x (d .laidOut) out (ordered x d k);
       recording = (dataGroups (k .steps .source), k .groups .recorded);

@@ -22,7 +22,7 @@ use Rattle.result.specs.Fill.{Block}
 use Rattle.result.specs.Result.{Args, Decided, blocksOf}
 use Rattle.result.specs.Links.{shown}
 use Rattle.result.specs.Due.{dueAll, FrontDue}
-use Rattle.result.specs.Names.{LinkDue, NamesDue, HistoryDue, NewHistory}
+use Rattle.result.specs.Names.{LinkDue, NamesDue, HistoryDue, NewHistory, AttachmentsDue}
 
 -- ---- blocks
 
@@ -113,6 +113,8 @@ pub record Guaranteed (x : Args) (d : Decided) (f l : List ℕ) : Type 0 where
   -- the recording's history is kept, and the lent text and time follow it
   pub historyKept : HistoryDue (x .image) f (d .laidOut .past .chain) (d .laidOut .fh) (d .laidOut .past .chain) (linkAt f 64 1)
   pub historyNew : NewHistory x f (d .laidOut .fh)
+  -- the recording's attachments are kept, in order
+  pub attachments : AttachmentsDue (x .image) f (d .laidOut .past .chain) (attachedFrom (d .laidOut .attached .attachments)) (linkAt f 64 3)
   -- every block is written as planned, and no two share a byte
   pub filled : (b : Block) → In b (blocksOf x (d .laidOut)) → Stands f (b .at) (b .bytes)
   pub apart : AllApart (blocksOf x (d .laidOut))
