@@ -16,7 +16,8 @@ abbrev answered : baseChecked.Checked resultResult.Decided → List ℕ
 answered (baseChecked.ok d) = []
 answered (baseChecked.refused number place) = number ∷ place ∷ []
 
-abbrev fileIn : resultResult.Args → baseChecked.Checked resultResult.Decided → List ℕ
+-- what is left in an output of just the file's bytes
+abbrev pub fileIn : resultResult.Args → baseChecked.Checked resultResult.Decided → List ℕ
 fileIn x (baseChecked.ok d) = resultResult.fileOf x (d .laidOut)
 fileIn x (baseChecked.refused number place) = []
 
@@ -46,7 +47,7 @@ dueIn x (baseChecked.ok d) = resultDue.dueAll (x .image) (x .blockSize) (d .laid
 dueIn x (baseChecked.refused number place) = []
 
 -- the recording with its first sample changed
-abbrev other : resultResult.Args
+abbrev pub other : resultResult.Args
 other = record { image = set image 192 9; blockSize = args .blockSize; ident = args .ident; text = args .text; time = args .time }
 
 abbrev pub Excluded : Type 0

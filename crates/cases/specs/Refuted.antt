@@ -16,19 +16,14 @@ use Rattle.base.specs.Choice as baseChoice
 use Rattle.plan.specs.Columns as planColumns
 use Rattle.plan.specs.Layout as planLayout
 use Rattle.result.specs.Result as resultResult
+use Rattle.result.specs.Links as resultLinks
+use Rattle.mdf.specs.Chain as mdfChain
 use Rattle.result.specs.Member.{In, here, there}
 use Rattle.result.specs.Recording.{leadsTo, reasonFor, OmissionDue}
 use Rattle.result.specs.Guarantee.{Stands, omissionsOf, columnsOf, Guaranteed}
 use Rattle.cases.specs.Evaluated.{evaluated}
 use Rattle.cases.specs.Starred.{image, args}
-
--- the recording with its first sample changed
-abbrev other : resultResult.Args
-other = record { image = set image 192 9; blockSize = args .blockSize; ident = args .ident; text = args .text; time = args .time }
-
-abbrev fileIn : resultResult.Args → baseChecked.Checked resultResult.Decided → List ℕ
-fileIn x (baseChecked.ok d) = resultResult.fileOf x (d .laidOut)
-fileIn x (baseChecked.refused number place) = []
+use Rattle.cases.specs.Excluded.{fileIn, other}
 
 -- with what was decided, the bytes f do not have the guarantee
 abbrev pub Refuted : resultResult.Args → baseChecked.Checked resultResult.Decided → List ℕ → Type 0
@@ -57,6 +52,47 @@ stock-file l g =
     let i : In _ _ = there (there (there (there (there (there (there (there (there (there (there (there here))))))))))) in
     let z : _≡_ {A = ℕ} 0 9 = ap (λ (bs : List ℕ). getD bs 24 0) (g .filled _ i .is) in
     omega (arith, z)
+
+-- ---- blocks that say something else than is due: byte offset 1 or bit count 1 in the first CN; DT for DV; a DL that leads on to HD
+
+-- of the first column that links show: byte offset, bit count
+abbrev offsetIn : List resultLinks.Shown → ℕ
+offsetIn [] = 0
+offsetIn (c ∷ cs) = c .channel .byteOffset
+
+abbrev bitsIn : List resultLinks.Shown → ℕ
+bitsIn [] = 0
+bitsIn (c ∷ cs) = c .channel .bitCount
+
+-- a data chain: 0 stopped, 1 without blocks, 2 begun by DT, 3 by DV
+abbrev kindOf : mdfChain.Kind → ℕ
+kindOf mdfChain.dt = 2
+kindOf mdfChain.dv = 3
+
+abbrev blocksIn : baseChecked.Checked (List mdfChain.Fragment) → ℕ
+blocksIn (baseChecked.refused number place) = 0
+blocksIn (baseChecked.ok []) = 1
+blocksIn (baseChecked.ok (f ∷ fs)) = kindOf (f .kind)
+
+abbrev dataIn : List resultLinks.Shown → ℕ
+dataIn [] = 0
+dataIn (c ∷ cs) = blocksIn (c .blocks)
+
+abbrev pub WritesOther : Type 0
+WritesOther =
+    Refuted args (resultResult.decided args) (set (fileIn args (resultResult.decided args)) 516 1)
+    × Refuted args (resultResult.decided args) (set (fileIn args (resultResult.decided args)) 520 1)
+    × Refuted args (resultResult.decided args) (set (fileIn args (resultResult.decided args)) 1051 84)
+    × Refuted args (resultResult.decided args) (set (fileIn args (resultResult.decided args)) 608 64)
+
+pub writes-other : WritesOther
+unfolding evaluated
+writes-other = (
+  λ l g. let z : _≡_ {A = ℕ} 1 0 = ap offsetIn (g .shows 2 (omega arith)) in omega (arith, z),
+  λ l g. let z : _≡_ {A = ℕ} 1 32 = ap bitsIn (g .shows 2 (omega arith)) in omega (arith, z),
+  λ l g. let z : _≡_ {A = ℕ} 2 3 = ap dataIn (g .shows 2 (omega arith)) in omega (arith, z),
+  λ l g. let z : _≡_ {A = ℕ} 0 3 = ap dataIn (g .shows 2 (omega arith)) in omega (arith, z),
+)
 
 -- ---- a plan in which every column is a time column that names none: the signal is no master
 abbrev timed : planColumns.Column → planColumns.Column
