@@ -2,3 +2,4 @@ pub mod Evaluated
 pub mod Starred
 pub mod Excluded
 pub mod Refuted
+pub mod Lost

@@ -157,8 +157,8 @@ LosesGroups (baseChecked.ok d) =
     → Guaranteed args (record { groups = allButLast (d .groups); planned = q; laidOut = p }) f l → ⊥
 LosesGroups (baseChecked.refused number place) = ⊥
 
-in-none : (h : planColumns.SrcGroup) → In h [] → ⊥
-in-none h = elim [ ]
+pub in-none : {A : Type 0} (a : A) → In a [] → ⊥
+in-none a = elim [ ]
 
 pub loses-groups : LosesGroups (resultResult.decided args)
 unfolding evaluated
