@@ -7,7 +7,7 @@ use mathlib.Core.Option.{none}
 use mathlib.Core.Path.{_≡_, refl, sym, ap, subst, _∙_}
 use native.Mathlib.Omega.{arith}
 use lib.Dec.{eqb}
-use lib.ListN.{replicate, length, getD, take, set}
+use lib.ListN.{replicate, getD, take, set}
 use borrow.Author.Tests.{eqb-true, eqb-false}
 use Rattle.base.specs.CheckedLaws.{refused≢ok, ok-same}
 use Rattle.base.specs.ChoiceLaws.{eq-no}
@@ -20,7 +20,7 @@ use Rattle.result.specs.Links as resultLinks
 use Rattle.mdf.specs.Chain as mdfChain
 use Rattle.result.specs.Member.{In, here, there}
 use Rattle.result.specs.Recording.{leadsTo, reasonFor, OmissionDue}
-use Rattle.result.specs.Guarantee.{Stands, omissionsOf, columnsOf, Guaranteed}
+use Rattle.result.specs.Guarantee.{omissionsOf, columnsOf, Guaranteed}
 use Rattle.cases.specs.Evaluated.{evaluated}
 use Rattle.cases.specs.Starred.{image, args}
 use Rattle.cases.specs.Excluded.{fileIn, other}

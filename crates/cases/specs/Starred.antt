@@ -1,11 +1,14 @@
 -- The starred cases of document 01, as one table about the definitions: payloads, versions, and the worked example of `columns`.
 use Prim.Native.Nat.{ℕ}
-use mathlib.Core.List.{List, [], _∷_, _++_}
+use mathlib.Core.List.{List, [], _∷_}
 use mathlib.Core.Path.{_≡_, refl}
-use mathlib.Core.Option.{Option, none, some}
 use lib.ListN.{replicate, length}
 use Rattle.base.specs.Checked as baseChecked
+use Rattle.base.specs.Field as baseField
+use Rattle.mdf.specs.Block as mdfBlock
 use Rattle.mdf.specs.Identification as mdfIdentification
+use Rattle.plan.specs.Columns as planColumns
+use Rattle.plan.specs.Copies as planCopies
 use Rattle.plan.specs.Geometry as planGeometry
 use Rattle.plan.specs.Layout as planLayout
 use Rattle.result.specs.Listing as resultListing
@@ -29,6 +32,26 @@ Versions =
     × (mdfIdentification.versionIn (52 ∷ 46 ∷ 49 ∷ 0 ∷ 0 ∷ 0 ∷ 0 ∷ 0 ∷ []) ≡ baseChecked.refused 7 0)
     × (mdfIdentification.versionOf (mdfIdentification.trimmed (53 ∷ 32 ∷ 32 ∷ 32 ∷ 32 ∷ 32 ∷ 32 ∷ 32 ∷ [])) ≡ mdfIdentification.value 500)
     × (mdfIdentification.versionOf (mdfIdentification.trimmed (52 ∷ 46 ∷ 43 ∷ 50 ∷ 48 ∷ 32 ∷ 32 ∷ 32 ∷ [])) ≡ mdfIdentification.value 420)
+
+-- kinds are their letters: the four bytes of each block's kind
+abbrev pub Kinds : Type 0
+Kinds =
+    (baseField.le 4 mdfBlock.kindHD ≡ 35 ∷ 35 ∷ 72 ∷ 68 ∷ [])
+    × (baseField.le 4 mdfBlock.kindDG ≡ 35 ∷ 35 ∷ 68 ∷ 71 ∷ [])
+    × (baseField.le 4 mdfBlock.kindCG ≡ 35 ∷ 35 ∷ 67 ∷ 71 ∷ [])
+    × (baseField.le 4 mdfBlock.kindCN ≡ 35 ∷ 35 ∷ 67 ∷ 78 ∷ [])
+    × (baseField.le 4 mdfBlock.kindDT ≡ 35 ∷ 35 ∷ 68 ∷ 84 ∷ [])
+    × (baseField.le 4 mdfBlock.kindDV ≡ 35 ∷ 35 ∷ 68 ∷ 86 ∷ [])
+    × (baseField.le 4 mdfBlock.kindDL ≡ 35 ∷ 35 ∷ 68 ∷ 76 ∷ [])
+    × (baseField.le 4 mdfBlock.kindHL ≡ 35 ∷ 35 ∷ 72 ∷ 76 ∷ [])
+    × (baseField.le 4 mdfBlock.kindSD ≡ 35 ∷ 35 ∷ 83 ∷ 68 ∷ [])
+    × (baseField.le 4 mdfBlock.kindTX ≡ 35 ∷ 35 ∷ 84 ∷ 88 ∷ [])
+    × (baseField.le 4 mdfBlock.kindMD ≡ 35 ∷ 35 ∷ 77 ∷ 68 ∷ [])
+    × (baseField.le 4 planColumns.kindCA ≡ 35 ∷ 35 ∷ 67 ∷ 65 ∷ [])
+    × (baseField.le 4 planCopies.kindCC ≡ 35 ∷ 35 ∷ 67 ∷ 67 ∷ [])
+    × (baseField.le 4 planCopies.kindSI ≡ 35 ∷ 35 ∷ 83 ∷ 73 ∷ [])
+    × (baseField.le 4 planCopies.kindFH ≡ 35 ∷ 35 ∷ 70 ∷ 72 ∷ [])
+    × (baseField.le 4 planCopies.kindAT ≡ 35 ∷ 35 ∷ 65 ∷ 84 ∷ [])
 
 -- one group with samples 6, one invalidation byte, 20 records, a 32-bit master at byte 0, a 16-bit signal at byte 4 with a kept bit
 abbrev pub image : List ℕ
@@ -83,6 +106,11 @@ Worked =
     [])
     × (seen args (resultResult.decided args) ≡ 1048 ∷ 1288 ∷ 1288 ∷ 1048 ∷ 1176 ∷ [])
 
-pub starred : Payloads × Versions × Worked
+pub starred : Payloads × Versions × Kinds × Worked
 unfolding evaluated
-starred = ((refl, refl, refl, refl), (refl, refl, refl, refl, refl, refl), (refl, refl))
+starred = (
+  (refl, refl, refl, refl),
+  (refl, refl, refl, refl, refl, refl),
+  (refl, refl, refl, refl, refl, refl, refl, refl, refl, refl, refl, refl, refl, refl, refl, refl),
+  (refl, refl),
+)

@@ -1,7 +1,7 @@
 -- The result's attachments: the AT of the recording in order, as they were but for their links, which lead to copies.
-use Prim.Native.Nat.{ℕ, zero, suc, _+_, _*_, _-_, _^_, _≤_, _<_}
+use Prim.Native.Nat.{ℕ, suc, _+_, _*_, _-_, _^_, _≤_, _<_}
 use mathlib.Core.List.{List, [], _∷_, _++_, append-assoc}
-use mathlib.Core.Path.{_≡_, refl, sym, ap, _∙_, subst}
+use mathlib.Core.Path.{_≡_, refl, ap, _∙_}
 use native.Mathlib.Omega.{arith}
 use lib.Dec.{lit<}
 use lib.ListN.{length, getD, length-append}
@@ -12,7 +12,7 @@ use Rattle.mdf.specs.Block.{kindAt, sizeAt, linksAt, linkAt, dataAt}
 use Rattle.plan.specs.Copies.{Copy, Attachment}
 use Rattle.result.specs.Fill.{Block, words, newLink, newLinks, dataOf, nextAttachment, atBytes, copiedBlocks, attachmentBlocks}
 use Rattle.result.specs.Links.{headAt}
-use Rattle.result.specs.Names.{SameBlock, LinkDue, AttachmentsDue}
+use Rattle.result.specs.Names.{SameBlock, AttachmentsDue}
 use Rattle.result.specs.Recording.{attachedFrom}
 use Rattle.result.specs.Guarantee.{Stands, In, here, there}
 use Rattle.copies_laws.specs.AttachLaws.{Moved, LaidAt}

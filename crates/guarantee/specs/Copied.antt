@@ -1,5 +1,5 @@
 -- Every copy that was made stands in the file, and the links of a column's blocks lead to copies.
-use Prim.Native.Nat.{ℕ, zero, suc, _+_, _*_, _-_, _^_, _≤_, _<_}
+use Prim.Native.Nat.{ℕ, _+_, _-_, _^_, _<_}
 use mathlib.Core.List.{List, [], _∷_, _++_}
 use mathlib.Core.Path.{_≡_, refl, sym, ap, _∙_, subst}
 use native.Mathlib.Omega.{arith}
@@ -10,9 +10,9 @@ use Rattle.mdf.specs.Block.{linkAt}
 use Rattle.plan.specs.Columns.{Column}
 use Rattle.plan.specs.Copies.{Copy, Attachment, columnLinks}
 use Rattle.plan.specs.Layout.{Layout, Placed, cgOf, cnOf}
-use Rattle.result.specs.Fill.{Block, block, copiedBytes, copiedBlocks, attachmentBlocks, dgBytes, cgBytes, cnBytes, structureBlocks, dlBlocks, dataBlocks, nextDG, newLink, mdBytes, fhBytes, nextAttachment}
+use Rattle.result.specs.Fill.{Block, block, copiedBytes, copiedBlocks, attachmentBlocks, dgBytes, cgBytes, cnBytes, structureBlocks, nextDG, newLink, nextAttachment}
 use Rattle.result.specs.Ordered.{Ordered}
-use Rattle.result.specs.Result.{Args, memoOf, firstFH, hdBlock, blocksOf}
+use Rattle.result.specs.Result.{Args, memoOf, firstFH, blocksOf}
 use Rattle.result.specs.Names.{LinkDue, NamesDue, HistoryDue, NewHistory, AttachmentsDue}
 use Rattle.result.specs.Recording.{attachedFrom}
 use Rattle.result.specs.Guarantee.{Stands, In, here, there}

@@ -4,22 +4,20 @@ use Prim.Native.Nat.{ℕ, zero, suc, _+_, _*_, _-_, _^_, _≤_, _<_}
 use mathlib.Core.List.{List, [], _∷_, _++_}
 use mathlib.Core.Bool.{Bool, true, false, false≢true}
 use mathlib.Core.Option.{Option, none, some}
-use mathlib.Core.Path.{_≡_, refl, sym, ap, _∙_, subst}
+use mathlib.Core.Path.{_≡_, refl, sym, ap, _∙_}
 use native.Mathlib.Omega.{arith}
 use lib.Dec.{lit<, eqb}
 use lib.ListN.{length, getD}
-use borrow.Author.Tests.{eq-eqb, eqb-true, eqb-false}
 use Rattle.base.specs.Choice.{pick, ifEq}
-use Rattle.base.specs.ChoiceLaws.{eq-yes, eq-no}
+use Rattle.base.specs.ChoiceLaws.{eq-no}
 use Rattle.base.specs.Field.{leAt, le}
-use Rattle.base.specs.Blit.{part}
-use Rattle.mdf.specs.Block.{kindTX, kindMD, kindAt, sizeAt, linksAt, linkAt, dataAt}
+use Rattle.mdf.specs.Block.{kindAt, sizeAt, linksAt, linkAt, dataAt}
 use Rattle.mdf.specs.Chain.{isIn}
-use Rattle.plan.specs.Copies.{kindCC, kindSI, kindFH, Copy, copyOf, isCopied, lostLinks}
+use Rattle.plan.specs.Copies.{kindFH, Copy, copyOf, lostLinks}
 use Rattle.result.specs.Fill.{header, words, orZero, newLink, newLinks, historyLink, firstNew, copiedLinks, dataOf, copiedBytes}
-use Rattle.result.specs.Links.{Head, headAt}
-use Rattle.result.specs.Names.{CopiedKind, isTX, isMD, isCC, isSI, isFH, Leads, SameBlock, Follows, later, first, LinkDue}
-use Rattle.result.specs.Guarantee.{Stands, In, here, there}
+use Rattle.result.specs.Links.{headAt}
+use Rattle.result.specs.Names.{Leads, SameBlock, Follows, later, first, LinkDue}
+use Rattle.result.specs.Guarantee.{Stands, In}
 use Rattle.copies_laws.specs.LengthLaws.{length-dataOf}
 use Rattle.copies_laws.specs.MemoLaws.{none≢some, kind-copied, copied-kind, copy-in, Followed, Made}
 use Rattle.shown_laws.specs.Header.{block-kind, block-size, block-links, block-link, block-data}

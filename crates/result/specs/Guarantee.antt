@@ -96,10 +96,12 @@ pub record Listed (l : List ℕ) (os : List Omission) : Type 0 where
 
 -- ---- the guarantee, of the final bytes f and the final list l of a call with arguments x, for which d was decided
 
+-- bookkeeping: the columns of what was placed
 unfoldable pub columnsPlaced : List Placed → List Column
 columnsPlaced [] = []
 columnsPlaced (p ∷ ps) = p .column ∷ columnsPlaced ps
 
+-- "followed from the header by links alone .." and what is due of the recording, a field a sentence
 pub record Guaranteed (x : Args) (d : Decided) (f l : List ℕ) : Type 0 where
   -- ---- the result: "followed from the header by links alone, show exactly the planned columns in order, no two blocks share a byte"
   -- the planned columns are those placed, in order
@@ -146,7 +148,7 @@ pub record Guaranteed (x : Args) (d : Decided) (f l : List ℕ) : Type 0 where
   pub sorted : (c : Column) → In c (d .planned .columns) → isNonempty (x .image) c ≡ true → length (c .group .dataGroup .groups) ≡ 1
       → Sorted (x .image) (c .group)
   -- those of a group that shares its DG are its own among all that the DG's data holds
-  pub framed : (g : SrcGroup) → In g (d .groups) → 1 < length (g .dataGroup .groups) → SharedRecords (x .image) g
+  pub shared : (g : SrcGroup) → In g (d .groups) → 1 < length (g .dataGroup .groups) → SharedRecords (x .image) g
   -- signal data is that of a type 1 channel's SD chain, and lacks no byte
   pub signals : (c : Column) → In c (d .planned .columns)
       → SignalDue (x .image) (c .channel) (c .signalOf) × (length (signalBytes (x .image) (c .signalOf)) ≡ signalSize (c .signalOf))

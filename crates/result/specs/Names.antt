@@ -13,7 +13,7 @@ use Rattle.mdf.specs.Chain.{isIn}
 use Rattle.plan.specs.Copies.{kindCC, kindSI, kindFH}
 use Rattle.plan.specs.Layout.{Placed, cgOf, cnOf}
 use Rattle.result.specs.Result.{Args}
-use Rattle.result.specs.Links.{Head, headAt}
+use Rattle.result.specs.Links.{headAt}
 
 -- "Kinds other than TX, MD, CC, SI, FH become link 0."
 pub data CopiedKind (k : ℕ) : Type 0 where
