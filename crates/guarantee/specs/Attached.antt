@@ -115,8 +115,7 @@ module _ (s f : List ℕ) (bytes : (i : ℕ) → getD s i 0 < 256) (chain : List
       let here' = in-back (copiedBlocks s chain memo fh (t .own)) here in
       let small : nextAttachment ts < 256 ^ 8 = next-small ts (λ c i. below c (rest c i)) in
       let more : AttachmentsDue s f chain (attachedFrom ts) (nextAttachment ts) =
-      attachments-due ts _ e (laid .2) (λ u i. other u (there i)) (λ c i. above c (rest c i)) (λ c i. below c (rest c i)) (λ c i. stands c (rest c i)) in
-      (
+      attachments-due ts _ e (laid .2) (λ u i. other u (there i)) (λ c i. above c (rest c i)) (λ c i. below c (rest c i)) (λ c i. stands c (rest c i)) in (
         at-same (t .from) (t .to) (nextAttachment ts) (laid .1) (above _ here') small (stands _ here'),
         at-header (t .from) (t .to) (nextAttachment ts) (laid .1) (above _ here') small (stands _ here'),
         λ k i h. rw (at-other (t .from) (t .to) (nextAttachment ts) (laid .1) (above _ here') small (stands _ here') i h)
