@@ -4,30 +4,11 @@ use mathlib.Core.List.{List, [], _∷_, _++_}
 use mathlib.Core.Path.{_≡_, refl}
 use mathlib.Core.Option.{Option, none, some}
 use lib.ListN.{replicate, length, getD, take, set}
-use Rattle.base.specs.Blit as baseBlit
 use Rattle.base.specs.Checked as baseChecked
-use Rattle.base.specs.Choice as baseChoice
-use Rattle.base.specs.Field as baseField
-use Rattle.mdf.specs.Block as mdfBlock
-use Rattle.mdf.specs.Chain as mdfChain
-use Rattle.mdf.specs.Count as mdfCount
-use Rattle.mdf.specs.Group as mdfGroup
-use Rattle.mdf.specs.Identification as mdfIdentification
-use Rattle.mdf.specs.Name as mdfName
-use Rattle.mdf.specs.Records as mdfRecords
-use Rattle.mdf.specs.Walk as mdfWalk
-use Rattle.plan.specs.Channel as planChannel
-use Rattle.plan.specs.Columns as planColumns
-use Rattle.plan.specs.Copies as planCopies
-use Rattle.plan.specs.Data as planData
-use Rattle.plan.specs.Geometry as planGeometry
-use Rattle.plan.specs.Layout as planLayout
-use Rattle.result.specs.Fill as resultFill
-use Rattle.result.specs.Listing as resultListing
-use Rattle.result.specs.Payload as resultPayload
 use Rattle.result.specs.Result as resultResult
 use Rattle.result.specs.Links as resultLinks
 use Rattle.result.specs.Due as resultDue
+use Rattle.cases.specs.Evaluated.{evaluated}
 use Rattle.cases.specs.Starred.{image, args}
 
 -- of an answer: whether it is a refusal, its number and place
@@ -35,7 +16,8 @@ abbrev answered : baseChecked.Checked resultResult.Decided → List ℕ
 answered (baseChecked.ok d) = []
 answered (baseChecked.refused number place) = number ∷ place ∷ []
 
-abbrev fileIn : resultResult.Args → baseChecked.Checked resultResult.Decided → List ℕ
+-- what is left in an output of just the file's bytes
+abbrev pub fileIn : resultResult.Args → baseChecked.Checked resultResult.Decided → List ℕ
 fileIn x (baseChecked.ok d) = resultResult.fileOf x (d .laidOut)
 fileIn x (baseChecked.refused number place) = []
 
@@ -65,7 +47,7 @@ dueIn x (baseChecked.ok d) = resultDue.dueAll (x .image) (x .blockSize) (d .laid
 dueIn x (baseChecked.refused number place) = []
 
 -- the recording with its first sample changed
-abbrev other : resultResult.Args
+abbrev pub other : resultResult.Args
 other = record { image = set image 192 9; blockSize = args .blockSize; ident = args .ident; text = args .text; time = args .time }
 
 abbrev pub Excluded : Type 0
@@ -94,42 +76,5 @@ Excluded =
     × (getD (fileIn other (resultResult.decided other)) 1072 0 ≡ 9)
 
 pub excluded : Excluded
-unfolding
-    baseBlit.part baseBlit.blit baseChoice.ifLt baseChoice.ifLe baseChoice.ifEq baseField.leAt baseField.le mdfBlock.kindAt mdfBlock.sizeAt
-    mdfBlock.linksAt mdfBlock.linkAt mdfBlock.firstLink mdfBlock.dataAt mdfBlock.headerIn mdfBlock.lengthIn mdfBlock.wholeAt mdfBlock.wantedAt
-    mdfBlock.blockAt mdfChain.leafOf mdfChain.added mdfChain.fragmentAt mdfChain.listed mdfChain.isIn mdfChain.listIn mdfChain.chainFrom mdfChain.chain
-    mdfCount.sizeDT mdfCount.sizeDV mdfCount.quotient mdfCount.sortedCount mdfCount.countOne mdfCount.ofGroup mdfCount.tallies mdfCount.countGroups
-    mdfCount.countsFrom mdfCount.counts mdfGroup.addresses mdfGroup.channelsOf mdfGroup.groupsOf mdfGroup.upTo mdfGroup.dataGroupsOf
-    mdfGroup.dataGroups mdfGroup.recordId mdfGroup.groupFlags mdfGroup.samples mdfGroup.invalBytes mdfGroup.isStorage mdfIdentification.dropWhile
-    mdfIdentification.trimmed mdfIdentification.firstPart mdfIdentification.pastDot mdfIdentification.digitsFrom mdfIdentification.digits
-    mdfIdentification.number mdfIdentification.versionOf mdfIdentification.isAscii mdfIdentification.versionIn mdfIdentification.identified
-    mdfName.textIn mdfName.nameAt mdfRecords.rangesIn mdfRecords.joined mdfRecords.placeOf mdfRecords.anyDV mdfRecords.inFront mdfRecords.runs
-    mdfRecords.sizeOf mdfRecords.runWhole mdfRecords.runsWhole mdfRecords.pieces mdfRecords.withoutIds mdfRecords.runRecords mdfRecords.sortedRecords
-    mdfRecords.sortedIn mdfRecords.withId mdfRecords.ofBytes mdfRecords.frameOf mdfRecords.frameAt mdfRecords.framesFrom mdfRecords.frames
-    mdfRecords.isIdOf mdfRecords.equalIds mdfRecords.unsortedFrames mdfRecords.unsortedRecords mdfWalk.isMet mdfWalk.tally mdfWalk.visit
-    mdfWalk.entered mdfWalk.level mdfWalk.belowCN mdfWalk.belowCG mdfWalk.idSize mdfWalk.idSizeIn mdfWalk.belowDG mdfWalk.walkOf planChannel.channelType
-    planChannel.bitOffset planChannel.byteOffset planChannel.bitCount planChannel.channelFlags planChannel.invalPosition planChannel.channelBytes
-    planChannel.fits planChannel.isMasterType planChannel.keepsInval planChannel.width planChannel.invalBit planChannel.treatment
-    planColumns.withCounts planColumns.srcGroups planColumns.firstMaster planColumns.masterOf planColumns.remoteLink planColumns.groupAt
-    planColumns.remoteTime planColumns.timeOf planColumns.timeColumn planColumns.withTime planColumns.decideSignal planColumns.decideComposition
-    planColumns.decide planColumns.planChannels planColumns.planGroup planColumns.planGroups planColumns.plan planColumns.omissionAddresses
-    planColumns.omissionReasons planColumns.omissionWords planCopies.copyOf planCopies.withCopy planCopies.isCopied planCopies.lostLinks
-    planCopies.copyLinks planCopies.copyAt planCopies.copyRoot planCopies.copyRoots planCopies.historyFrom planCopies.historyOf planCopies.columnCopies
-    planCopies.isAttached planCopies.attachmentIn planCopies.attach planCopies.attachmentsFrom planCopies.attachmentsOf planData.isNonempty
-    planData.anyNonempty planData.signalsIn planData.dataIn planData.allDataIn planData.blocksIn planGeometry.align8 planGeometry.powerIn
-    planGeometry.stepOf planGeometry.perBlock planGeometry.fullPayload planGeometry.blockCount planGeometry.perFull planGeometry.blockPayload
-    planLayout.columnWidth planLayout.columnBlocks planLayout.dlSize planLayout.structureSize planLayout.payloadSize planLayout.blocksEnd
-    planLayout.placedFrom planLayout.structureEnd planLayout.dataEnd planLayout.mdSize planLayout.pastCopies planLayout.fhPlace
-    planLayout.layout resultFill.header resultFill.words resultFill.newLink resultFill.newLinks resultFill.historyLink resultFill.copiedLinks
-    resultFill.dataOf resultFill.copiedBytes resultFill.copiedBlocks resultFill.mdBytes resultFill.fhBytes resultFill.dgBytes resultFill.cgAt
-    resultFill.cgData resultFill.cgBytes resultFill.cnData resultFill.cnBytes resultFill.blockLinks resultFill.columnPayload resultFill.dlBytes
-    resultFill.dlBlocks resultFill.structureBlocks resultFill.blockOf resultFill.payloadBlocks resultFill.dataBlocks resultFill.atBytes
-    resultFill.attachmentBlocks resultFill.hdData resultFill.hdBytes resultListing.digitsOf resultListing.decimal resultListing.columnLine
-    resultListing.columnLines resultListing.omissionLines resultListing.planLines resultPayload.recordsOf resultPayload.cell resultPayload.cells
-    resultPayload.payloads resultPayload.columnPayloads resultResult.hdBlock resultResult.blocksOf resultResult.flat resultResult.fileOf
-    resultResult.sourceGroupsOf resultResult.timeColumns resultResult.blocksWritten resultResult.report resultResult.lentIn resultResult.decided
-    resultResult.answer resultResult.workIn resultResult.zeros resultResult.convert resultLinks.headAt resultLinks.groupFields
-    resultLinks.channelFields resultLinks.listAt resultLinks.listShown resultLinks.shownAt resultLinks.shownFrom resultLinks.shown
-    resultDue.duePayload resultDue.evenBlocks resultDue.blocksDue resultDue.equalDue resultDue.fragmentsDue resultDue.listDue resultDue.placedCGs
-    resultDue.groupFlagsDue resultDue.channelFlagsDue resultDue.keptByte resultDue.groupDue resultDue.channelDue resultDue.due resultDue.dueAll
+unfolding evaluated
 excluded = (refl, refl, refl, refl, refl, refl, refl, refl, refl, refl, refl, refl)

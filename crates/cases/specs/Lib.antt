@@ -1,3 +1,5 @@
+pub mod Evaluated
 pub mod Starred
 pub mod Excluded
 pub mod Refuted
+pub mod Lost

@@ -7,43 +7,23 @@ use mathlib.Core.Option.{none}
 use mathlib.Core.Path.{_≡_, refl, sym, ap, subst, _∙_}
 use native.Mathlib.Omega.{arith}
 use lib.Dec.{eqb}
-use lib.ListN.{replicate, length, getD, take, set}
+use lib.ListN.{replicate, getD, take, set}
 use borrow.Author.Tests.{eqb-true, eqb-false}
 use Rattle.base.specs.CheckedLaws.{refused≢ok, ok-same}
 use Rattle.base.specs.ChoiceLaws.{eq-no}
-use Rattle.base.specs.Blit as baseBlit
 use Rattle.base.specs.Checked as baseChecked
 use Rattle.base.specs.Choice as baseChoice
-use Rattle.base.specs.Field as baseField
-use Rattle.mdf.specs.Block as mdfBlock
-use Rattle.mdf.specs.Chain as mdfChain
-use Rattle.mdf.specs.Count as mdfCount
-use Rattle.mdf.specs.Group as mdfGroup
-use Rattle.mdf.specs.Identification as mdfIdentification
-use Rattle.mdf.specs.Name as mdfName
-use Rattle.mdf.specs.Records as mdfRecords
-use Rattle.mdf.specs.Walk as mdfWalk
-use Rattle.plan.specs.Channel as planChannel
 use Rattle.plan.specs.Columns as planColumns
-use Rattle.plan.specs.Copies as planCopies
-use Rattle.plan.specs.Data as planData
-use Rattle.plan.specs.Geometry as planGeometry
 use Rattle.plan.specs.Layout as planLayout
-use Rattle.result.specs.Fill as resultFill
-use Rattle.result.specs.Payload as resultPayload
 use Rattle.result.specs.Result as resultResult
+use Rattle.result.specs.Links as resultLinks
+use Rattle.mdf.specs.Chain as mdfChain
 use Rattle.result.specs.Member.{In, here, there}
 use Rattle.result.specs.Recording.{leadsTo, reasonFor, OmissionDue}
-use Rattle.result.specs.Guarantee.{Stands, omissionsOf, columnsOf, Guaranteed}
+use Rattle.result.specs.Guarantee.{omissionsOf, columnsOf, Guaranteed}
+use Rattle.cases.specs.Evaluated.{evaluated}
 use Rattle.cases.specs.Starred.{image, args}
-
--- the recording with its first sample changed
-abbrev other : resultResult.Args
-other = record { image = set image 192 9; blockSize = args .blockSize; ident = args .ident; text = args .text; time = args .time }
-
-abbrev fileIn : resultResult.Args → baseChecked.Checked resultResult.Decided → List ℕ
-fileIn x (baseChecked.ok d) = resultResult.fileOf x (d .laidOut)
-fileIn x (baseChecked.refused number place) = []
+use Rattle.cases.specs.Excluded.{fileIn, other}
 
 -- with what was decided, the bytes f do not have the guarantee
 abbrev pub Refuted : resultResult.Args → baseChecked.Checked resultResult.Decided → List ℕ → Type 0
@@ -52,82 +32,14 @@ Refuted x (baseChecked.refused number place) f = ⊥
 
 -- ---- "a converter that accepts and writes nothing": HD is missing
 pub writes-nothing : Refuted args (resultResult.decided args) (replicate 1288 0)
-unfolding
-    baseBlit.part baseBlit.blit baseChoice.ifLt baseChoice.ifLe baseChoice.ifEq baseField.leAt baseField.le mdfBlock.kindAt mdfBlock.sizeAt
-    mdfBlock.linksAt mdfBlock.linkAt mdfBlock.firstLink mdfBlock.dataAt mdfBlock.headerIn mdfBlock.lengthIn mdfBlock.wholeAt mdfBlock.wantedAt
-    mdfBlock.blockAt mdfChain.leafOf mdfChain.added mdfChain.fragmentAt mdfChain.listed mdfChain.isIn mdfChain.listIn mdfChain.chainFrom
-    mdfChain.chain mdfCount.sizeDT mdfCount.sizeDV mdfCount.quotient mdfCount.sortedCount mdfCount.countOne mdfCount.ofGroup mdfCount.tallies
-    mdfCount.countGroups mdfCount.countsFrom mdfCount.counts mdfGroup.addresses mdfGroup.channelsOf mdfGroup.groupsOf mdfGroup.upTo
-    mdfGroup.dataGroupsOf mdfGroup.dataGroups mdfGroup.recordId mdfGroup.groupFlags mdfGroup.samples mdfGroup.invalBytes mdfGroup.isStorage
-    mdfIdentification.dropWhile mdfIdentification.trimmed mdfIdentification.firstPart mdfIdentification.pastDot mdfIdentification.digitsFrom
-    mdfIdentification.digits mdfIdentification.number mdfIdentification.versionOf mdfIdentification.isAscii mdfIdentification.versionIn
-    mdfIdentification.identified mdfName.textIn mdfName.nameAt mdfRecords.rangesIn mdfRecords.joined mdfRecords.placeOf mdfRecords.anyDV
-    mdfRecords.inFront mdfRecords.runs mdfRecords.sizeOf mdfRecords.runWhole mdfRecords.runsWhole mdfRecords.pieces mdfRecords.withoutIds
-    mdfRecords.runRecords mdfRecords.sortedRecords mdfRecords.sortedIn mdfRecords.withId mdfRecords.ofBytes mdfRecords.frameOf mdfRecords.frameAt
-    mdfRecords.framesFrom mdfRecords.frames mdfRecords.isIdOf mdfRecords.equalIds mdfRecords.unsortedFrames mdfRecords.unsortedRecords mdfWalk.isMet
-    mdfWalk.tally mdfWalk.visit mdfWalk.entered mdfWalk.level mdfWalk.belowCN mdfWalk.belowCG mdfWalk.idSize mdfWalk.idSizeIn mdfWalk.belowDG
-    mdfWalk.walkOf planChannel.channelType planChannel.bitOffset planChannel.byteOffset planChannel.bitCount planChannel.channelFlags
-    planChannel.invalPosition planChannel.channelBytes planChannel.fits planChannel.isMasterType planChannel.keepsInval planChannel.width
-    planChannel.invalBit planChannel.treatment planColumns.withCounts planColumns.srcGroups planColumns.firstMaster planColumns.masterOf
-    planColumns.remoteLink planColumns.groupAt planColumns.remoteTime planColumns.timeOf planColumns.timeColumn planColumns.withTime
-    planColumns.decideSignal planColumns.decideComposition planColumns.decide planColumns.planChannels planColumns.planGroup planColumns.planGroups
-    planColumns.plan planColumns.omissionAddresses planColumns.omissionReasons planColumns.omissionWords planCopies.copyOf planCopies.withCopy
-    planCopies.isCopied planCopies.lostLinks planCopies.copyLinks planCopies.copyAt planCopies.copyRoot planCopies.copyRoots planCopies.historyFrom
-    planCopies.historyOf planCopies.columnCopies planCopies.isAttached planCopies.attachmentIn planCopies.attach planCopies.attachmentsFrom
-    planCopies.attachmentsOf planData.isNonempty planData.anyNonempty planData.signalsIn planData.dataIn planData.allDataIn planData.blocksIn
-    planGeometry.align8 planGeometry.powerIn planGeometry.stepOf planGeometry.perBlock planGeometry.fullPayload planGeometry.blockCount
-    planGeometry.perFull planGeometry.blockPayload planLayout.columnWidth planLayout.columnBlocks planLayout.dlSize planLayout.structureSize
-    planLayout.payloadSize planLayout.blocksEnd planLayout.placedFrom planLayout.structureEnd planLayout.dataEnd planLayout.mdSize
-    planLayout.pastCopies planLayout.fhPlace planLayout.layout resultFill.header resultFill.words resultFill.newLink
-    resultFill.newLinks resultFill.historyLink resultFill.copiedLinks resultFill.dataOf resultFill.copiedBytes resultFill.copiedBlocks
-    resultFill.mdBytes resultFill.fhBytes resultFill.dgBytes resultFill.cgAt resultFill.cgData resultFill.cgBytes resultFill.cnData
-    resultFill.cnBytes resultFill.blockLinks resultFill.columnPayload resultFill.dlBytes resultFill.dlBlocks resultFill.structureBlocks
-    resultFill.blockOf resultFill.payloadBlocks resultFill.dataBlocks resultFill.atBytes resultFill.attachmentBlocks resultFill.hdData
-    resultFill.hdBytes resultPayload.recordsOf resultPayload.cell resultPayload.cells resultPayload.payloads resultPayload.columnPayloads
-    resultResult.hdBlock resultResult.blocksOf resultResult.flat resultResult.fileOf resultResult.sourceGroupsOf resultResult.timeColumns
-    resultResult.blocksWritten resultResult.report resultResult.lentIn resultResult.decided resultResult.answer resultResult.workIn
-    resultResult.zeros resultResult.convert
+unfolding evaluated
 writes-nothing l g =
     let z : _≡_ {A = ℕ} 0 35 = ap (λ (bs : List ℕ). getD bs 0 0) (g .filled _ (there here) .is) in
     omega (arith, z)
 
 -- ---- "one that fills only the first column": the second column's first data block is missing
 pub fills-the-first : Refuted args (resultResult.decided args) (take 1176 (fileIn args (resultResult.decided args)) ++ replicate 112 0)
-unfolding
-    baseBlit.part baseBlit.blit baseChoice.ifLt baseChoice.ifLe baseChoice.ifEq baseField.leAt baseField.le mdfBlock.kindAt mdfBlock.sizeAt
-    mdfBlock.linksAt mdfBlock.linkAt mdfBlock.firstLink mdfBlock.dataAt mdfBlock.headerIn mdfBlock.lengthIn mdfBlock.wholeAt mdfBlock.wantedAt
-    mdfBlock.blockAt mdfChain.leafOf mdfChain.added mdfChain.fragmentAt mdfChain.listed mdfChain.isIn mdfChain.listIn mdfChain.chainFrom
-    mdfChain.chain mdfCount.sizeDT mdfCount.sizeDV mdfCount.quotient mdfCount.sortedCount mdfCount.countOne mdfCount.ofGroup mdfCount.tallies
-    mdfCount.countGroups mdfCount.countsFrom mdfCount.counts mdfGroup.addresses mdfGroup.channelsOf mdfGroup.groupsOf mdfGroup.upTo
-    mdfGroup.dataGroupsOf mdfGroup.dataGroups mdfGroup.recordId mdfGroup.groupFlags mdfGroup.samples mdfGroup.invalBytes mdfGroup.isStorage
-    mdfIdentification.dropWhile mdfIdentification.trimmed mdfIdentification.firstPart mdfIdentification.pastDot mdfIdentification.digitsFrom
-    mdfIdentification.digits mdfIdentification.number mdfIdentification.versionOf mdfIdentification.isAscii mdfIdentification.versionIn
-    mdfIdentification.identified mdfName.textIn mdfName.nameAt mdfRecords.rangesIn mdfRecords.joined mdfRecords.placeOf mdfRecords.anyDV
-    mdfRecords.inFront mdfRecords.runs mdfRecords.sizeOf mdfRecords.runWhole mdfRecords.runsWhole mdfRecords.pieces mdfRecords.withoutIds
-    mdfRecords.runRecords mdfRecords.sortedRecords mdfRecords.sortedIn mdfRecords.withId mdfRecords.ofBytes mdfRecords.frameOf mdfRecords.frameAt
-    mdfRecords.framesFrom mdfRecords.frames mdfRecords.isIdOf mdfRecords.equalIds mdfRecords.unsortedFrames mdfRecords.unsortedRecords mdfWalk.isMet
-    mdfWalk.tally mdfWalk.visit mdfWalk.entered mdfWalk.level mdfWalk.belowCN mdfWalk.belowCG mdfWalk.idSize mdfWalk.idSizeIn mdfWalk.belowDG
-    mdfWalk.walkOf planChannel.channelType planChannel.bitOffset planChannel.byteOffset planChannel.bitCount planChannel.channelFlags
-    planChannel.invalPosition planChannel.channelBytes planChannel.fits planChannel.isMasterType planChannel.keepsInval planChannel.width
-    planChannel.invalBit planChannel.treatment planColumns.withCounts planColumns.srcGroups planColumns.firstMaster planColumns.masterOf
-    planColumns.remoteLink planColumns.groupAt planColumns.remoteTime planColumns.timeOf planColumns.timeColumn planColumns.withTime
-    planColumns.decideSignal planColumns.decideComposition planColumns.decide planColumns.planChannels planColumns.planGroup planColumns.planGroups
-    planColumns.plan planColumns.omissionAddresses planColumns.omissionReasons planColumns.omissionWords planCopies.copyOf planCopies.withCopy
-    planCopies.isCopied planCopies.lostLinks planCopies.copyLinks planCopies.copyAt planCopies.copyRoot planCopies.copyRoots planCopies.historyFrom
-    planCopies.historyOf planCopies.columnCopies planCopies.isAttached planCopies.attachmentIn planCopies.attach planCopies.attachmentsFrom
-    planCopies.attachmentsOf planData.isNonempty planData.anyNonempty planData.signalsIn planData.dataIn planData.allDataIn planData.blocksIn
-    planGeometry.align8 planGeometry.powerIn planGeometry.stepOf planGeometry.perBlock planGeometry.fullPayload planGeometry.blockCount
-    planGeometry.perFull planGeometry.blockPayload planLayout.columnWidth planLayout.columnBlocks planLayout.dlSize planLayout.structureSize
-    planLayout.payloadSize planLayout.blocksEnd planLayout.placedFrom planLayout.structureEnd planLayout.dataEnd planLayout.mdSize
-    planLayout.pastCopies planLayout.fhPlace planLayout.layout resultFill.header resultFill.words resultFill.newLink
-    resultFill.newLinks resultFill.historyLink resultFill.copiedLinks resultFill.dataOf resultFill.copiedBytes resultFill.copiedBlocks
-    resultFill.mdBytes resultFill.fhBytes resultFill.dgBytes resultFill.cgAt resultFill.cgData resultFill.cgBytes resultFill.cnData
-    resultFill.cnBytes resultFill.blockLinks resultFill.columnPayload resultFill.dlBytes resultFill.dlBlocks resultFill.structureBlocks
-    resultFill.blockOf resultFill.payloadBlocks resultFill.dataBlocks resultFill.atBytes resultFill.attachmentBlocks resultFill.hdData
-    resultFill.hdBytes resultPayload.recordsOf resultPayload.cell resultPayload.cells resultPayload.payloads resultPayload.columnPayloads
-    resultResult.hdBlock resultResult.blocksOf resultResult.flat resultResult.fileOf resultResult.sourceGroupsOf resultResult.timeColumns
-    resultResult.blocksWritten resultResult.report resultResult.lentIn resultResult.decided resultResult.answer resultResult.workIn
-    resultResult.zeros resultResult.convert
+unfolding evaluated
 fills-the-first l g =
     let i : In _ _ = there (there (there (there (there (there (there (there (there (there (there (there (there (there here))))))))))))) in
     let z : _≡_ {A = ℕ} 0 35 = ap (λ (bs : List ℕ). getD bs 0 0) (g .filled _ i .is) in
@@ -135,45 +47,52 @@ fills-the-first l g =
 
 -- ---- "one that gives every recording one stock file": the other recording's first sample is 9
 pub stock-file : Refuted other (resultResult.decided other) (fileIn args (resultResult.decided args))
-unfolding
-    baseBlit.part baseBlit.blit baseChoice.ifLt baseChoice.ifLe baseChoice.ifEq baseField.leAt baseField.le mdfBlock.kindAt mdfBlock.sizeAt
-    mdfBlock.linksAt mdfBlock.linkAt mdfBlock.firstLink mdfBlock.dataAt mdfBlock.headerIn mdfBlock.lengthIn mdfBlock.wholeAt mdfBlock.wantedAt
-    mdfBlock.blockAt mdfChain.leafOf mdfChain.added mdfChain.fragmentAt mdfChain.listed mdfChain.isIn mdfChain.listIn mdfChain.chainFrom
-    mdfChain.chain mdfCount.sizeDT mdfCount.sizeDV mdfCount.quotient mdfCount.sortedCount mdfCount.countOne mdfCount.ofGroup mdfCount.tallies
-    mdfCount.countGroups mdfCount.countsFrom mdfCount.counts mdfGroup.addresses mdfGroup.channelsOf mdfGroup.groupsOf mdfGroup.upTo
-    mdfGroup.dataGroupsOf mdfGroup.dataGroups mdfGroup.recordId mdfGroup.groupFlags mdfGroup.samples mdfGroup.invalBytes mdfGroup.isStorage
-    mdfIdentification.dropWhile mdfIdentification.trimmed mdfIdentification.firstPart mdfIdentification.pastDot mdfIdentification.digitsFrom
-    mdfIdentification.digits mdfIdentification.number mdfIdentification.versionOf mdfIdentification.isAscii mdfIdentification.versionIn
-    mdfIdentification.identified mdfName.textIn mdfName.nameAt mdfRecords.rangesIn mdfRecords.joined mdfRecords.placeOf mdfRecords.anyDV
-    mdfRecords.inFront mdfRecords.runs mdfRecords.sizeOf mdfRecords.runWhole mdfRecords.runsWhole mdfRecords.pieces mdfRecords.withoutIds
-    mdfRecords.runRecords mdfRecords.sortedRecords mdfRecords.sortedIn mdfRecords.withId mdfRecords.ofBytes mdfRecords.frameOf mdfRecords.frameAt
-    mdfRecords.framesFrom mdfRecords.frames mdfRecords.isIdOf mdfRecords.equalIds mdfRecords.unsortedFrames mdfRecords.unsortedRecords mdfWalk.isMet
-    mdfWalk.tally mdfWalk.visit mdfWalk.entered mdfWalk.level mdfWalk.belowCN mdfWalk.belowCG mdfWalk.idSize mdfWalk.idSizeIn mdfWalk.belowDG
-    mdfWalk.walkOf planChannel.channelType planChannel.bitOffset planChannel.byteOffset planChannel.bitCount planChannel.channelFlags
-    planChannel.invalPosition planChannel.channelBytes planChannel.fits planChannel.isMasterType planChannel.keepsInval planChannel.width
-    planChannel.invalBit planChannel.treatment planColumns.withCounts planColumns.srcGroups planColumns.firstMaster planColumns.masterOf
-    planColumns.remoteLink planColumns.groupAt planColumns.remoteTime planColumns.timeOf planColumns.timeColumn planColumns.withTime
-    planColumns.decideSignal planColumns.decideComposition planColumns.decide planColumns.planChannels planColumns.planGroup planColumns.planGroups
-    planColumns.plan planColumns.omissionAddresses planColumns.omissionReasons planColumns.omissionWords planCopies.copyOf planCopies.withCopy
-    planCopies.isCopied planCopies.lostLinks planCopies.copyLinks planCopies.copyAt planCopies.copyRoot planCopies.copyRoots planCopies.historyFrom
-    planCopies.historyOf planCopies.columnCopies planCopies.isAttached planCopies.attachmentIn planCopies.attach planCopies.attachmentsFrom
-    planCopies.attachmentsOf planData.isNonempty planData.anyNonempty planData.signalsIn planData.dataIn planData.allDataIn planData.blocksIn
-    planGeometry.align8 planGeometry.powerIn planGeometry.stepOf planGeometry.perBlock planGeometry.fullPayload planGeometry.blockCount
-    planGeometry.perFull planGeometry.blockPayload planLayout.columnWidth planLayout.columnBlocks planLayout.dlSize planLayout.structureSize
-    planLayout.payloadSize planLayout.blocksEnd planLayout.placedFrom planLayout.structureEnd planLayout.dataEnd planLayout.mdSize
-    planLayout.pastCopies planLayout.fhPlace planLayout.layout resultFill.header resultFill.words resultFill.newLink
-    resultFill.newLinks resultFill.historyLink resultFill.copiedLinks resultFill.dataOf resultFill.copiedBytes resultFill.copiedBlocks
-    resultFill.mdBytes resultFill.fhBytes resultFill.dgBytes resultFill.cgAt resultFill.cgData resultFill.cgBytes resultFill.cnData
-    resultFill.cnBytes resultFill.blockLinks resultFill.columnPayload resultFill.dlBytes resultFill.dlBlocks resultFill.structureBlocks
-    resultFill.blockOf resultFill.payloadBlocks resultFill.dataBlocks resultFill.atBytes resultFill.attachmentBlocks resultFill.hdData
-    resultFill.hdBytes resultPayload.recordsOf resultPayload.cell resultPayload.cells resultPayload.payloads resultPayload.columnPayloads
-    resultResult.hdBlock resultResult.blocksOf resultResult.flat resultResult.fileOf resultResult.sourceGroupsOf resultResult.timeColumns
-    resultResult.blocksWritten resultResult.report resultResult.lentIn resultResult.decided resultResult.answer resultResult.workIn
-    resultResult.zeros resultResult.convert
+unfolding evaluated
 stock-file l g =
     let i : In _ _ = there (there (there (there (there (there (there (there (there (there (there (there here))))))))))) in
     let z : _≡_ {A = ℕ} 0 9 = ap (λ (bs : List ℕ). getD bs 24 0) (g .filled _ i .is) in
     omega (arith, z)
+
+-- ---- blocks that say something else than is due: byte offset 1 or bit count 1 in the first CN; DT for DV; a DL that leads on to HD
+
+-- of the first column that links show: byte offset, bit count
+abbrev offsetIn : List resultLinks.Shown → ℕ
+offsetIn [] = 0
+offsetIn (c ∷ cs) = c .channel .byteOffset
+
+abbrev bitsIn : List resultLinks.Shown → ℕ
+bitsIn [] = 0
+bitsIn (c ∷ cs) = c .channel .bitCount
+
+-- a data chain: 0 stopped, 1 without blocks, 2 begun by DT, 3 by DV
+abbrev kindOf : mdfChain.Kind → ℕ
+kindOf mdfChain.dt = 2
+kindOf mdfChain.dv = 3
+
+abbrev blocksIn : baseChecked.Checked (List mdfChain.Fragment) → ℕ
+blocksIn (baseChecked.refused number place) = 0
+blocksIn (baseChecked.ok []) = 1
+blocksIn (baseChecked.ok (f ∷ fs)) = kindOf (f .kind)
+
+abbrev dataIn : List resultLinks.Shown → ℕ
+dataIn [] = 0
+dataIn (c ∷ cs) = blocksIn (c .blocks)
+
+abbrev pub WritesOther : Type 0
+WritesOther =
+    Refuted args (resultResult.decided args) (set (fileIn args (resultResult.decided args)) 516 1)
+    × Refuted args (resultResult.decided args) (set (fileIn args (resultResult.decided args)) 520 1)
+    × Refuted args (resultResult.decided args) (set (fileIn args (resultResult.decided args)) 1051 84)
+    × Refuted args (resultResult.decided args) (set (fileIn args (resultResult.decided args)) 608 64)
+
+pub writes-other : WritesOther
+unfolding evaluated
+writes-other = (
+  λ l g. let z : _≡_ {A = ℕ} 1 0 = ap offsetIn (g .shows 2 (omega arith)) in omega (arith, z),
+  λ l g. let z : _≡_ {A = ℕ} 1 32 = ap bitsIn (g .shows 2 (omega arith)) in omega (arith, z),
+  λ l g. let z : _≡_ {A = ℕ} 2 3 = ap dataIn (g .shows 2 (omega arith)) in omega (arith, z),
+  λ l g. let z : _≡_ {A = ℕ} 0 3 = ap dataIn (g .shows 2 (omega arith)) in omega (arith, z),
+)
 
 -- ---- a plan in which every column is a time column that names none: the signal is no master
 abbrev timed : planColumns.Column → planColumns.Column
@@ -194,41 +113,7 @@ untrue : _≡_ {A = Bool} false true → ⊥
 untrue e = let z : _≡_ {A = ℕ} 0 1 = cc in omega arith
 
 pub times-each : TimesEach (resultResult.decided args)
-unfolding
-    baseBlit.part baseBlit.blit baseChoice.ifLt baseChoice.ifLe baseChoice.ifEq baseField.leAt baseField.le mdfBlock.kindAt mdfBlock.sizeAt
-    mdfBlock.linksAt mdfBlock.linkAt mdfBlock.firstLink mdfBlock.dataAt mdfBlock.headerIn mdfBlock.lengthIn mdfBlock.wholeAt mdfBlock.wantedAt
-    mdfBlock.blockAt mdfChain.leafOf mdfChain.added mdfChain.fragmentAt mdfChain.listed mdfChain.isIn mdfChain.listIn mdfChain.chainFrom
-    mdfChain.chain mdfCount.sizeDT mdfCount.sizeDV mdfCount.quotient mdfCount.sortedCount mdfCount.countOne mdfCount.ofGroup mdfCount.tallies
-    mdfCount.countGroups mdfCount.countsFrom mdfCount.counts mdfGroup.addresses mdfGroup.channelsOf mdfGroup.groupsOf mdfGroup.upTo
-    mdfGroup.dataGroupsOf mdfGroup.dataGroups mdfGroup.recordId mdfGroup.groupFlags mdfGroup.samples mdfGroup.invalBytes mdfGroup.isStorage
-    mdfIdentification.dropWhile mdfIdentification.trimmed mdfIdentification.firstPart mdfIdentification.pastDot mdfIdentification.digitsFrom
-    mdfIdentification.digits mdfIdentification.number mdfIdentification.versionOf mdfIdentification.isAscii mdfIdentification.versionIn
-    mdfIdentification.identified mdfName.textIn mdfName.nameAt mdfRecords.rangesIn mdfRecords.joined mdfRecords.placeOf mdfRecords.anyDV
-    mdfRecords.inFront mdfRecords.runs mdfRecords.sizeOf mdfRecords.runWhole mdfRecords.runsWhole mdfRecords.pieces mdfRecords.withoutIds
-    mdfRecords.runRecords mdfRecords.sortedRecords mdfRecords.sortedIn mdfRecords.withId mdfRecords.ofBytes mdfRecords.frameOf mdfRecords.frameAt
-    mdfRecords.framesFrom mdfRecords.frames mdfRecords.isIdOf mdfRecords.equalIds mdfRecords.unsortedFrames mdfRecords.unsortedRecords mdfWalk.isMet
-    mdfWalk.tally mdfWalk.visit mdfWalk.entered mdfWalk.level mdfWalk.belowCN mdfWalk.belowCG mdfWalk.idSize mdfWalk.idSizeIn mdfWalk.belowDG
-    mdfWalk.walkOf planChannel.channelType planChannel.bitOffset planChannel.byteOffset planChannel.bitCount planChannel.channelFlags
-    planChannel.invalPosition planChannel.channelBytes planChannel.fits planChannel.isMasterType planChannel.keepsInval planChannel.width
-    planChannel.invalBit planChannel.treatment planColumns.withCounts planColumns.srcGroups planColumns.firstMaster planColumns.masterOf
-    planColumns.remoteLink planColumns.groupAt planColumns.remoteTime planColumns.timeOf planColumns.timeColumn planColumns.withTime
-    planColumns.decideSignal planColumns.decideComposition planColumns.decide planColumns.planChannels planColumns.planGroup planColumns.planGroups
-    planColumns.plan planColumns.omissionAddresses planColumns.omissionReasons planColumns.omissionWords planCopies.copyOf planCopies.withCopy
-    planCopies.isCopied planCopies.lostLinks planCopies.copyLinks planCopies.copyAt planCopies.copyRoot planCopies.copyRoots planCopies.historyFrom
-    planCopies.historyOf planCopies.columnCopies planCopies.isAttached planCopies.attachmentIn planCopies.attach planCopies.attachmentsFrom
-    planCopies.attachmentsOf planData.isNonempty planData.anyNonempty planData.signalsIn planData.dataIn planData.allDataIn planData.blocksIn
-    planGeometry.align8 planGeometry.powerIn planGeometry.stepOf planGeometry.perBlock planGeometry.fullPayload planGeometry.blockCount
-    planGeometry.perFull planGeometry.blockPayload planLayout.columnWidth planLayout.columnBlocks planLayout.dlSize planLayout.structureSize
-    planLayout.payloadSize planLayout.blocksEnd planLayout.placedFrom planLayout.structureEnd planLayout.dataEnd planLayout.mdSize
-    planLayout.pastCopies planLayout.fhPlace planLayout.layout resultFill.header resultFill.words resultFill.newLink
-    resultFill.newLinks resultFill.historyLink resultFill.copiedLinks resultFill.dataOf resultFill.copiedBytes resultFill.copiedBlocks
-    resultFill.mdBytes resultFill.fhBytes resultFill.dgBytes resultFill.cgAt resultFill.cgData resultFill.cgBytes resultFill.cnData
-    resultFill.cnBytes resultFill.blockLinks resultFill.columnPayload resultFill.dlBytes resultFill.dlBlocks resultFill.structureBlocks
-    resultFill.blockOf resultFill.payloadBlocks resultFill.dataBlocks resultFill.atBytes resultFill.attachmentBlocks resultFill.hdData
-    resultFill.hdBytes resultPayload.recordsOf resultPayload.cell resultPayload.cells resultPayload.payloads resultPayload.columnPayloads
-    resultResult.hdBlock resultResult.blocksOf resultResult.flat resultResult.fileOf resultResult.sourceGroupsOf resultResult.timeColumns
-    resultResult.blocksWritten resultResult.report resultResult.lentIn resultResult.decided resultResult.answer resultResult.workIn
-    resultResult.zeros resultResult.convert columnsOf leadsTo reasonFor
+unfolding evaluated
 times-each os n p f l g = untrue (g .kinded _ (there here) .typed)
 
 -- ---- a recording of which only each group's first channel is looked at: the walk met another
@@ -255,44 +140,29 @@ not-first : (a : ℕ) (g : planColumns.SrcGroup) (b : ℕ) → g .channels ≡ b
 not-first a g b e n h here i = n (in-single b a (subst (In a) e i))
 
 pub loses-channels : LosesChannels (resultResult.decided args)
-unfolding
-    baseBlit.part baseBlit.blit baseChoice.ifLt baseChoice.ifLe baseChoice.ifEq baseField.leAt baseField.le mdfBlock.kindAt mdfBlock.sizeAt
-    mdfBlock.linksAt mdfBlock.linkAt mdfBlock.firstLink mdfBlock.dataAt mdfBlock.headerIn mdfBlock.lengthIn mdfBlock.wholeAt mdfBlock.wantedAt
-    mdfBlock.blockAt mdfChain.leafOf mdfChain.added mdfChain.fragmentAt mdfChain.listed mdfChain.isIn mdfChain.listIn mdfChain.chainFrom
-    mdfChain.chain mdfCount.sizeDT mdfCount.sizeDV mdfCount.quotient mdfCount.sortedCount mdfCount.countOne mdfCount.ofGroup mdfCount.tallies
-    mdfCount.countGroups mdfCount.countsFrom mdfCount.counts mdfGroup.addresses mdfGroup.channelsOf mdfGroup.groupsOf mdfGroup.upTo
-    mdfGroup.dataGroupsOf mdfGroup.dataGroups mdfGroup.recordId mdfGroup.groupFlags mdfGroup.samples mdfGroup.invalBytes mdfGroup.isStorage
-    mdfIdentification.dropWhile mdfIdentification.trimmed mdfIdentification.firstPart mdfIdentification.pastDot mdfIdentification.digitsFrom
-    mdfIdentification.digits mdfIdentification.number mdfIdentification.versionOf mdfIdentification.isAscii mdfIdentification.versionIn
-    mdfIdentification.identified mdfName.textIn mdfName.nameAt mdfRecords.rangesIn mdfRecords.joined mdfRecords.placeOf mdfRecords.anyDV
-    mdfRecords.inFront mdfRecords.runs mdfRecords.sizeOf mdfRecords.runWhole mdfRecords.runsWhole mdfRecords.pieces mdfRecords.withoutIds
-    mdfRecords.runRecords mdfRecords.sortedRecords mdfRecords.sortedIn mdfRecords.withId mdfRecords.ofBytes mdfRecords.frameOf mdfRecords.frameAt
-    mdfRecords.framesFrom mdfRecords.frames mdfRecords.isIdOf mdfRecords.equalIds mdfRecords.unsortedFrames mdfRecords.unsortedRecords mdfWalk.isMet
-    mdfWalk.tally mdfWalk.visit mdfWalk.entered mdfWalk.level mdfWalk.belowCN mdfWalk.belowCG mdfWalk.idSize mdfWalk.idSizeIn mdfWalk.belowDG
-    mdfWalk.walkOf planChannel.channelType planChannel.bitOffset planChannel.byteOffset planChannel.bitCount planChannel.channelFlags
-    planChannel.invalPosition planChannel.channelBytes planChannel.fits planChannel.isMasterType planChannel.keepsInval planChannel.width
-    planChannel.invalBit planChannel.treatment planColumns.withCounts planColumns.srcGroups planColumns.firstMaster planColumns.masterOf
-    planColumns.remoteLink planColumns.groupAt planColumns.remoteTime planColumns.timeOf planColumns.timeColumn planColumns.withTime
-    planColumns.decideSignal planColumns.decideComposition planColumns.decide planColumns.planChannels planColumns.planGroup planColumns.planGroups
-    planColumns.plan planColumns.omissionAddresses planColumns.omissionReasons planColumns.omissionWords planCopies.copyOf planCopies.withCopy
-    planCopies.isCopied planCopies.lostLinks planCopies.copyLinks planCopies.copyAt planCopies.copyRoot planCopies.copyRoots planCopies.historyFrom
-    planCopies.historyOf planCopies.columnCopies planCopies.isAttached planCopies.attachmentIn planCopies.attach planCopies.attachmentsFrom
-    planCopies.attachmentsOf planData.isNonempty planData.anyNonempty planData.signalsIn planData.dataIn planData.allDataIn planData.blocksIn
-    planGeometry.align8 planGeometry.powerIn planGeometry.stepOf planGeometry.perBlock planGeometry.fullPayload planGeometry.blockCount
-    planGeometry.perFull planGeometry.blockPayload planLayout.columnWidth planLayout.columnBlocks planLayout.dlSize planLayout.structureSize
-    planLayout.payloadSize planLayout.blocksEnd planLayout.placedFrom planLayout.structureEnd planLayout.dataEnd planLayout.mdSize
-    planLayout.pastCopies planLayout.fhPlace planLayout.layout resultFill.header resultFill.words resultFill.newLink
-    resultFill.newLinks resultFill.historyLink resultFill.copiedLinks resultFill.dataOf resultFill.copiedBytes resultFill.copiedBlocks
-    resultFill.mdBytes resultFill.fhBytes resultFill.dgBytes resultFill.cgAt resultFill.cgData resultFill.cgBytes resultFill.cnData
-    resultFill.cnBytes resultFill.blockLinks resultFill.columnPayload resultFill.dlBytes resultFill.dlBlocks resultFill.structureBlocks
-    resultFill.blockOf resultFill.payloadBlocks resultFill.dataBlocks resultFill.atBytes resultFill.attachmentBlocks resultFill.hdData
-    resultFill.hdBytes resultPayload.recordsOf resultPayload.cell resultPayload.cells resultPayload.payloads resultPayload.columnPayloads
-    resultResult.hdBlock resultResult.blocksOf resultResult.flat resultResult.fileOf resultResult.sourceGroupsOf resultResult.timeColumns
-    resultResult.blocksWritten resultResult.report resultResult.lentIn resultResult.decided resultResult.answer resultResult.workIn
-    resultResult.zeros resultResult.convert columnsOf leadsTo reasonFor
+unfolding evaluated
 loses-channels q p f l g =
     let r = g .met _ refl .channels 336 (there (there (there here))) in
     not-first 336 _ 496 refl (λ e. omega (arith, e)) (r .0) (r .1) (r .2)
+
+-- ---- a recording whose last group is not looked at: the walk met its CG
+abbrev allButLast : List planColumns.SrcGroup → List planColumns.SrcGroup
+allButLast [] = []
+allButLast (g ∷ []) = []
+allButLast (g ∷ h ∷ gs) = g ∷ allButLast (h ∷ gs)
+
+abbrev pub LosesGroups : baseChecked.Checked resultResult.Decided → Type 0
+LosesGroups (baseChecked.ok d) =
+    (q : planColumns.Plan) (p : planLayout.Layout) (f l : List ℕ)
+    → Guaranteed args (record { groups = allButLast (d .groups); planned = q; laidOut = p }) f l → ⊥
+LosesGroups (baseChecked.refused number place) = ⊥
+
+pub in-none : {A : Type 0} (a : A) → In a [] → ⊥
+in-none a = elim [ ]
+
+pub loses-groups : LosesGroups (resultResult.decided args)
+unfolding evaluated
+loses-groups q p f l g = let r = g .met _ refl .groups 656 (there here) in in-none (r .0) (r .1)
 
 -- ---- "one that omits each channel": the signal has no reason to be omitted, whatever is listed, placed and written
 
@@ -332,41 +202,7 @@ OmitsEach (baseChecked.ok d) =
 OmitsEach (baseChecked.refused number place) = ⊥
 
 pub omits-each : OmitsEach (resultResult.decided args)
-unfolding
-    baseBlit.part baseBlit.blit baseChoice.ifLt baseChoice.ifLe baseChoice.ifEq baseField.leAt baseField.le mdfBlock.kindAt mdfBlock.sizeAt
-    mdfBlock.linksAt mdfBlock.linkAt mdfBlock.firstLink mdfBlock.dataAt mdfBlock.headerIn mdfBlock.lengthIn mdfBlock.wholeAt mdfBlock.wantedAt
-    mdfBlock.blockAt mdfChain.leafOf mdfChain.added mdfChain.fragmentAt mdfChain.listed mdfChain.isIn mdfChain.listIn mdfChain.chainFrom
-    mdfChain.chain mdfCount.sizeDT mdfCount.sizeDV mdfCount.quotient mdfCount.sortedCount mdfCount.countOne mdfCount.ofGroup mdfCount.tallies
-    mdfCount.countGroups mdfCount.countsFrom mdfCount.counts mdfGroup.addresses mdfGroup.channelsOf mdfGroup.groupsOf mdfGroup.upTo
-    mdfGroup.dataGroupsOf mdfGroup.dataGroups mdfGroup.recordId mdfGroup.groupFlags mdfGroup.samples mdfGroup.invalBytes mdfGroup.isStorage
-    mdfIdentification.dropWhile mdfIdentification.trimmed mdfIdentification.firstPart mdfIdentification.pastDot mdfIdentification.digitsFrom
-    mdfIdentification.digits mdfIdentification.number mdfIdentification.versionOf mdfIdentification.isAscii mdfIdentification.versionIn
-    mdfIdentification.identified mdfName.textIn mdfName.nameAt mdfRecords.rangesIn mdfRecords.joined mdfRecords.placeOf mdfRecords.anyDV
-    mdfRecords.inFront mdfRecords.runs mdfRecords.sizeOf mdfRecords.runWhole mdfRecords.runsWhole mdfRecords.pieces mdfRecords.withoutIds
-    mdfRecords.runRecords mdfRecords.sortedRecords mdfRecords.sortedIn mdfRecords.withId mdfRecords.ofBytes mdfRecords.frameOf mdfRecords.frameAt
-    mdfRecords.framesFrom mdfRecords.frames mdfRecords.isIdOf mdfRecords.equalIds mdfRecords.unsortedFrames mdfRecords.unsortedRecords mdfWalk.isMet
-    mdfWalk.tally mdfWalk.visit mdfWalk.entered mdfWalk.level mdfWalk.belowCN mdfWalk.belowCG mdfWalk.idSize mdfWalk.idSizeIn mdfWalk.belowDG
-    mdfWalk.walkOf planChannel.channelType planChannel.bitOffset planChannel.byteOffset planChannel.bitCount planChannel.channelFlags
-    planChannel.invalPosition planChannel.channelBytes planChannel.fits planChannel.isMasterType planChannel.keepsInval planChannel.width
-    planChannel.invalBit planChannel.treatment planColumns.withCounts planColumns.srcGroups planColumns.firstMaster planColumns.masterOf
-    planColumns.remoteLink planColumns.groupAt planColumns.remoteTime planColumns.timeOf planColumns.timeColumn planColumns.withTime
-    planColumns.decideSignal planColumns.decideComposition planColumns.decide planColumns.planChannels planColumns.planGroup planColumns.planGroups
-    planColumns.plan planColumns.omissionAddresses planColumns.omissionReasons planColumns.omissionWords planCopies.copyOf planCopies.withCopy
-    planCopies.isCopied planCopies.lostLinks planCopies.copyLinks planCopies.copyAt planCopies.copyRoot planCopies.copyRoots planCopies.historyFrom
-    planCopies.historyOf planCopies.columnCopies planCopies.isAttached planCopies.attachmentIn planCopies.attach planCopies.attachmentsFrom
-    planCopies.attachmentsOf planData.isNonempty planData.anyNonempty planData.signalsIn planData.dataIn planData.allDataIn planData.blocksIn
-    planGeometry.align8 planGeometry.powerIn planGeometry.stepOf planGeometry.perBlock planGeometry.fullPayload planGeometry.blockCount
-    planGeometry.perFull planGeometry.blockPayload planLayout.columnWidth planLayout.columnBlocks planLayout.dlSize planLayout.structureSize
-    planLayout.payloadSize planLayout.blocksEnd planLayout.placedFrom planLayout.structureEnd planLayout.dataEnd planLayout.mdSize
-    planLayout.pastCopies planLayout.fhPlace planLayout.layout resultFill.header resultFill.words resultFill.newLink
-    resultFill.newLinks resultFill.historyLink resultFill.copiedLinks resultFill.dataOf resultFill.copiedBytes resultFill.copiedBlocks
-    resultFill.mdBytes resultFill.fhBytes resultFill.dgBytes resultFill.cgAt resultFill.cgData resultFill.cgBytes resultFill.cnData
-    resultFill.cnBytes resultFill.blockLinks resultFill.columnPayload resultFill.dlBytes resultFill.dlBlocks resultFill.structureBlocks
-    resultFill.blockOf resultFill.payloadBlocks resultFill.dataBlocks resultFill.atBytes resultFill.attachmentBlocks resultFill.hdData
-    resultFill.hdBytes resultPayload.recordsOf resultPayload.cell resultPayload.cells resultPayload.payloads resultPayload.columnPayloads
-    resultResult.hdBlock resultResult.blocksOf resultResult.flat resultResult.fileOf resultResult.sourceGroupsOf resultResult.timeColumns
-    resultResult.blocksWritten resultResult.report resultResult.lentIn resultResult.decided resultResult.answer resultResult.workIn
-    resultResult.zeros resultResult.convert columnsOf leadsTo reasonFor
+unfolding evaluated columnsOf leadsTo reasonFor
 omits-each os n p f l g =
     let r = about 336 os (omega (arith, g .once _ here refl 336 (there here))) in
     no-reason _ (r .omission) (λ h i. one-at _ h i) (r .isAt) refl (g .omitted (r .omission) (r .isIn))
@@ -382,41 +218,7 @@ place-same : {n p q : ℕ} → _≡_ {A = baseChecked.Checked resultResult.Decid
 place-same e = cc
 
 pub answers : Answers
-unfolding
-    baseBlit.part baseBlit.blit baseChoice.ifLt baseChoice.ifLe baseChoice.ifEq baseField.leAt baseField.le mdfBlock.kindAt mdfBlock.sizeAt
-    mdfBlock.linksAt mdfBlock.linkAt mdfBlock.firstLink mdfBlock.dataAt mdfBlock.headerIn mdfBlock.lengthIn mdfBlock.wholeAt mdfBlock.wantedAt
-    mdfBlock.blockAt mdfChain.leafOf mdfChain.added mdfChain.fragmentAt mdfChain.listed mdfChain.isIn mdfChain.listIn mdfChain.chainFrom
-    mdfChain.chain mdfCount.sizeDT mdfCount.sizeDV mdfCount.quotient mdfCount.sortedCount mdfCount.countOne mdfCount.ofGroup mdfCount.tallies
-    mdfCount.countGroups mdfCount.countsFrom mdfCount.counts mdfGroup.addresses mdfGroup.channelsOf mdfGroup.groupsOf mdfGroup.upTo
-    mdfGroup.dataGroupsOf mdfGroup.dataGroups mdfGroup.recordId mdfGroup.groupFlags mdfGroup.samples mdfGroup.invalBytes mdfGroup.isStorage
-    mdfIdentification.dropWhile mdfIdentification.trimmed mdfIdentification.firstPart mdfIdentification.pastDot mdfIdentification.digitsFrom
-    mdfIdentification.digits mdfIdentification.number mdfIdentification.versionOf mdfIdentification.isAscii mdfIdentification.versionIn
-    mdfIdentification.identified mdfName.textIn mdfName.nameAt mdfRecords.rangesIn mdfRecords.joined mdfRecords.placeOf mdfRecords.anyDV
-    mdfRecords.inFront mdfRecords.runs mdfRecords.sizeOf mdfRecords.runWhole mdfRecords.runsWhole mdfRecords.pieces mdfRecords.withoutIds
-    mdfRecords.runRecords mdfRecords.sortedRecords mdfRecords.sortedIn mdfRecords.withId mdfRecords.ofBytes mdfRecords.frameOf mdfRecords.frameAt
-    mdfRecords.framesFrom mdfRecords.frames mdfRecords.isIdOf mdfRecords.equalIds mdfRecords.unsortedFrames mdfRecords.unsortedRecords mdfWalk.isMet
-    mdfWalk.tally mdfWalk.visit mdfWalk.entered mdfWalk.level mdfWalk.belowCN mdfWalk.belowCG mdfWalk.idSize mdfWalk.idSizeIn mdfWalk.belowDG
-    mdfWalk.walkOf planChannel.channelType planChannel.bitOffset planChannel.byteOffset planChannel.bitCount planChannel.channelFlags
-    planChannel.invalPosition planChannel.channelBytes planChannel.fits planChannel.isMasterType planChannel.keepsInval planChannel.width
-    planChannel.invalBit planChannel.treatment planColumns.withCounts planColumns.srcGroups planColumns.firstMaster planColumns.masterOf
-    planColumns.remoteLink planColumns.groupAt planColumns.remoteTime planColumns.timeOf planColumns.timeColumn planColumns.withTime
-    planColumns.decideSignal planColumns.decideComposition planColumns.decide planColumns.planChannels planColumns.planGroup planColumns.planGroups
-    planColumns.plan planColumns.omissionAddresses planColumns.omissionReasons planColumns.omissionWords planCopies.copyOf planCopies.withCopy
-    planCopies.isCopied planCopies.lostLinks planCopies.copyLinks planCopies.copyAt planCopies.copyRoot planCopies.copyRoots planCopies.historyFrom
-    planCopies.historyOf planCopies.columnCopies planCopies.isAttached planCopies.attachmentIn planCopies.attach planCopies.attachmentsFrom
-    planCopies.attachmentsOf planData.isNonempty planData.anyNonempty planData.signalsIn planData.dataIn planData.allDataIn planData.blocksIn
-    planGeometry.align8 planGeometry.powerIn planGeometry.stepOf planGeometry.perBlock planGeometry.fullPayload planGeometry.blockCount
-    planGeometry.perFull planGeometry.blockPayload planLayout.columnWidth planLayout.columnBlocks planLayout.dlSize planLayout.structureSize
-    planLayout.payloadSize planLayout.blocksEnd planLayout.placedFrom planLayout.structureEnd planLayout.dataEnd planLayout.mdSize
-    planLayout.pastCopies planLayout.fhPlace planLayout.layout resultFill.header resultFill.words resultFill.newLink
-    resultFill.newLinks resultFill.historyLink resultFill.copiedLinks resultFill.dataOf resultFill.copiedBytes resultFill.copiedBlocks
-    resultFill.mdBytes resultFill.fhBytes resultFill.dgBytes resultFill.cgAt resultFill.cgData resultFill.cgBytes resultFill.cnData
-    resultFill.cnBytes resultFill.blockLinks resultFill.columnPayload resultFill.dlBytes resultFill.dlBlocks resultFill.structureBlocks
-    resultFill.blockOf resultFill.payloadBlocks resultFill.dataBlocks resultFill.atBytes resultFill.attachmentBlocks resultFill.hdData
-    resultFill.hdBytes resultPayload.recordsOf resultPayload.cell resultPayload.cells resultPayload.payloads resultPayload.columnPayloads
-    resultResult.hdBlock resultResult.blocksOf resultResult.flat resultResult.fileOf resultResult.sourceGroupsOf resultResult.timeColumns
-    resultResult.blocksWritten resultResult.report resultResult.lentIn resultResult.decided resultResult.answer resultResult.workIn
-    resultResult.zeros resultResult.convert
+unfolding evaluated
 answers = (
   λ number place e. refused≢ok (sym e),
   λ place e. sym (place-same e),

@@ -1,31 +1,19 @@
 -- The starred cases of document 01, as one table about the definitions: payloads, versions, and the worked example of `columns`.
 use Prim.Native.Nat.{ℕ}
-use mathlib.Core.List.{List, [], _∷_, _++_}
+use mathlib.Core.List.{List, [], _∷_}
 use mathlib.Core.Path.{_≡_, refl}
-use mathlib.Core.Option.{Option, none, some}
 use lib.ListN.{replicate, length}
-use Rattle.base.specs.Blit as baseBlit
 use Rattle.base.specs.Checked as baseChecked
-use Rattle.base.specs.Choice as baseChoice
 use Rattle.base.specs.Field as baseField
 use Rattle.mdf.specs.Block as mdfBlock
-use Rattle.mdf.specs.Chain as mdfChain
-use Rattle.mdf.specs.Count as mdfCount
-use Rattle.mdf.specs.Group as mdfGroup
 use Rattle.mdf.specs.Identification as mdfIdentification
-use Rattle.mdf.specs.Name as mdfName
-use Rattle.mdf.specs.Records as mdfRecords
-use Rattle.mdf.specs.Walk as mdfWalk
-use Rattle.plan.specs.Channel as planChannel
 use Rattle.plan.specs.Columns as planColumns
 use Rattle.plan.specs.Copies as planCopies
-use Rattle.plan.specs.Data as planData
 use Rattle.plan.specs.Geometry as planGeometry
 use Rattle.plan.specs.Layout as planLayout
-use Rattle.result.specs.Fill as resultFill
 use Rattle.result.specs.Listing as resultListing
-use Rattle.result.specs.Payload as resultPayload
 use Rattle.result.specs.Result as resultResult
+use Rattle.cases.specs.Evaluated.{evaluated}
 
 -- "Width and block size to full payload*: 1, 100: 96. 3, 10: 24. 12, 20: 24. 3, 4194304: 4194288."
 abbrev pub Payloads : Type 0
@@ -44,6 +32,26 @@ Versions =
     × (mdfIdentification.versionIn (52 ∷ 46 ∷ 49 ∷ 0 ∷ 0 ∷ 0 ∷ 0 ∷ 0 ∷ []) ≡ baseChecked.refused 7 0)
     × (mdfIdentification.versionOf (mdfIdentification.trimmed (53 ∷ 32 ∷ 32 ∷ 32 ∷ 32 ∷ 32 ∷ 32 ∷ 32 ∷ [])) ≡ mdfIdentification.value 500)
     × (mdfIdentification.versionOf (mdfIdentification.trimmed (52 ∷ 46 ∷ 43 ∷ 50 ∷ 48 ∷ 32 ∷ 32 ∷ 32 ∷ [])) ≡ mdfIdentification.value 420)
+
+-- kinds are their letters: the four bytes of each block's kind
+abbrev pub Kinds : Type 0
+Kinds =
+    (baseField.le 4 mdfBlock.kindHD ≡ 35 ∷ 35 ∷ 72 ∷ 68 ∷ [])
+    × (baseField.le 4 mdfBlock.kindDG ≡ 35 ∷ 35 ∷ 68 ∷ 71 ∷ [])
+    × (baseField.le 4 mdfBlock.kindCG ≡ 35 ∷ 35 ∷ 67 ∷ 71 ∷ [])
+    × (baseField.le 4 mdfBlock.kindCN ≡ 35 ∷ 35 ∷ 67 ∷ 78 ∷ [])
+    × (baseField.le 4 mdfBlock.kindDT ≡ 35 ∷ 35 ∷ 68 ∷ 84 ∷ [])
+    × (baseField.le 4 mdfBlock.kindDV ≡ 35 ∷ 35 ∷ 68 ∷ 86 ∷ [])
+    × (baseField.le 4 mdfBlock.kindDL ≡ 35 ∷ 35 ∷ 68 ∷ 76 ∷ [])
+    × (baseField.le 4 mdfBlock.kindHL ≡ 35 ∷ 35 ∷ 72 ∷ 76 ∷ [])
+    × (baseField.le 4 mdfBlock.kindSD ≡ 35 ∷ 35 ∷ 83 ∷ 68 ∷ [])
+    × (baseField.le 4 mdfBlock.kindTX ≡ 35 ∷ 35 ∷ 84 ∷ 88 ∷ [])
+    × (baseField.le 4 mdfBlock.kindMD ≡ 35 ∷ 35 ∷ 77 ∷ 68 ∷ [])
+    × (baseField.le 4 planColumns.kindCA ≡ 35 ∷ 35 ∷ 67 ∷ 65 ∷ [])
+    × (baseField.le 4 planCopies.kindCC ≡ 35 ∷ 35 ∷ 67 ∷ 67 ∷ [])
+    × (baseField.le 4 planCopies.kindSI ≡ 35 ∷ 35 ∷ 83 ∷ 73 ∷ [])
+    × (baseField.le 4 planCopies.kindFH ≡ 35 ∷ 35 ∷ 70 ∷ 72 ∷ [])
+    × (baseField.le 4 planCopies.kindAT ≡ 35 ∷ 35 ∷ 65 ∷ 84 ∷ [])
 
 -- one group with samples 6, one invalidation byte, 20 records, a 32-bit master at byte 0, a 16-bit signal at byte 4 with a kept bit
 abbrev pub image : List ℕ
@@ -98,40 +106,11 @@ Worked =
     [])
     × (seen args (resultResult.decided args) ≡ 1048 ∷ 1288 ∷ 1288 ∷ 1048 ∷ 1176 ∷ [])
 
-pub starred : Payloads × Versions × Worked
-unfolding
-    baseBlit.part baseBlit.blit baseChoice.ifLt baseChoice.ifLe baseChoice.ifEq baseField.leAt baseField.le mdfBlock.kindAt mdfBlock.sizeAt
-    mdfBlock.linksAt mdfBlock.linkAt mdfBlock.firstLink mdfBlock.dataAt mdfBlock.headerIn mdfBlock.lengthIn mdfBlock.wholeAt mdfBlock.wantedAt
-    mdfBlock.blockAt mdfChain.leafOf mdfChain.added mdfChain.fragmentAt mdfChain.listed mdfChain.isIn mdfChain.listIn mdfChain.chainFrom mdfChain.chain
-    mdfCount.sizeDT mdfCount.sizeDV mdfCount.quotient mdfCount.sortedCount mdfCount.countOne mdfCount.ofGroup mdfCount.tallies mdfCount.countGroups
-    mdfCount.countsFrom mdfCount.counts mdfGroup.addresses mdfGroup.channelsOf mdfGroup.groupsOf mdfGroup.upTo mdfGroup.dataGroupsOf
-    mdfGroup.dataGroups mdfGroup.recordId mdfGroup.groupFlags mdfGroup.samples mdfGroup.invalBytes mdfGroup.isStorage mdfIdentification.dropWhile
-    mdfIdentification.trimmed mdfIdentification.firstPart mdfIdentification.pastDot mdfIdentification.digitsFrom mdfIdentification.digits
-    mdfIdentification.number mdfIdentification.versionOf mdfIdentification.isAscii mdfIdentification.versionIn mdfIdentification.identified
-    mdfName.textIn mdfName.nameAt mdfRecords.rangesIn mdfRecords.joined mdfRecords.placeOf mdfRecords.anyDV mdfRecords.inFront mdfRecords.runs
-    mdfRecords.sizeOf mdfRecords.runWhole mdfRecords.runsWhole mdfRecords.pieces mdfRecords.withoutIds mdfRecords.runRecords mdfRecords.sortedRecords
-    mdfRecords.sortedIn mdfRecords.withId mdfRecords.ofBytes mdfRecords.frameOf mdfRecords.frameAt mdfRecords.framesFrom mdfRecords.frames
-    mdfRecords.isIdOf mdfRecords.equalIds mdfRecords.unsortedFrames mdfRecords.unsortedRecords mdfWalk.isMet mdfWalk.tally mdfWalk.visit
-    mdfWalk.entered mdfWalk.level mdfWalk.belowCN mdfWalk.belowCG mdfWalk.idSize mdfWalk.idSizeIn mdfWalk.belowDG mdfWalk.walkOf planChannel.channelType
-    planChannel.bitOffset planChannel.byteOffset planChannel.bitCount planChannel.channelFlags planChannel.invalPosition planChannel.channelBytes
-    planChannel.fits planChannel.isMasterType planChannel.keepsInval planChannel.width planChannel.invalBit planChannel.treatment
-    planColumns.withCounts planColumns.srcGroups planColumns.firstMaster planColumns.masterOf planColumns.remoteLink planColumns.groupAt
-    planColumns.remoteTime planColumns.timeOf planColumns.timeColumn planColumns.withTime planColumns.decideSignal planColumns.decideComposition
-    planColumns.decide planColumns.planChannels planColumns.planGroup planColumns.planGroups planColumns.plan planColumns.omissionAddresses
-    planColumns.omissionReasons planColumns.omissionWords planCopies.copyOf planCopies.withCopy planCopies.isCopied planCopies.lostLinks
-    planCopies.copyLinks planCopies.copyAt planCopies.copyRoot planCopies.copyRoots planCopies.historyFrom planCopies.historyOf planCopies.columnCopies
-    planCopies.isAttached planCopies.attachmentIn planCopies.attach planCopies.attachmentsFrom planCopies.attachmentsOf planData.isNonempty
-    planData.anyNonempty planData.signalsIn planData.dataIn planData.allDataIn planData.blocksIn planGeometry.align8 planGeometry.powerIn
-    planGeometry.stepOf planGeometry.perBlock planGeometry.fullPayload planGeometry.blockCount planGeometry.perFull planGeometry.blockPayload
-    planLayout.columnWidth planLayout.columnBlocks planLayout.dlSize planLayout.structureSize planLayout.payloadSize planLayout.blocksEnd
-    planLayout.placedFrom planLayout.structureEnd planLayout.dataEnd planLayout.mdSize planLayout.pastCopies planLayout.fhPlace
-    planLayout.layout resultFill.header resultFill.words resultFill.newLink resultFill.newLinks resultFill.historyLink resultFill.copiedLinks
-    resultFill.dataOf resultFill.copiedBytes resultFill.copiedBlocks resultFill.mdBytes resultFill.fhBytes resultFill.dgBytes resultFill.cgAt
-    resultFill.cgData resultFill.cgBytes resultFill.cnData resultFill.cnBytes resultFill.blockLinks resultFill.columnPayload resultFill.dlBytes
-    resultFill.dlBlocks resultFill.structureBlocks resultFill.blockOf resultFill.payloadBlocks resultFill.dataBlocks resultFill.atBytes
-    resultFill.attachmentBlocks resultFill.hdData resultFill.hdBytes resultListing.digitsOf resultListing.decimal resultListing.columnLine
-    resultListing.columnLines resultListing.omissionLines resultListing.planLines resultPayload.recordsOf resultPayload.cell resultPayload.cells
-    resultPayload.payloads resultPayload.columnPayloads resultResult.hdBlock resultResult.blocksOf resultResult.flat resultResult.fileOf
-    resultResult.sourceGroupsOf resultResult.timeColumns resultResult.blocksWritten resultResult.report resultResult.lentIn resultResult.decided
-    resultResult.answer resultResult.workIn resultResult.zeros resultResult.convert
-starred = ((refl, refl, refl, refl), (refl, refl, refl, refl, refl, refl), (refl, refl))
+pub starred : Payloads × Versions × Kinds × Worked
+unfolding evaluated
+starred = (
+  (refl, refl, refl, refl),
+  (refl, refl, refl, refl, refl, refl),
+  (refl, refl, refl, refl, refl, refl, refl, refl, refl, refl, refl, refl, refl, refl, refl, refl),
+  (refl, refl),
+)

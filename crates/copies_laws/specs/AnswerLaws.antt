@@ -4,13 +4,12 @@ use Prim.Native.Nat.{ℕ, _+_, _*_, _≤_}
 use mathlib.Core.List.{List}
 use mathlib.Core.Path.{_≡_, refl, subst, _∙_}
 use mathlib.Core.Bool.{Bool, true, false}
-use native.Mathlib.Omega.{arith}
 use lib.ListN.{length}
 use lib.Dec.{eqb}
 use borrow.Author.Tests.{eqb-true, eqb-false}
 use Rattle.base.specs.Choice.{pick, ifEq}
 use Rattle.base.specs.ChoiceLaws.{eq-yes, eq-no, lt-back}
-use Rattle.base.specs.Checked.{Checked, ok, refused, andThen}
+use Rattle.base.specs.Checked.{ok}
 use Rattle.mdf.specs.Block.{sizeAt, linksAt, headerIn, lengthIn, mostBytes, wholeAt}
 pub use Rattle.base.specs.CheckedLaws.{refused≢ok, ok-same, then-ok}
 

@@ -4,18 +4,16 @@ use mathlib.Core.List.{List, _++_}
 use mathlib.Core.Option.{Option, none, some}
 use mathlib.Core.Path.{_≡_, refl}
 use native.Mathlib.Omega.{arith}
-use lib.ListN.{length, take, drop, replicate, length-append, length-drop, length-replicate}
+use lib.ListN.{length, take, replicate, length-append, length-replicate}
 use lib.Seq.{length-take-le}
 use Rattle.base.specs.ChoiceLaws.{eq-no}
 use Rattle.base.specs.FieldLaws.{length-le}
-use Rattle.base.specs.Blit.{part}
 use Rattle.mdf.specs.Block.{sizeAt, linksAt, dataAt}
 use Rattle.plan.specs.Columns.{Column}
 use Rattle.plan.specs.Geometry.{align8}
 use Rattle.plan.specs.Copies.{Copy}
 use Rattle.plan.specs.Layout.{columnBlocks, cgSize, dlSize, Placed, mdSize}
 use Rattle.result.specs.Fill.{
-  header,
   newLinks,
   copiedLinks,
   dataOf,

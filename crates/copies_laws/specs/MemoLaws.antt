@@ -5,7 +5,6 @@ use mathlib.Core.List.{List, [], _∷_, _++_, append-nil}
 use mathlib.Core.Option.{Option, none, some}
 use mathlib.Core.Bool.{Bool, true, false, false≢true}
 use mathlib.Core.Path.{_≡_, refl, sym, ap, _∙_, subst}
-use mathlib.Core.Logic.{_⊎_, inl, inr}
 use native.Mathlib.Omega.{arith}
 use lib.Dec.{eqb}
 use lib.ListN.{length}
@@ -146,7 +145,7 @@ kept-same s e = rw (← e) (record { found = λ a t q. q; made = λ f. f })
 pub kept-then : {s : List ℕ} {m n o : List Copy} → Kept s m n → Kept s n o → Kept s m o
 kept-then f g = record { found = λ a t q. g .found a t (f .found a t q); made = λ h. g .made (f .made h) }
 
-in-last : (P : Copy → Type 0) (m : List Copy) (x : Copy) → ((c : Copy) → In c m → P c) → P x → (c : Copy) → In c (m ++ (x ∷ [])) → P c
+in-last : {A : Type 0} (P : A → Type 0) (m : List A) (x : A) → ((c : A) → In c m → P c) → P x → (c : A) → In c (m ++ (x ∷ [])) → P c
 in-last P [] x f g c here = g
 in-last P (b ∷ m) x f g c here = f b here
 in-last P (b ∷ m) x f g c (there i) = in-last P m x (λ d j. f d (there j)) g c i
@@ -381,3 +380,42 @@ attachments-kept (suc turns) s a t t' e =
 pub attached-kept : (s : List ℕ) (a : ℕ) (m : Copies) (t : Attached) → attachmentsOf s a m ≡ ok t → Kept s (m .memo) (t .made .memo)
 unfolding attachmentsOf
 attached-kept s a m t e = attachments-kept (mostAttachments + 2) s a (record { attachments = []; made = m }) t e
+
+-- what the links of an AT from the second on lead to is copied
+abbrev pub OtherLinks : List ℕ → List Copy → ℕ → Type 0
+OtherLinks s memo a = (i : ℕ) → suc i < linksAt s a → Followed s memo (linkAt s a (suc i))
+
+-- of every attachment
+abbrev AllOther : List ℕ → Attached → Type 0
+AllOther s t = (u : Attachment) → In u (t .attachments) → OtherLinks s (t .made .memo) (u .from)
+
+-- one AT more, with the copies m made for it
+other-more : (s : List ℕ) (a : ℕ) (t : Attached) (m : Copies) → Kept s (t .made .memo) (m .memo)
+    → ((i : ℕ) → i < linksAt s a - 1 → Followed s (m .memo) (leAt 8 s (a + 32 + 8 * i))) → AllOther s t
+    → AllOther s (attach a (sizeAt s a) (t .made) m t)
+unfolding attach linkAt
+other-more s a t m k f g =
+    in-last (λ (u : Attachment). OtherLinks s (m .memo) (u .from)) (t .attachments) _
+    (λ u j i h. followed-kept k _ (g u j i h))
+    (λ i h. subst (λ (q : ℕ). Followed s (m .memo) (leAt 8 s q)) (omega arith) (f i (omega arith)))
+
+attachments-other : (turns : ℕ) (s : List ℕ) (a : ℕ) (t t' : Attached) → attachmentsFrom turns s a t ≡ ok t' → AllOther s t → AllOther s t'
+unfolding attachmentsFrom
+attachments-other zero s a t t' e g = subst (AllOther s) (ok-same e) g
+attachments-other (suc turns) s a t t' e g =
+    let same : ok t ≡ ok t' → AllOther s t' = λ q. subst (AllOther s) (ok-same q) g in
+    by-eq a 0 _ _ e same (λ q. by-pick (isAttached a (t .attachments)) _ _ q same (λ r.
+    let h = then-ok (headerIn s a) _ r in
+    by-eq (kindAt s a) kindAT _ _ (h .2) (λ k.
+    let w = then-ok (attachmentIn s a) _ k in
+    let l = lt-first _ _ _ _ (w .2) refused≢ok in
+    let m = then-ok (copyLinks (copyRoot s) s (linksAt s a - 1) (a + 32) (t .made)) _ (l .1) in
+    let c = links-kept s (copyRoot s) (root-kept s) (linksAt s a - 1) (a + 32) (t .made) (m .0) (m .1) in
+    attachments-other turns s (firstLink s a) _ t' (m .2) (other-more s a t (m .0) (c .0) (c .1) g))
+    same))
+
+pub attached-other : (s : List ℕ) (a : ℕ) (m : Copies) (t : Attached) → attachmentsOf s a m ≡ ok t
+    → (u : Attachment) → In u (t .attachments) → OtherLinks s (t .made .memo) (u .from)
+unfolding attachmentsOf
+attached-other s a m t e =
+    attachments-other (mostAttachments + 2) s a (record { attachments = []; made = m }) t e (λ u i. absurd (not-in i))

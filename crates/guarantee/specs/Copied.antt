@@ -1,5 +1,5 @@
 -- Every copy that was made stands in the file, and the links of a column's blocks lead to copies.
-use Prim.Native.Nat.{ℕ, zero, suc, _+_, _*_, _-_, _^_, _≤_, _<_}
+use Prim.Native.Nat.{ℕ, _+_, _-_, _^_, _<_}
 use mathlib.Core.List.{List, [], _∷_, _++_}
 use mathlib.Core.Path.{_≡_, refl, sym, ap, _∙_, subst}
 use native.Mathlib.Omega.{arith}
@@ -10,22 +10,24 @@ use Rattle.mdf.specs.Block.{linkAt}
 use Rattle.plan.specs.Columns.{Column}
 use Rattle.plan.specs.Copies.{Copy, Attachment, columnLinks}
 use Rattle.plan.specs.Layout.{Layout, Placed, cgOf, cnOf}
-use Rattle.result.specs.Fill.{Block, block, copiedBytes, copiedBlocks, attachmentBlocks, dgBytes, cgBytes, cnBytes, structureBlocks, dlBlocks, dataBlocks, nextDG, newLink, mdBytes, fhBytes}
+use Rattle.result.specs.Fill.{Block, block, copiedBytes, copiedBlocks, attachmentBlocks, dgBytes, cgBytes, cnBytes, structureBlocks, nextDG, newLink, nextAttachment}
 use Rattle.result.specs.Ordered.{Ordered}
-use Rattle.result.specs.Result.{Args, memoOf, firstFH, hdBlock, blocksOf}
-use Rattle.result.specs.Names.{LinkDue, NamesDue, HistoryDue, NewHistory}
+use Rattle.result.specs.Result.{Args, memoOf, firstFH, blocksOf}
+use Rattle.result.specs.Names.{LinkDue, NamesDue, HistoryDue, NewHistory, AttachmentsDue}
+use Rattle.result.specs.Recording.{attachedFrom}
 use Rattle.result.specs.Guarantee.{Stands, In, here, there}
 use Rattle.copies_laws.specs.AttachLaws.{ownCopies}
 use Rattle.copies_laws.specs.LayoutLaws.{LaidOut, columns-after-history, attachments-laid}
-use Rattle.copies_laws.specs.MemoLaws.{Followed, Made, Kept, followed-kept, kept-then, root-kept, past-kept, columns-kept, attached-kept, past-listed, past-kept-to}
+use Rattle.copies_laws.specs.MemoLaws.{Followed, Made, Kept, followed-kept, kept-then, root-kept, past-kept, columns-kept, attached-kept, attached-other, past-listed, past-kept-to}
 use Rattle.plan_laws.specs.Lists.{in-none}
 use Rattle.shown_laws.specs.Flat.{in-front, in-back}
-use Rattle.shown_laws.specs.AllShown.{structure, afterHD, in-rest, in-later, in-structure, in-md, in-fh, in-history, in-columns, in-attachments, rest-within}
+use Rattle.shown_laws.specs.AllShown.{structure, attachments, afterHD, in-rest, in-later, in-structure, in-md, in-fh, in-history, in-columns, in-attachments, rest-within}
 use Rattle.shown_laws.specs.Shapes.{hdLinks, dgLinks, cgWords, cnLinks}
 use Rattle.shown_laws.specs.ColumnShown.{ColumnSound, dg-link, cg-link, cn-link}
 use Rattle.guarantee.specs.Front.{hd-link}
 use Rattle.guarantee.specs.Past.{first-small, history-due, new-history}
 use Rattle.guarantee.specs.Named.{CopyStands, new-small, link-due}
+use Rattle.guarantee.specs.Attached.{next-small, attachments-due}
 
 -- ---- which blocks of the file copies are
 in-either : {A P : Type 0} {a : A} (xs : List A) {ys : List A} → In a (xs ++ ys) → (In a xs → P) → (In a ys → P) → P
@@ -141,6 +143,18 @@ module _ (x : Args) (cs : List Column) (l : Layout) (o : LaidOut (x .image) (x .
     pub newest-due : NewHistory x f (l .fh)
     newest-due =
         new-history x l f (omega (arith, rest-within x l order (in-md x l) .1, small)) (filled _ (in-rest x l (in-md x l))) (filled _ (in-rest x l (in-fh x l)))
+
+    -- the attachments
+    pub attached-due : AttachmentsDue (x .image) f (l .past .chain) (attachedFrom (l .attached .attachments)) (linkAt f 64 3)
+    unfolding hdLinks
+    attached-due =
+        let s : List ℕ = x .image in
+        let below : (c : Block) → In c (attachments x l) → c .at < 256 ^ 8 = λ c i. omega (arith, rest-within x l order (in-attachments x l i) .1, small) in
+        let above : (c : Block) → In c (attachments x l) → 0 < c .at = λ c i. omega (arith, rest-within x l order (in-attachments x l i) .0) in
+        let due : AttachmentsDue s f (l .past .chain) (attachedFrom (l .attached .attachments)) (nextAttachment (l .attached .attachments)) =
+        attachments-due s f bytes (l .past .chain) (memoOf l) (l .fh) copy-stands (l .attached .attachments) _ _ (attachments-laid o .laid)
+        (attached-other s _ _ _ (o .attached)) above below (λ c i. filled c (in-rest x l (in-attachments x l i))) in
+        rw (hd-link x l f filled 3 (lit< tt) (next-small s f bytes (l .past .chain) (memoOf l) (l .fh) copy-stands (l .attached .attachments) below)) due
 
     -- "per column the copies of CG links 3, 4, 6, CN links 3, 4, 5, 7, 8, the DG comment"
     module _ (p : Placed) (i : In p (l .placed)) (c : In (p .column) cs) (sound : ColumnSound (x .image) (x .blockSize) p) where

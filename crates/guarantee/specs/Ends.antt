@@ -1,5 +1,5 @@
 -- History and attachment chains are followed to their end: an accepted chain never ends for want of turns.
-use Prim.Native.Nat.{ℕ, zero, suc, _+_, _*_, _-_, _≤_, _<_}
+use Prim.Native.Nat.{ℕ, zero, suc, _+_, _*_, _-_, _≤_}
 use mathlib.Core.Bool.{Bool, true, false}
 use mathlib.Core.List.{List, [], _∷_, _++_, append-nil, append-assoc}
 use mathlib.Core.Logic.{_⊎_, inl, inr}
@@ -12,16 +12,16 @@ use borrow.Author.Tests.{eqb-true, eqb-false, eq-eqb, ne-eqb}
 use Rattle.base.specs.Choice.{pick, ifLt}
 use Rattle.base.specs.ChoiceLaws.{lt-first}
 use Rattle.base.specs.Checked.{Checked, ok, refused, andThen}
-use Rattle.mdf.specs.Block.{kindAt, sizeAt, linksAt, linkAt, firstLink, headerIn, wholeAt}
+use Rattle.mdf.specs.Block.{kindAt, sizeAt, linksAt, firstLink, headerIn, wholeAt}
 use Rattle.mdf.specs.Chain.{isIn}
-use Rattle.plan.specs.Copies.{kindAT, Copy, Copies, copies, copyOf, withCopy, isCopied, lostLinks, copyLinks, onCopy, copyAt, copyRoot, mostCopies, History, history, historyFrom, historyOf, Attachment, Attached, mostAttachments, isAttached, attachmentIn, attach, attachmentsFrom, attachmentsOf}
+use Rattle.plan.specs.Copies.{kindAT, Copy, Copies, copyOf, withCopy, isCopied, lostLinks, copyLinks, onCopy, copyAt, copyRoot, mostCopies, History, history, historyFrom, historyOf, Attachment, Attached, mostAttachments, isAttached, attachmentIn, attach, attachmentsFrom, attachmentsOf}
 use Rattle.result.specs.Member.{In, here, there}
 use Rattle.result.specs.Recording.{Leads, Followed, isAT, attachedFrom}
 use Rattle.copies_laws.specs.Laid.{Grown}
 use Rattle.copies_laws.specs.AnswerLaws.{eq-back}
 use Rattle.copies_laws.specs.CopyLaws.{root-grown}
 use Rattle.plan_laws.specs.Answers.{refused≢ok, ok-same, true≢false, with-ok, eq-cases, pick-cases, or-not}
-use Rattle.plan_laws.specs.Lists.{in-left, in-right, in-none, same, same-yes, same-no, occurs, occurs-append, no-longer}
+use Rattle.plan_laws.specs.Lists.{in-none, same, same-yes, same-no, occurs, occurs-append, no-longer}
 use Rattle.plan_laws.specs.DecideLaws.{none≢some}
 
 -- ---- a block in the chain or not

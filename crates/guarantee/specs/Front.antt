@@ -4,22 +4,21 @@ use mathlib.Core.List.{List, [], _∷_, _++_}
 use mathlib.Core.Path.{_≡_, refl, sym, ap, _∙_}
 use mathlib.Core.Bool.{Bool, true, false}
 use native.Mathlib.Omega.{arith}
-use native.Mathlib.Nat.{add-zero, zero-add}
 use lib.Dec.{lit<, ltb}
 use borrow.Author.Tests.{ltb-true, ltb-false}
 use lib.ListN.{length, getD, take, drop, replicate, length-append, length-replicate}
 use lib.Seq.{getD-take, getD-drop, length-take-le}
-use Rattle.base.specs.Choice.{pick, ifLt}
+use Rattle.base.specs.Choice.{ifLt}
 use Rattle.base.specs.ChoiceLaws.{lt-yes, lt-no}
 use Rattle.base.specs.Blit.{part}
 use Rattle.base.specs.Field.{leAt}
 use Rattle.mdf.specs.Block.{kindHD, sizeAt, linksAt, linkAt, dataAt}
 use Rattle.plan.specs.Layout.{Layout}
-use Rattle.result.specs.Fill.{Block, block, header, words, hdData, hdBytes, dataOf, nextDG, nextAttachment, newLink}
+use Rattle.result.specs.Fill.{Block, block, header, words, hdData, dataOf, nextDG, nextAttachment, newLink}
 use Rattle.result.specs.Links.{headAt}
 use Rattle.result.specs.Due.{headerByte, FrontDue}
 use Rattle.result.specs.Result.{Args, memoOf, firstFH, hdBlock, blocksOf}
-use Rattle.result.specs.Guarantee.{Stands, In, here, there}
+use Rattle.result.specs.Guarantee.{Stands, In, here}
 use Rattle.plan_laws.specs.Decision.{Lent}
 use Rattle.shown_laws.specs.Standing.{byte-of, field-same}
 use Rattle.shown_laws.specs.Header.{block-kind, block-size, block-links, block-link, block-data-at, block-data}

@@ -4,6 +4,7 @@ pub mod Ends
 pub mod Named
 pub mod Front
 pub mod Past
+pub mod Attached
 pub mod Copied
 pub mod Theorem
 pub mod Untouched

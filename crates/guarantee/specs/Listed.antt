@@ -8,7 +8,6 @@ use Rattle.base.specs.Blit.{blit}
 use Rattle.base.specs.Checked.{Checked, ok, andThen}
 use Rattle.plan.specs.Columns.{Column}
 use Rattle.plan.specs.Layout.{Placed, payloadSize}
-use Rattle.result.specs.Payload.{signalBytes}
 use Rattle.result.specs.Listing.{listedBytes}
 use Rattle.result.specs.Result.{Args, Decided, answer, fileOf}
 use Rattle.result.specs.Links.{Shown, shown}

@@ -4,43 +4,41 @@ use Prim.Native.Nat.{ℕ, zero, suc, _+_, _*_, _-_, _^_, _≤_, _<_}
 use mathlib.Core.List.{List, [], _∷_, _++_}
 use mathlib.Core.Bool.{Bool, true, false, false≢true}
 use mathlib.Core.Option.{Option, none, some}
-use mathlib.Core.Path.{_≡_, refl, sym, ap, _∙_, subst}
+use mathlib.Core.Path.{_≡_, refl, sym, ap, _∙_}
 use native.Mathlib.Omega.{arith}
 use lib.Dec.{lit<, eqb}
 use lib.ListN.{length, getD}
-use borrow.Author.Tests.{eq-eqb, eqb-true, eqb-false}
 use Rattle.base.specs.Choice.{pick, ifEq}
-use Rattle.base.specs.ChoiceLaws.{eq-yes, eq-no}
+use Rattle.base.specs.ChoiceLaws.{eq-no}
 use Rattle.base.specs.Field.{leAt, le}
-use Rattle.base.specs.Blit.{part}
-use Rattle.mdf.specs.Block.{kindTX, kindMD, kindAt, sizeAt, linksAt, linkAt, dataAt}
+use Rattle.mdf.specs.Block.{kindAt, sizeAt, linksAt, linkAt, dataAt}
 use Rattle.mdf.specs.Chain.{isIn}
-use Rattle.plan.specs.Copies.{kindCC, kindSI, kindFH, Copy, copyOf, isCopied, lostLinks}
+use Rattle.plan.specs.Copies.{kindFH, Copy, copyOf, lostLinks}
 use Rattle.result.specs.Fill.{header, words, orZero, newLink, newLinks, historyLink, firstNew, copiedLinks, dataOf, copiedBytes}
-use Rattle.result.specs.Links.{Head, headAt}
-use Rattle.result.specs.Names.{CopiedKind, isTX, isMD, isCC, isSI, isFH, Leads, SameBlock, Follows, later, first, LinkDue}
-use Rattle.result.specs.Guarantee.{Stands, In, here, there}
+use Rattle.result.specs.Links.{headAt}
+use Rattle.result.specs.Names.{Leads, SameBlock, Follows, later, first, LinkDue}
+use Rattle.result.specs.Guarantee.{Stands, In}
 use Rattle.copies_laws.specs.LengthLaws.{length-dataOf}
 use Rattle.copies_laws.specs.MemoLaws.{none≢some, kind-copied, copied-kind, copy-in, Followed, Made}
 use Rattle.shown_laws.specs.Header.{block-kind, block-size, block-links, block-link, block-data}
 use Rattle.shown_laws.specs.ImageBytes.{kind-below, size-below, links-below}
 
 -- ---- the links of a copied block as words
-unfoldable linkWords : List ℕ → List Copy → ℕ → ℕ → List ℕ
+unfoldable pub linkWords : List ℕ → List Copy → ℕ → ℕ → List ℕ
 linkWords s memo zero p = []
 linkWords s memo (suc k) p = newLink memo (leAt 8 s p) ∷ linkWords s memo k (p + 8)
 
-words-links : (s : List ℕ) (memo : List Copy) (k p : ℕ) → words (linkWords s memo k p) ≡ newLinks s memo k p
+pub words-links : (s : List ℕ) (memo : List Copy) (k p : ℕ) → words (linkWords s memo k p) ≡ newLinks s memo k p
 unfolding words linkWords newLinks
 words-links s memo zero p = refl
 words-links s memo (suc k) p = ap (λ (l : List ℕ). le 8 (newLink memo (leAt 8 s p)) ++ l) (words-links s memo k (p + 8))
 
-length-linkWords : (s : List ℕ) (memo : List Copy) (k p : ℕ) → length (linkWords s memo k p) ≡ k
+pub length-linkWords : (s : List ℕ) (memo : List Copy) (k p : ℕ) → length (linkWords s memo k p) ≡ k
 unfolding linkWords
 length-linkWords s memo zero p = refl
 length-linkWords s memo (suc k) p = ap suc (length-linkWords s memo k (p + 8))
 
-word-link : (s : List ℕ) (memo : List Copy) (k p i : ℕ) → i < k → getD (linkWords s memo k p) i 0 ≡ newLink memo (leAt 8 s (p + 8 * i))
+pub word-link : (s : List ℕ) (memo : List Copy) (k p i : ℕ) → i < k → getD (linkWords s memo k p) i 0 ≡ newLink memo (leAt 8 s (p + 8 * i))
 unfolding linkWords
 word-link s memo zero p i h = absurd (omega arith)
 word-link s memo (suc k) p zero h = ap (λ (q : ℕ). newLink memo (leAt 8 s q)) (omega arith)

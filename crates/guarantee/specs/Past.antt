@@ -1,25 +1,24 @@
 -- The result's history: the copies of the recording's, then the new FH with the lent text and time.
-use Prim.Native.Nat.{ℕ, zero, suc, _+_, _*_, _^_, _≤_, _<_}
-use mathlib.Core.List.{List, [], _∷_, _++_, append-nil, append-assoc}
+use Prim.Native.Nat.{ℕ, _+_, _*_, _^_, _<_}
+use mathlib.Core.List.{List, [], _∷_, _++_, append-assoc}
 use mathlib.Core.Bool.{Bool, true, false, false≢true}
-use mathlib.Core.Option.{Option, none, some}
-use mathlib.Core.Path.{_≡_, refl, sym, ap, _∙_, subst}
+use mathlib.Core.Option.{some}
+use mathlib.Core.Path.{_≡_, refl, sym, _∙_, subst}
 use native.Mathlib.Omega.{arith}
 use lib.Dec.{lit<, eqb}
 use lib.ListN.{length, getD, length-append}
-use borrow.Author.Tests.{eq-eqb, eqb-true, eqb-false}
+use borrow.Author.Tests.{eq-eqb}
 use Rattle.base.specs.Choice.{pick, ifEq}
-use Rattle.base.specs.Field.{leAt, le}
+use Rattle.base.specs.Field.{le}
 use Rattle.base.specs.FieldLaws.{length-le}
-use Rattle.base.specs.Blit.{part}
 use Rattle.mdf.specs.Block.{kindMD, kindAt, linksAt, linkAt}
 use Rattle.mdf.specs.Chain.{isIn}
 use Rattle.plan.specs.Copies.{kindFH, Copy, copyOf}
 use Rattle.plan.specs.Layout.{Layout, mdSize}
-use Rattle.result.specs.Fill.{Block, block, header, orZero, newLink, historyLink, firstNew, mdBytes, fhBytes}
+use Rattle.result.specs.Fill.{header, newLink, historyLink, firstNew, mdBytes, fhBytes}
 use Rattle.result.specs.Links.{headAt}
-use Rattle.result.specs.Names.{SameBlock, LinkDue, HistoryDue, NewHistory}
-use Rattle.result.specs.Result.{Args, memoOf, firstFH, blocksOf}
+use Rattle.result.specs.Names.{LinkDue, HistoryDue, NewHistory}
+use Rattle.result.specs.Result.{Args, firstFH}
 use Rattle.result.specs.Guarantee.{Stands, In, here, there}
 use Rattle.copies_laws.specs.MemoLaws.{kind-copied, Fresh, Past}
 use Rattle.shown_laws.specs.Standing.{stands-front, stands-at, read}

@@ -1,24 +1,23 @@
 -- Where the data of placed columns lies: bounds that every address of a result keeps.
-use Prim.Native.Nat.{ℕ, zero, suc, _+_, _*_, _-_, _≤_, _<_}
+use Prim.Native.Nat.{ℕ, _+_, _*_, _-_, _≤_}
 use mathlib.Core.List.{List, [], _∷_, flatten, _++_}
-use mathlib.Core.Path.{_≡_, refl, sym, _∙_, ap}
+use mathlib.Core.Path.{_≡_, refl, ap}
 use native.Mathlib.Nat.{suc-mul}
 use native.Mathlib.Omega.{arith}
-use lib.ListN.{length, drop, length-take, length-drop}
+use lib.ListN.{length, length-take, length-drop}
 use Rattle.base.specs.Blit.{part}
 use Rattle.base.specs.Checked.{fine}
-use Rattle.mdf.specs.Block.{Wanted, CG, CN, sizeAt, linksAt, dataAt, headerIn, lengthIn, wholeAt, wantedAt, blockAt}
+use Rattle.mdf.specs.Block.{Wanted, dataAt, wholeAt, wantedAt, blockAt}
 use Rattle.mdf.specs.Chain.{Fragment}
 use Rattle.mdf.specs.Walk.{Item, dg, cg, cn}
 use Rattle.mdf.specs.Group.{DataGroup, upTo, dataGroupsOf}
 use Rattle.mdf.specs.Records.{sizeOf}
-use Rattle.plan.specs.Columns.{SrcGroup, Column, Signal, noSignal, signalData, sizeOfSignal}
+use Rattle.plan.specs.Columns.{Column, Signal, noSignal, signalData, sizeOfSignal}
 use Rattle.plan.specs.Data.{signalIn}
-use Rattle.plan.specs.Geometry.{align8}
 use Rattle.plan.specs.Layout.{Placed, blocksEnd, signalEnd, placedFrom, dataEnd, structureSize, columnBlocks, payloadSize}
 use Rattle.result.specs.Payload.{signalBytes}
 use Rattle.result.specs.Guarantee.{In, here, there}
-use Rattle.copies_laws.specs.AnswerLaws.{then-ok, Whole, whole-fits, refused≢ok}
+use Rattle.copies_laws.specs.AnswerLaws.{then-ok, whole-fits, refused≢ok}
 use Rattle.base.specs.ChoiceLaws.{lt-back, eq-first}
 use Rattle.copies_laws.specs.Laid.{align-past, align-near}
 use Rattle.payload_laws.specs.ColumnLaws.{Ready}

@@ -1,23 +1,21 @@
 -- Demand 3: whatever the definitions accept has the guarantee.
-use Prim.Native.Nat.{ℕ, zero, suc, _+_, _*_, _-_, _^_, _≤_, _<_}
-use mathlib.Core.List.{List, [], _∷_, flatten}
-use mathlib.Core.Bool.{Bool, true, false}
+use Prim.Native.Nat.{ℕ, _+_, _-_, _^_, _≤_, _<_}
+use mathlib.Core.List.{List, []}
 use mathlib.Core.Path.{_≡_, refl, sym, _∙_, ap, subst}
 use native.Mathlib.Omega.{arith}
 use lib.ListN.{length, getD}
-use lib.Dec.{lit<}
 use Rattle.base.specs.Blit.{blit}
 use Rattle.base.specs.Checked.{ok, fine}
 use Rattle.base.specs.CheckedLaws.{ok-same}
 use Rattle.mdf.specs.Block.{CG, CN}
-use Rattle.mdf.specs.Group.{DataGroup, dataGroups}
+use Rattle.mdf.specs.Group.{dataGroups}
 use Rattle.mdf.specs.Walk.{Source, walk}
-use Rattle.plan.specs.Columns.{SrcGroup, srcGroups, Column, Signal, noSignal, signalData, sizeOfSignal, omissionWords}
+use Rattle.plan.specs.Columns.{srcGroups, Column, Signal, noSignal, signalData, omissionWords}
 use Rattle.plan.specs.Data.{signalIn}
-use Rattle.plan.specs.Layout.{Layout, Placed, placedFrom, pastCopies, structureEnd, structureSize, dataEnd, columnBlocks, payloadSize, cgSize, dlOf}
+use Rattle.plan.specs.Layout.{Placed, placedFrom, pastCopies, structureSize, dataEnd, payloadSize, dlOf}
 use Rattle.result.specs.Ordered.{Ordered}
 use Rattle.result.specs.Payload.{columnPayloads, signalBytes}
-use Rattle.result.specs.Fill.{dataBlocks, columnPayload}
+use Rattle.result.specs.Fill.{dataBlocks}
 use Rattle.result.specs.Result.{Args, Decided, answer, fileOf, blocksOf}
 use Rattle.result.specs.Due.{duePayload}
 use Rattle.result.specs.Recording.{Met, signalSize}
@@ -26,11 +24,11 @@ use Rattle.copies_laws.specs.LengthLaws.{InImage}
 use Rattle.copies_laws.specs.CopyLaws.{root-grown}
 use Rattle.copies_laws.specs.LayoutLaws.{LaidOut, laid-out, columns-placed, columns-within, metadataEnd-near, file-near, columns-ordered, blocks-ordered}
 use Rattle.copies_laws.specs.OrderLaws.{ordered-ends}
-use Rattle.payload_laws.specs.CountLaws.{member, group-framed, column-sorted, counted}
-use Rattle.payload_laws.specs.ColumnLaws.{Ready, ready, column-joined, column-bytes, column-even}
+use Rattle.payload_laws.specs.CountLaws.{member, group-shared, column-sorted, counted}
+use Rattle.payload_laws.specs.ColumnLaws.{ready, column-joined, column-bytes, column-even}
 use Rattle.payload_laws.specs.BoundLaws.{data-small, full-bound, records-small}
 use Rattle.payload_laws.specs.SignalLaws.{column-signal, length-signal, data-ordered}
-use Rattle.plan_laws.specs.Decision.{Steps, Accepted, answer-accepted, blocks-few}
+use Rattle.plan_laws.specs.Decision.{answer-accepted, blocks-few}
 use Rattle.plan_laws.specs.Known.{Known, answer-known}
 use Rattle.plan_laws.specs.PlanLaws.{made-kinded}
 use Rattle.plan_laws.specs.FileOrderLaws.{plan-in-order}
@@ -39,7 +37,7 @@ use Rattle.shown_laws.specs.Final.{file-apart, file-filled, file-shows}
 use Rattle.guarantee.specs.List.{listed}
 use Rattle.guarantee.specs.Ends.{history-followed, attachments-followed}
 use Rattle.guarantee.specs.Places.{equal-even, flatten-together, data-inside, fragments-few, signal-small, Sized, DataWithin, data-within, data-ends, in-column}
-use Rattle.guarantee.specs.Copied.{comment-due, past-due, newest-due, names-due}
+use Rattle.guarantee.specs.Copied.{comment-due, past-due, newest-due, attached-due, names-due}
 use Rattle.guarantee.specs.Front.{front-due}
 
 -- the elements of an image are bytes
@@ -180,6 +178,7 @@ guaranteed x out list d bytes e =
           (column-in x d k p i) (sound x d k bytes p i) n;
       historyKept = past-due x (d .planned .columns) (d .laidOut) (o x d k) _ bytes (ordered x d k) (file-below x d k) filled;
       historyNew = newest-due x (d .planned .columns) (d .laidOut) (o x d k) _ bytes (ordered x d k) (file-below x d k) filled;
+      attachments = attached-due x (d .planned .columns) (d .laidOut) (o x d k) _ bytes (ordered x d k) (file-below x d k) filled;
       filled = filled;
       apart = file-apart x (d .laidOut) out (ordered x d k);
       recording = (dataGroups (k .steps .source), k .groups .recorded);
@@ -194,7 +193,7 @@ guaranteed x out list d bytes e =
       listed = listed (d .planned .omissions) list (a .listFits);
       counted = λ c i. counted (x .image) (dataGroups (k .steps .source)) (d .planned .columns) (k .steps .counted) (k .steps .dataFine) c i (in-source x d k c i);
       sorted = λ c i. column-sorted (x .image) (dataGroups (k .steps .source)) (d .planned .columns) (k .steps .counted) (k .steps .dataFine) c i (in-source x d k c i) (k .fitting c i);
-      framed = λ g i. group-framed g (member (x .image) (dataGroups (k .steps .source)) (k .steps .counted) g (subst (In g) (k .steps .groups) i));
+      shared = λ g i. group-shared g (member (x .image) (dataGroups (k .steps .source)) (k .steps .counted) g (subst (In g) (k .steps .groups) i));
       signals = λ c i. (k .planned .sourced c i .signal, signal-whole (x .image) (c .signalOf) (k .signalFine c i));
       masters = k .masters;
       historyEnds = history-followed (x .image) _ _ _ (o x d k .past) (few-comment x d k);

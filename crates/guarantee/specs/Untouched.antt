@@ -1,18 +1,18 @@
 -- What a call leaves as it was, and what lies between blocks.
 use Prim.Native.Nat.{ℕ, zero, suc, _+_, _-_, _≤_, _<_}
 use mathlib.Core.List.{List, [], _∷_, _++_}
-use mathlib.Core.Path.{_≡_, refl, sym, _∙_, ap}
+use mathlib.Core.Path.{_≡_, refl, _∙_, ap}
 use mathlib.Core.Logic.{_⊎_, inl, inr}
 use native.Mathlib.Omega.{arith}
-use lib.ListN.{length, getD, replicate, length-append, length-replicate, getD-replicate, List·getD-eq-default}
+use lib.ListN.{length, getD, replicate, length-append, length-replicate}
 use lib.Seq.{getD-append-add}
-use Rattle.base.specs.Blit.{part, blit}
+use Rattle.base.specs.Blit.{part}
 use Rattle.base.specs.BlitLaws.{part-blit-after}
-use Rattle.base.specs.Checked.{Checked, ok, refused}
+use Rattle.base.specs.Checked.{ok, refused}
 use Rattle.plan.specs.Columns.{omissionWords}
 use Rattle.result.specs.Fill.{Block}
 use Rattle.result.specs.Ordered.{Ordered}
-use Rattle.result.specs.Result.{Args, Decided, Outcome, answer, outcome, fileOf, flat}
+use Rattle.result.specs.Result.{Args, Decided, outcome, flat}
 use Rattle.result.specs.Guarantee.{In, here, there}
 
 -- "A refusal changes neither output nor list"

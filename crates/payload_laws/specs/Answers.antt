@@ -1,5 +1,4 @@
 -- What is known of checks that passed: the way back through `andThen` and `pick`.
-use Prim.{Unit, tt}
 use Prim.Native.Nat.{ℕ}
 use mathlib.Core.Bool.{Bool, true, false}
 use mathlib.Core.Path.{_≡_, refl, _∙_}
@@ -9,7 +8,7 @@ use lib.Dec.{eqb}
 use borrow.Author.Tests.{eqb-true, eqb-false}
 use Rattle.base.specs.Choice.{pick, ifEq}
 use Rattle.base.specs.ChoiceLaws.{eq-yes, eq-no}
-use Rattle.base.specs.Checked.{Checked, ok, refused, andThen, Verdict, fine}
+use Rattle.base.specs.Checked.{refused, Verdict, fine}
 pub use Rattle.base.specs.CheckedLaws.{refused≢ok, ok-same, then-ok, then-fine}
 
 pub false≢true : _≡_ {A = Bool} false true → ⊥

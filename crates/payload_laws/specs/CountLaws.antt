@@ -217,9 +217,9 @@ framed-at s d k n (g ∷ i ∷ gs) fs e l q h =
       many = read-several s d k n g i gs fs e l q .many;
     }
 
-pub group-framed : {s : List ℕ} {ds : List DataGroup} (g : SrcGroup) → Member s ds g → 1 < length (g .dataGroup .groups) → SharedRecords s g
+pub group-shared : {s : List ℕ} {ds : List DataGroup} (g : SrcGroup) → Member s ds g → 1 < length (g .dataGroup .groups) → SharedRecords s g
 unfolding recordsOf
-group-framed {s} g m h =
+group-shared {s} g m h =
     let r = framed-at s (g .dataGroup .at) (g .number) (g .records) (addresses (g .dataGroup .groups)) (g .dataGroup .fragments) (m .counted) (m .within) (m .records)
     (omega (arith, h, length-addresses (g .dataGroup .groups))) in
     record { frames = r .frames; fill = r .fill; whole = r .whole; own = r .own; many = r .many }

@@ -19,7 +19,7 @@ use Rattle.mdf.specs.Group.{recordId, samples, invalBytes, isStorage}
 use Rattle.mdf.specs.Records.{most64, rangesIn, joined, anyDV, placeOf, sizeOf, Frame, Framed, framed, broken, Known, known, unknown, withId, onKnown, ofBytes, frameOf, frameAt, onFramed, framesFrom, frames, equalIds, unsortedFrames, unsortedRecords}
 use Rattle.mdf.specs.Count.{ofGroup, tallies}
 use Rattle.result.specs.Recording.{IsRecord, Fill}
-use Rattle.payload_laws.specs.Answers.{refused≢ok, false≢true, ok-same, then-fine, passed, eq-cases}
+use Rattle.payload_laws.specs.Answers.{refused≢ok, ok-same, then-fine, passed, eq-cases}
 use Rattle.payload_laws.specs.Lists.{Long, length-part}
 use Rattle.payload_laws.specs.SortedLaws.{joined-length}
 

@@ -3,9 +3,7 @@ use Prim.Native.Nat.{ℕ, zero, suc, _+_, _≤_}
 use mathlib.Core.List.{List, [], _∷_, _++_}
 use mathlib.Core.Path.{_≡_}
 use native.Mathlib.Omega.{arith}
-use lib.ListN.{length, take, drop, length-append, length-drop}
-use lib.Seq.{length-take-le}
-use Rattle.base.specs.Blit.{part}
+use lib.ListN.{length, take, drop, length-append}
 use Rattle.result.specs.Guarantee.{In, here, there}
 pub use Rattle.base.specs.BlitLaws.{length-part}
 

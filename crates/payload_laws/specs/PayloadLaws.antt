@@ -8,11 +8,10 @@ use native.Mathlib.Omega.{arith}
 use lib.ListN.{length, take, drop, length-append, length-drop}
 use lib.Seq.{take-add, length-take-le}
 use Rattle.base.specs.Field.{le}
-use Rattle.base.specs.FieldLaws.{length-le}
 use Rattle.mdf.specs.Group.{samples, invalBytes}
 use Rattle.plan.specs.Channel.{fits, width}
 use Rattle.result.specs.Payload.{cells, payloads}
-use Rattle.result.specs.Fill.{Block, header, words, blockOf, blockLinks, payloadBlocks}
+use Rattle.result.specs.Fill.{Block, words, blockOf, blockLinks, payloadBlocks}
 use Rattle.result.specs.Ordered.{Ordered}
 use Rattle.payload_laws.specs.Lists.{Long, long-take, long-drop, together}
 use Rattle.payload_laws.specs.CellLaws.{length-cells, cells-append}

@@ -1,5 +1,4 @@
 -- What is known of masters and of a channel that becomes a column.
-use Prim.{Unit, tt}
 use Prim.Native.Nat.{ℕ, _+_, _≤_}
 use mathlib.Core.List.{List, [], _∷_}
 use mathlib.Core.Path.{_≡_, refl, sym, ap, _∙_, subst}

@@ -8,7 +8,7 @@ use native.Mathlib.Omega.{arith}
 use Rattle.base.specs.Choice.{pick}
 use Rattle.base.specs.Checked.{ok}
 use Rattle.mdf.specs.Group.{isStorage}
-use Rattle.plan.specs.Columns.{SrcGroup, masterOf, TimeOf, time, untimed, differs, timeOf, Column, Omission, Plan, withOmission, timeColumn, onPlanned, withColumn, withTime, Decision, omitted, kept, decide, sizeOfSignal, withDecision, planChannels, ownMaster, planTimed, planGroup, planGroups, plan, omissionAddresses}
+use Rattle.plan.specs.Columns.{SrcGroup, TimeOf, time, untimed, differs, timeOf, Column, Omission, Plan, withOmission, timeColumn, onPlanned, withColumn, withTime, Decision, omitted, kept, decide, sizeOfSignal, withDecision, planChannels, planTimed, planGroup, planGroups, plan, omissionAddresses}
 use Rattle.result.specs.Member.{In, here, there}
 use Rattle.result.specs.Recording.{Differs, Among, filePlaces, signalChannels}
 use Rattle.plan_laws.specs.Answers.{ok-same, true≢false, with-ok, eq-cases, pick-cases}

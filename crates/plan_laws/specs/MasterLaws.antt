@@ -2,7 +2,7 @@
 use Prim.Native.Nat.{ℕ, _≤_}
 use mathlib.Core.List.{List, [], _∷_, _++_}
 use mathlib.Core.Bool.{Bool, true, false}
-use mathlib.Core.Logic.{_⊎_, inl, inr}
+use mathlib.Core.Logic.{inl, inr}
 use mathlib.Core.Option.{Option, none, some}
 use mathlib.Core.Path.{_≡_, refl, sym, ap, _∙_, subst}
 use native.Mathlib.Omega.{arith}
@@ -18,7 +18,7 @@ use Rattle.plan_laws.specs.Answers.{true≢false, eq-cases, pick-cases}
 use Rattle.plan_laws.specs.Lists.{in-none, occurs}
 use Rattle.plan_laws.specs.GroupLaws.{allAddresses}
 use Rattle.plan_laws.specs.SourceLaws.{group-unique}
-use Rattle.plan_laws.specs.DecideLaws.{none≢some, some-same, master-known, group-at, time≢untimed, time≢differs, time-same}
+use Rattle.plan_laws.specs.DecideLaws.{none≢some, master-known, group-at, time≢untimed, time≢differs, time-same}
 use Rattle.plan_laws.specs.ColumnLaws.{TimeDue, NamesTime}
 
 -- ---- the first master

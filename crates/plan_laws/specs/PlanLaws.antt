@@ -21,7 +21,7 @@ use Rattle.plan_laws.specs.GroupLaws.{allAddresses, allChannels}
 use Rattle.plan_laws.specs.SourceLaws.{ownAddresses, own-within, group-unique, channel-group, channel-once, channel-no-group}
 use Rattle.plan_laws.specs.DecideLaws.{none≢some, some-same, master-known, Timed, time-known, time-own, time-same, time≢untimed, time≢differs, decide-kept, decide-reason, kept-due, master-unsigned, signal-few}
 use Rattle.plan_laws.specs.MasterLaws.{time-differs, names}
-use Rattle.plan_laws.specs.ColumnLaws.{timesAt, timesOf, signalsOf, column-more, omission-more, signals-more, times-at-signal, times-signal, times-at-here, times-at-other, times-timed, times-in, times-none, times-within, time-found, time-missing, TimeDue, NamesTime, named-later, GivenDue, given-due, given-later}
+use Rattle.plan_laws.specs.ColumnLaws.{timesAt, timesOf, signalsOf, column-more, omission-more, signals-more, times-at-signal, times-signal, times-at-here, times-at-other, times-timed, times-in, times-none, times-within, time-found, time-missing, NamesTime, named-later, GivenDue, given-due, given-later}
 
 -- ---- what is known of one column
 

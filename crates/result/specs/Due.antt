@@ -21,7 +21,7 @@ use Rattle.plan.specs.Geometry.{blockCount, blockPayload}
 use Rattle.plan.specs.Layout.{Placed, cgOf, cnOf}
 use Rattle.result.specs.Payload.{recordsOf, cells, signalBytes}
 use Rattle.result.specs.Result.{Args, version420}
-use Rattle.result.specs.Links.{Head, headAt, GroupFields, ChannelFields, DataList, Shown}
+use Rattle.result.specs.Links.{headAt, GroupFields, ChannelFields, DataList, Shown}
 
 -- ---- data
 
@@ -45,9 +45,11 @@ evenBlocks k q (suc (suc n)) all a =
 unfoldable pub blocksDue : List ℕ → ℕ → Column → ℕ
 blocksDue s size c = blockCount size (width s (c .group .at) (c .channel)) (c .group .records)
 
+-- its DL's "64-bit payload"
 unfoldable pub equalDue : List ℕ → ℕ → Column → ℕ
 equalDue s size c = blockPayload size (width s (c .group .at) (c .channel)) (c .group .records)
 
+-- "Blocks are DT with, DV without, an invalidation byte", from its first place on
 unfoldable pub fragmentsDue : List ℕ → ℕ → Placed → List Fragment
 fragmentsDue s size p =
     evenBlocks (dueKind (keepsInval s (p .column .group .at) (p .column .channel))) (equalDue s size (p .column)) (blocksDue s size (p .column))
@@ -81,6 +83,7 @@ abbrev pub dueMaster : List Placed → Option ℕ → ℕ
 dueMaster ps none = 0
 dueMaster ps (some m) = getD (placedCGs ps) m 0
 
+-- bookkeeping: 1 with a master, else 0
 abbrev pub hasMaster : Option ℕ → ℕ
 hasMaster none = 0
 hasMaster (some m) = 1
@@ -97,6 +100,7 @@ channelFlagsDue g kept = g % 2 + 2 * kept + 4 * (g / 4 % 1024) + 8192 * (g / 819
 unfoldable pub keptByte : List ℕ → Column → ℕ
 keptByte s c = pick (keepsInval s (c .group .at) (c .channel)) 1 0
 
+-- record id 0, the group's count and path separator, the channel's bytes
 unfoldable pub groupDue : List ℕ → Column → GroupFields
 groupDue s c =
     record {
@@ -150,6 +154,7 @@ due s size ps p =
       signalData = ok (signalBytes s (p .column .signalOf));
     }
 
+-- "in planning's order"; all is the list that master numbers count
 unfoldable pub dueAll : List ℕ → ℕ → List Placed → List Placed → List Shown
 dueAll s size all [] = []
 dueAll s size all (p ∷ ps) = due s size all p ∷ dueAll s size all ps

@@ -22,6 +22,7 @@ pub record Block : Type 0 where
   pub at : ℕ
   pub bytes : List ℕ
 
+-- bookkeeping: the two together
 abbrev pub block : ℕ → List ℕ → Block
 block a bs = record { at = a; bytes = bs }
 

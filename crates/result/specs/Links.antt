@@ -7,7 +7,7 @@ use Rattle.base.specs.Field.{leAt}
 use Rattle.base.specs.Blit.{part}
 use Rattle.base.specs.Checked.{Checked, ok, refused}
 use Rattle.mdf.specs.Block.{kindAt, sizeAt, linksAt, linkAt, dataAt}
-use Rattle.mdf.specs.Chain.{Fragment, Chain, Chain.records, Chain.signal, Found, found, stopped, fileLimits, chain}
+use Rattle.mdf.specs.Chain.{Fragment, Chain.records, Chain.signal, Found, found, stopped, fileLimits, chain}
 use Rattle.mdf.specs.Group.{recordId, groupFlags, samples, invalBytes}
 use Rattle.mdf.specs.Records.{joined}
 use Rattle.mdf.specs.Walk.{idSize}
@@ -22,6 +22,7 @@ pub record Head : Type 0 where
   pub size : ℕ
   pub links : ℕ
 
+-- kind, length and number of links of the block at a
 unfoldable pub headAt : List ℕ → ℕ → Head
 headAt f a = record { kind = kindAt f a; size = sizeAt f a; links = linksAt f a }
 
@@ -34,6 +35,7 @@ pub record GroupFields : Type 0 where
   pub dataBytes : ℕ
   pub invalidation : ℕ
 
+-- of the CG at a
 unfoldable pub groupFields : List ℕ → ℕ → GroupFields
 groupFields f a =
     record {
@@ -59,6 +61,7 @@ pub record ChannelFields : Type 0 where
   pub attachments : ℕ
   pub ranges : List ℕ
 
+-- of the CN at a
 unfoldable pub channelFields : List ℕ → ℕ → ChannelFields
 channelFields f a =
     record {
@@ -83,6 +86,7 @@ pub record DataList : Type 0 where
   pub count : ℕ
   pub equal : ℕ
 
+-- the DL at a
 unfoldable pub listAt : List ℕ → ℕ → DataList
 listAt f a =
     record {
@@ -104,6 +108,7 @@ abbrev pub fragmentsIn : Found → Checked (List Fragment)
 fragmentsIn (found fs) = ok fs
 fragmentsIn (stopped number place fs) = refused number place
 
+-- its data, joined
 abbrev pub joinedIn : List ℕ → Found → Checked (List ℕ)
 joinedIn f (found fs) = ok (joined f fs)
 joinedIn f (stopped number place fs) = refused number place
@@ -133,6 +138,7 @@ pub record Shown : Type 0 where
   pub signalBlocks : Checked (List Fragment)
   pub signalData : Checked (List ℕ)
 
+-- what the DG at dg shows
 unfoldable pub shownAt : List ℕ → ℕ → Shown
 shownAt f dg =
     let cg = linkAt f dg 1 in

@@ -13,7 +13,7 @@ use Rattle.mdf.specs.Chain.{isIn}
 use Rattle.plan.specs.Copies.{kindCC, kindSI, kindFH}
 use Rattle.plan.specs.Layout.{Placed, cgOf, cnOf}
 use Rattle.result.specs.Result.{Args}
-use Rattle.result.specs.Links.{Head, headAt}
+use Rattle.result.specs.Links.{headAt}
 
 -- "Kinds other than TX, MD, CC, SI, FH become link 0."
 pub data CopiedKind (k : ℕ) : Type 0 where
@@ -75,3 +75,14 @@ pub record NewHistory (x : Args) (f : List ℕ) (fh : ℕ) : Type 0 where
   pub comment : kindAt f (linkAt f fh 1) ≡ kindMD
   pub text : part (linkAt f fh 1 + 24) (length (x .text)) f ≡ x .text
   pub time : part (fh + 40) 8 f ≡ le 8 (x .time)
+
+-- ---- attachments: "as they were but for their links" (`copy_attachments`)
+
+-- from b on the result's attachments: the AT of the recording's attachment chain in order, each with its header and its bytes past its links as they
+-- were; an AT leads by its first link to the next, the last to none, by its other links to what these are to lead to
+unfoldable pub AttachmentsDue : List ℕ → List ℕ → List ℕ → List ℕ → ℕ → Type 0
+AttachmentsDue s f past [] b = b ≡ 0
+AttachmentsDue s f past (a ∷ as') b =
+    SameBlock s f a b × (part b 24 f ≡ part a 24 s)
+    × ((k i : ℕ) → suc i < linksAt s a → LinkDue k s f past (linkAt s a (suc i)) (linkAt f b (suc i)))
+    × AttachmentsDue s f past as' (linkAt f b 0)

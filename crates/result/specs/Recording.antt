@@ -199,6 +199,7 @@ abbrev pub SignalDue : List ℕ → ℕ → Signal → Type 0
 SignalDue s c noSignal = channelType s c ≡ 1 → linkAt s c 5 ≡ 0
 SignalDue s c (signalData fs) = (channelType s c ≡ 1) × (n : ℕ) × (chain signal limits s n (linkAt s c 5) ≡ found fs)
 
+-- bookkeeping: its bytes
 abbrev pub signalSize : Signal → ℕ
 signalSize noSignal = 0
 signalSize (signalData fs) = sizeOf fs
@@ -218,9 +219,11 @@ pub record Followed (s : List ℕ) (goesOn : ℕ → Bool) (a : ℕ) (met : List
   pub each : (b : ℕ) → In b met → goesOn (kindAt s b) ≡ true
   pub ends : (end ≡ 0) ⊎ (In end met ⊎ (goesOn (kindAt s end) ≡ false))
 
+-- "at a kind other than AT": what goes on in an attachment chain
 abbrev pub isAT : ℕ → Bool
 isAT k = eqb k kindAT
 
+-- bookkeeping: where the attachments stood
 unfoldable pub attachedFrom : List Attachment → List ℕ
 attachedFrom [] = []
 attachedFrom (t ∷ ts) = t .from ∷ attachedFrom ts

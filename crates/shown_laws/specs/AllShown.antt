@@ -7,12 +7,10 @@ use lib.Dec.{lit<}
 use lib.ListN.{length, drop}
 use Rattle.base.specs.ChoiceLaws.{eq-yes, eq-no}
 use Rattle.mdf.specs.Block.{kindHD, linkAt}
-use Rattle.plan.specs.Channel.{keepsInval}
 use Rattle.plan.specs.Copies.{Copy}
 use Rattle.plan.specs.Layout.{Layout, Placed, dlOf}
-use Rattle.result.specs.Payload.{columnPayloads}
 use Rattle.result.specs.Ordered.{Ordered}
-use Rattle.result.specs.Fill.{Block, block, mdBytes, fhBytes, hdData, nextDG, cgAt, dataKind, copiedBlocks, dlBlocks, structureBlocks, payloadBlocks, sdBlocks}
+use Rattle.result.specs.Fill.{Block, block, mdBytes, fhBytes, hdData, nextDG, cgAt, copiedBlocks, dlBlocks, structureBlocks, sdBlocks}
 use Rattle.result.specs.Fill.{dataBlocks, attachmentBlocks}
 use Rattle.result.specs.Result.{Args, memoOf, hdBlock, blocksOf}
 use Rattle.result.specs.Links.{shownAt, shownFrom, shown}

@@ -4,31 +4,31 @@ use mathlib.Core.Path.{_≡_, refl, sym, ap, _∙_}
 use mathlib.Core.List.{List, [], _∷_, _++_, flatten, append-nil}
 use mathlib.Core.Bool.{Bool, true, false, false≢true}
 use mathlib.Core.Option.{Option, none, some}
-use Prim.Native.Nat.{ℕ, zero, suc, _+_, _*_, _/_, _%_, _^_, _≤_, _<_}
+use Prim.Native.Nat.{ℕ, zero, suc, _+_, _*_, _/_, _^_, _≤_, _<_}
 use native.Mathlib.Nat.{add-zero}
 use native.Mathlib.Omega.{arith}
 use lib.Dec.{lit<, ltb, eqb}
 use lib.ListN.{length, getD, drop}
 use borrow.Author.Tests.{eqb-true, eqb-false}
-use Rattle.base.specs.Choice.{pick, ifEq}
+use Rattle.base.specs.Choice.{ifEq}
 use Rattle.base.specs.ChoiceLaws.{lt-yes, eq-yes, eq-no}
 use Rattle.base.specs.Field.{leAt, le}
 use Rattle.base.specs.Blit.{part}
 use Rattle.base.specs.BlitLaws.{length-part}
-use Rattle.mdf.specs.Block.{kindDG, kindCG, kindCN, kindDL, kindSD, kindAt, sizeAt, linksAt, linkAt, dataAt}
-use Rattle.mdf.specs.Chain.{Chain.records, Chain.signal, leaf, leafOf, Found, found, chain}
+use Rattle.mdf.specs.Block.{kindDG, kindCG, kindCN, kindDL, kindSD, linksAt, linkAt, dataAt}
+use Rattle.mdf.specs.Chain.{Chain.records, Chain.signal, leaf, leafOf, found, chain}
 use Rattle.mdf.specs.Group.{recordId, groupFlags, samples, invalBytes}
 use Rattle.mdf.specs.Records.{joined}
 use Rattle.mdf.specs.Walk.{idSize}
-use Rattle.plan.specs.Channel.{channelType, bitOffset, byteOffset, bitCount, channelFlags, invalPosition, bit, both, keepsInval, channelBytes, treatment}
+use Rattle.plan.specs.Channel.{channelType, bitOffset, byteOffset, bitCount, channelFlags, invalPosition, bit, both, keepsInval}
 use Rattle.plan.specs.Columns.{Column, Signal, noSignal, signalData, remoteLink}
 use Rattle.plan.specs.Copies.{Copy}
 use Rattle.plan.specs.Layout.{Placed, cgOf, cnOf, dlOf, cgSize, dlSize, columnWidth, columnBlocks}
 use Rattle.result.specs.Payload.{payloads, columnPayloads, signalBytes}
 use Rattle.result.specs.Fill.{Block, block, header, words, dgBytes, cgBytes, cnBytes, cnData, dlBytes, dlBlocks, payloadBlocks, sdBlocks}
-use Rattle.result.specs.Fill.{sdLink, blockLinks, columnPayload, cgAt, cgFlags, cgData, cnFlags, one, dataKind, storedType}
+use Rattle.result.specs.Fill.{sdLink, blockLinks, columnPayload, cgAt, cgFlags, cgData, cnFlags, one, dataKind}
 use Rattle.mdf.specs.Chain.{fileLimits}
-use Rattle.result.specs.Links.{Head, headAt, GroupFields, groupFields, ChannelFields, channelFields, DataList, listAt, listShown, fragmentsIn, joinedIn, shownAt}
+use Rattle.result.specs.Links.{headAt, groupFields, channelFields, listAt, listShown, shownAt}
 use Rattle.result.specs.Due.{
   duePayload,
   dueKind,
@@ -41,21 +41,20 @@ use Rattle.result.specs.Due.{
   placedCGs,
   dueMaster,
   hasMaster,
-  groupFlagsDue,
   channelFlagsDue,
   keptByte,
   groupDue,
   channelDue,
   due,
 }
-use Rattle.result.specs.Guarantee.{Stands, In, here, there}
+use Rattle.result.specs.Guarantee.{Stands, In, here}
 use Rattle.shown_laws.specs.Standing.{stands-front, read, field-at}
 use Rattle.shown_laws.specs.Header.{block-kind, block-size, block-links, block-link, block-data}
-use Rattle.shown_laws.specs.ImageBytes.{choice-small, field-below, flags-below, bytes-below}
+use Rattle.shown_laws.specs.ImageBytes.{choice-small, field-below, bytes-below}
 use Rattle.shown_laws.specs.Joined.{
   EqualBut,
   fragmentsOf,
-  framed-data,
+  blockOf-data,
   fragments-even,
   fragments-joined,
   chain-none,
@@ -243,7 +242,7 @@ pub signal-joined : {f : List ℕ} (s : List ℕ) (g : Signal) (a : ℕ) → ((b
     → joined f (signalDue s g a) ≡ signalBytes s g
 unfolding joined
 signal-joined s noSignal a blocks = refl
-signal-joined s (signalData fs) a blocks = rw (framed-data kindSD a (signalBytes s (signalData fs)) (blocks _ here), append-nil)
+signal-joined s (signalData fs) a blocks = rw (blockOf-data kindSD a (signalBytes s (signalData fs)) (blocks _ here), append-nil)
 
 sd-small : (g : Signal) (a k : ℕ) → a < k → sdLink g a < k
 sd-small noSignal a k h = omega arith

@@ -13,7 +13,7 @@ use Rattle.base.specs.Checked.{fine}
 use Rattle.base.specs.Field.{leAt, le}
 use Rattle.base.specs.FieldLaws.{length-le}
 use Rattle.base.specs.Blit.{part}
-use Rattle.mdf.specs.Block.{kindDL, kindHL, kindSD, kindAt, sizeAt, linksAt, linkAt, dataAt, firstLink, headerIn, lengthIn}
+use Rattle.mdf.specs.Block.{kindDL, kindSD, kindAt, sizeAt, linksAt, linkAt, dataAt, firstLink, headerIn, lengthIn}
 use Rattle.mdf.specs.Chain.{
   Kind,
   dt,
@@ -21,13 +21,9 @@ use Rattle.mdf.specs.Chain.{
   Chain,
   Chain.records,
   Chain.signal,
-  Leaf,
   leaf,
   leafOf,
-  Found,
   found,
-  stopped,
-  onLeaf,
   Limits,
   added,
   fragmentAt,
@@ -38,8 +34,7 @@ use Rattle.mdf.specs.Chain.{
   chain,
 }
 use Rattle.mdf.specs.Records.{joined}
-use Rattle.plan.specs.Layout.{Placed, columnBlocks, dlSize}
-use Rattle.result.specs.Fill.{Block, header, blockOf, payloadBlocks, blockLinks, columnPayload, dlBytes}
+use Rattle.result.specs.Fill.{Block, header, blockOf, payloadBlocks, blockLinks, dlBytes}
 use Rattle.result.specs.FillLaws.{length-blockLinks}
 use Rattle.mdf.specs.Chain.{fileLimits}
 use Rattle.result.specs.Due.{evenBlocks}
@@ -77,41 +72,41 @@ fragmentsOf k a [] = []
 fragmentsOf k a (p ∷ ps) = framedFragment k a p ∷ fragmentsOf k (a + (24 + length p)) ps
 
 module _ {f : List ℕ} (kind a : ℕ) (p : List ℕ) (s : Stands f a (blockOf kind p)) where
-  framed-top : Stands f a (header kind (24 + length p) 0)
+  blockOf-top : Stands f a (header kind (24 + length p) 0)
   unfolding blockOf
-  framed-top = stands-front _ p s
+  blockOf-top = stands-front _ p s
 
-  pub framed-kind : kind < 256 ^ 4 → kindAt f a ≡ kind
-  framed-kind h = header-kind kind (24 + length p) 0 framed-top h
+  pub blockOf-kind : kind < 256 ^ 4 → kindAt f a ≡ kind
+  blockOf-kind h = header-kind kind (24 + length p) 0 blockOf-top h
 
-  pub framed-size : 24 + length p < 256 ^ 8 → sizeAt f a - 24 ≡ length p
-  framed-size h = let n = header-size kind (24 + length p) 0 framed-top h in omega arith
+  pub blockOf-size : 24 + length p < 256 ^ 8 → sizeAt f a - 24 ≡ length p
+  blockOf-size h = let n = header-size kind (24 + length p) 0 blockOf-top h in omega arith
 
   -- its data
-  pub framed-data : part (a + 24) (length p) f ≡ p
+  pub blockOf-data : part (a + 24) (length p) f ≡ p
   unfolding blockOf
-  framed-data = stands-at {b = a + 24} (header kind (24 + length p) 0) p s (simp length-header) .is
+  blockOf-data = stands-at {b = a + 24} (header kind (24 + length p) 0) p s (simp length-header) .is
 
-  pub framed-in : headerIn f a ≡ fine
+  pub blockOf-in : headerIn f a ≡ fine
   unfolding headerIn
-  framed-in =
-      let e = stands-inside (header kind (24 + length p) 0) framed-top (simp length-header (lit< tt)) in
+  blockOf-in =
+      let e = stands-inside (header kind (24 + length p) 0) blockOf-top (simp length-header (lit< tt)) in
       sym (le-yes _ _ _ _ (omega (arith, simp length-header at e)) refl)
 
 -- it is found in a chain in which its kind is a fragment's
 module _ {f : List ℕ} (c : Chain) (l : Limits) (kind : ℕ) (k : Kind) (leafy : leafOf c kind ≡ leaf k) (small : kind < 256 ^ 4) where
-  pub framed-found : (a : ℕ) (p : List ℕ) (n : ℕ) (fs : List Fragment) → Stands f a (blockOf kind p) → 24 + length p < 256 ^ 8
+  pub blockOf-found : (a : ℕ) (p : List ℕ) (n : ℕ) (fs : List Fragment) → Stands f a (blockOf kind p) → 24 + length p < 256 ^ 8
       → n + length fs < l .fragments → fragmentAt c l f n a fs ≡ found (fs ++ (framedFragment k a p ∷ []))
   unfolding fragmentAt added
-  framed-found a p n fs s h r =
-      rw (framed-in kind a p s, framed-kind kind a p s small, leafy, framed-size kind a p s h) (sym (lt-yes _ _ _ _ r refl))
+  blockOf-found a p n fs s h r =
+      rw (blockOf-in kind a p s, blockOf-kind kind a p s small, leafy, blockOf-size kind a p s h) (sym (lt-yes _ _ _ _ r refl))
 
   -- alone in its chain
-  pub framed-alone : (turns a : ℕ) (p : List ℕ) (n : ℕ) → Stands f a (blockOf kind p) → 24 + length p < 256 ^ 8 → (a ≡ 0 → ⊥) → n < l .fragments
+  pub blockOf-alone : (turns a : ℕ) (p : List ℕ) (n : ℕ) → Stands f a (blockOf kind p) → 24 + length p < 256 ^ 8 → (a ≡ 0 → ⊥) → n < l .fragments
       → chainFrom c l (suc turns) f n [] a [] ≡ found (framedFragment k a p ∷ [])
   unfolding chainFrom isIn added
-  framed-alone turns a p n s h z r =
-      sym (eq-no _ _ _ _ z (sym (rw (framed-in kind a p s, framed-kind kind a p s small, leafy, framed-size kind a p s h)
+  blockOf-alone turns a p n s h z r =
+      sym (eq-no _ _ _ _ z (sym (rw (blockOf-in kind a p s, blockOf-kind kind a p s small, leafy, blockOf-size kind a p s h)
       (sym (lt-yes _ _ _ _ (omega arith) refl)))))
 
   -- the links to blocks one after the other lead to them
@@ -125,7 +120,7 @@ module _ {f : List ℕ} (c : Chain) (l : Limits) (kind : ℕ) (k : Kind) (leafy 
       let g : a + 24 * 1 + (length p + 0) < 256 ^ 8 = rw length-append at h in
       let link : leAt 8 f at ≡ a = read 8 a (stands-front (le 8 a) _ s) (omega arith) in
       let one : ifEq a 0 (found fs) (fragmentAt c l f n a fs) ≡ found (fs ++ (framedFragment k a p ∷ [])) =
-      sym (eq-no _ _ _ _ (λ e. omega arith) (sym (framed-found a p n fs (blocks _ here) (omega arith) (omega arith)))) in
+      sym (eq-no _ _ _ _ (λ e. omega arith) (sym (blockOf-found a p n fs (blocks _ here) (omega arith) (omega arith)))) in
       rw (link, one)
   listed-found (p ∷ q ∷ ps) pay a at n fs blocks s eq z h r =
       let g : a + 24 * length (p ∷ q ∷ ps) + (length p + length (q ++ flatten ps)) < 256 ^ 8 = rw length-append at h in
@@ -134,7 +129,7 @@ module _ {f : List ℕ} (c : Chain) (l : Limits) (kind : ℕ) (k : Kind) (leafy 
       stands-at (le 8 a) (blockLinks pay (length (q ∷ ps)) (a + (24 + pay))) s (simp length-le) in
       let next : Stands f (at + 8) (blockLinks pay (length (q ∷ ps)) (a + (24 + length p))) = rw (eq .0) rest in
       let one : ifEq a 0 (found fs) (fragmentAt c l f n a fs) ≡ found (fs ++ (framedFragment k a p ∷ [])) =
-      sym (eq-no _ _ _ _ (λ e. omega arith) (sym (framed-found a p n fs (blocks _ here) (omega arith) (omega arith)))) in
+      sym (eq-no _ _ _ _ (λ e. omega arith) (sym (blockOf-found a p n fs (blocks _ here) (omega arith) (omega arith)))) in
       let more = listed-found (q ∷ ps) pay (a + (24 + length p)) (at + 8) n (fs ++ (framedFragment k a p ∷ [])) (λ b i. blocks b (there i)) next
       (eq .1) (omega arith) (omega arith) (rw length-append (omega arith)) in
       rw (link, one) (more ∙ ap found (append-assoc fs _ _))
@@ -155,7 +150,7 @@ pub fragments-joined : {f : List ℕ} (k : Kind) (kind a : ℕ) (ps : List (List
 unfolding fragmentsOf payloadBlocks joined flatten
 fragments-joined k kind a [] blocks = refl
 fragments-joined k kind a (p ∷ ps) blocks =
-    rw (framed-data kind a p (blocks _ here), fragments-joined k kind (a + (24 + length p)) ps (λ b i. blocks b (there i)))
+    rw (blockOf-data kind a p (blocks _ here), fragments-joined k kind (a + (24 + length p)) ps (λ b i. blocks b (there i)))
 
 -- ---- nothing at link 0
 chain-ends : (c : Chain) (l : Limits) (turns : ℕ) (f : List ℕ) (n : ℕ) (seen : List ℕ) (fs : List Fragment)
@@ -171,7 +166,7 @@ chain-none c f n = chain-ends c fileLimits 257 f n [] []
 pub chain-signal : {f : List ℕ} (a : ℕ) (p : List ℕ) (n : ℕ) → Stands f a (blockOf kindSD p) → 24 + length p < 256 ^ 8 → (a ≡ 0 → ⊥)
     → n < fileLimits .fragments → chain signal fileLimits f n a ≡ found (framedFragment dt a p ∷ [])
 unfolding chain leafOf ifEq
-chain-signal a p n s h z r = framed-alone signal fileLimits kindSD dt refl (lit< tt) 257 a p n s h z r
+chain-signal a p n s h z r = blockOf-alone signal fileLimits kindSD dt refl (lit< tt) 257 a p n s h z r
 
 -- ---- the DL of a column with its blocks
 
