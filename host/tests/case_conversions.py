@@ -196,6 +196,6 @@ def refusal_keeps_an_old_result():
 
 @test
 def every_refusal_was_met():
-    expect(MET == set(range(1, 22)), "not met:", sorted(set(range(1, 22)) - MET))
+    expect(MET == set(range(1, 25)), "not met:", sorted(set(range(1, 25)) - MET))
 
 

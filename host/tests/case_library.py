@@ -50,6 +50,50 @@ def example_in_rust():
     expect(read("convert-rust.mf4") == read("convert-c.mf4"), "another result than in C")
 
 
+def reads_example(program, *, widths):
+    """Columns of the example's result with blocks of 64 bytes, the whole of each lying in several blocks."""
+    expect(run("--block-size", "64", "--force", EXAMPLE, place("read.mf4")).returncode == 0, "no result")
+    cells = [[a + b for a, b in c.cells()] for c in columns_of(read("read.mf4"))]
+    for column, first, count, said in (
+        (0, 0, 20, b"".join(cells[0]).hex()),
+        (1, 3, 2, b"".join(cells[1][3:5]).hex()),
+        (1, 0, 20, b"".join(cells[1]).hex()),
+        (0, 20, 0, ""),
+        (2, 0, 0, "refused 22 place 0"),
+        (0, 20, 1, "refused 23 place 0"),
+    ):
+        words = [str(x) for x in (column, first, count)] + ([str(len(cells[min(column, 1)][0]))] if widths else [])
+        r = subprocess.run([program, place("read.mf4"), *words], stdout=subprocess.PIPE)
+        expect(r.stdout.decode() == said + "\n", words, r.stdout)
+    MET.update((22, 23))
+
+
+@test
+def example_reads_in_c():
+    program = place("read-c")
+    cc(os.path.join(ROOT, "host", "examples", "read.c"), LIBRARY, "-o", program)
+    reads_example(program, widths=False)
+
+
+@test
+def example_reads_in_rust():
+    program = place("read-rust")
+    words = ["-O", "--edition", "2021", "-L", os.path.dirname(LIBRARY), os.path.join(ROOT, "host", "examples", "read.rs"), "-o", program]
+    subprocess.run(["rustc", *words], check=True)
+    reads_example(program, widths=True)
+    r = subprocess.run([program, place("read.mf4"), "0", "0", "20", "3"], stdout=subprocess.PIPE)
+    expect(r.stdout == b"refused 24 place 0\n", r.stdout)
+    MET.add(24)
+
+
+@test
+def reader_at_its_borders():
+    program = place("reader")
+    cc(os.path.join(ROOT, "host", "tests", "reader.c"), LIBRARY, "-o", program)
+    r = subprocess.run([program], stdout=subprocess.PIPE)
+    expect(r.returncode == 0 and r.stdout.endswith(b" checks, 0 wrong\n"), r.stdout.decode())
+
+
 @test
 def library_and_header():
     """Refusals 1, 2, 20 and 21 and every length of the header, from both sides."""

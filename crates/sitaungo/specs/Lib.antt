@@ -2,3 +2,5 @@ pub mod Answer
 pub mod AnswerLaws
 pub mod ColumnFile
 pub mod ColumnFileLaws
+pub mod Readable
+pub mod ReadableLaws

@@ -1,5 +1,6 @@
 // The conversion, its listing and the reader of column files, for programs that link them.
 pub mod column_file;
+
 use listing::recording::list;
 use writing::convert::Converted;
 use writing::convert::convert;
@@ -7,9 +8,10 @@ ghost use mathlib.Core.Path.{_≡_};
 ghost use lib.ListN.{length};
 ghost use Rattle.result.specs.Result as result;
 ghost use Rattle.placing.specs.Decision.{untimed, four};
-ghost use Rattle.writing.specs.Answer.{args, Promised};
+ghost use Rattle.writing.specs.Answer.{args, Bytes, Promised};
 ghost use Rattle.listing.specs.Listed.{Listed};
 ghost use Rattle.sitaungo.specs.Answer.{left, exported};
+ghost use Rattle.sitaungo.specs.Readable.{Readable};
 
 // Whether the recording was accepted; document 01's refusal with number and place where it was not, else 0; the report's seven counts where
 // it was, else 0.
@@ -25,6 +27,15 @@ pub struct Outcome {
     pub data_blocks: u64,
     pub metadata_size: u64,
     pub file_size: u64,
+}
+
+// Every element of a slice is a byte.
+fn are_bytes(s: &[u8])
+    ensures { λ _. ⌜ Bytes (now (s .entry)) ⌝ }
+{
+    if 0 < s.len() {
+        let _first = s[0];
+    }
 }
 
 // One recording into one file: `convert` of the crate writing.
@@ -49,7 +60,12 @@ pub extern "C" fn sitaungo_convert(
     ensures promised { λ _. ⌜ Promised (args (now (image .entry)) size (now (ident .entry)) (now (text .entry)) time)
         (length (now (out .entry))) (length (now (list .entry)))
         (four (now (source .entry)) (now (fragments .entry)) (now (columns .entry)) (now (copies .entry))) (now (out .exit)) (now (list .exit)) ⌝ }
+    ensures readable { λ _. ⌜ Readable (args (now (image .entry)) size (now (ident .entry)) (now (text .entry)) time)
+        (length (now (out .entry))) (length (now (list .entry)))
+        (four (now (source .entry)) (now (fragments .entry)) (now (columns .entry)) (now (copies .entry))) (now (out .exit)) ⌝ }
 {
+    are_bytes(image);
+    are_bytes(ident);
     let answer = convert(
         image,
         size,

@@ -46,21 +46,42 @@ struct Ranges {
     width: usize,
 }
 
+/// The best of so many turns, each of one read, one part and one copy.
 fn line(name: &str, file: &[u8], turns: usize, r: Ranges) {
     let bytes = r.records as usize * r.width;
     let (mut buffer, mut copied) = (vec![1u8; bytes], vec![1u8; bytes]);
     let starts: Vec<u64> = (0..r.ranges).map(|i| i * (r.all - r.records) / r.ranges).collect();
-    let reads = times(turns, || starts.iter().for_each(|s| read(file, r.column, *s, r.records, &mut buffer)));
-    let parts = times(turns, || assert!(starts.iter().map(|s| part(file, r.column, *s, r.records).length).sum::<u64>() > 0));
-    let copy = times(turns, || starts.iter().for_each(|_| copied.copy_from_slice(std::hint::black_box(&buffer))));
-    println!("| {name} | {} | {:.4} | {:.4} | {:.4} |", file.len() / 1_000_000, reads.0, parts.0, copy.0);
+    let [mut reads, mut parts, mut copies] = [f64::MAX; 3];
+    for _ in 0..turns {
+        reads = reads.min(times(1, || starts.iter().for_each(|s| read(file, r.column, *s, r.records, &mut buffer))).0);
+        parts = parts.min(times(1, || assert!(starts.iter().map(|s| part(file, r.column, *s, r.records).length).sum::<u64>() > 0)).0);
+        copies = copies.min(times(1, || starts.iter().for_each(|_| copied.copy_from_slice(std::hint::black_box(&buffer)))).0);
+    }
+    println!("| {name} | {} | {reads:.4} | {parts:.4} | {copies:.4} |", file.len() / 1_000_000);
 }
 
-/// A file of one 8-bit column whose DL lists so many blocks of so many bytes, of which only headers are touched.
-fn one_column(blocks: u64, payload: u64) -> (&'static mut [u8], u64) {
+/// The last 8 records of a column of 8 bits.
+fn last(name: &str, turns: usize, blocks: Blocks) {
+    let (file, all) = one_column(blocks);
+    let mut buffer = [0; 8];
+    let reads = times(turns, || read(file, 0, all - 8, 8, &mut buffer));
+    let parts = times(turns, || assert!(part(file, 0, all - 8, 8).accepted));
+    println!("| the last 8 records of {name} | {} | {:.4} | {:.4} | |", file.len() / 1_000_000, reads.0, parts.0);
+}
+
+/// The blocks that a DL lists, over and over where fewer are there; the bytes of each.
+struct Blocks {
+    listed: u64,
+    there: u64,
+    bytes: u64,
+}
+
+/// A file of one 8-bit column of these blocks, of which only headers are touched, and its records.
+fn one_column(blocks: Blocks) -> (&'static mut [u8], u64) {
+    let Blocks { listed, there, bytes } = blocks;
     let dl = 64 + 104 + 64 + 104 + 160;
-    let first = dl + 24 + 8 * (blocks + 1) + 16;
-    let size = (first + blocks * (24 + payload)) as usize;
+    let first = dl + 24 + 8 * (listed + 1) + 16;
+    let size = (first + there * (24 + bytes)) as usize;
     // private, anonymous, without reserving memory
     let at = unsafe { mmap(std::ptr::null_mut(), size, 3, 0x4022, -1, 0) };
     assert!(at as isize != -1, "no room for {size} bytes");
@@ -78,31 +99,29 @@ fn one_column(blocks: u64, payload: u64) -> (&'static mut [u8], u64) {
     block(dg, b"##DG", 64, &[0, cg, dl, 0]);
     block(cg, b"##CG", 104, &[0, cn, 0, 0, 0, 0]);
     block(cn, b"##CN", 160, &[0; 8]);
-    let places: Vec<u64> = (0..blocks).map(|i| first + i * (24 + payload)).collect();
-    block(dl, b"##DL", first - dl, &[&[0], &places[..]].concat());
-    places.iter().for_each(|p| block(*p, b"##DV", 24 + payload, &[]));
-    put(cg + 72 + 8, &(blocks * payload).to_le_bytes());
+    let place = |i: u64| first + i * (24 + bytes);
+    let links: Vec<u64> = std::iter::once(0).chain((0..listed).map(|i| place(i % there))).collect();
+    block(dl, b"##DL", first - dl, &links);
+    (0..there).for_each(|i| block(place(i), b"##DV", 24 + bytes, &[]));
+    put(cg + 72 + 8, &(listed * bytes).to_le_bytes());
     put(cg + 72 + 24, &1u32.to_le_bytes());
     put(first - 16, &1u32.to_le_bytes());
-    put(first - 8, &payload.to_le_bytes());
-    (file, blocks * payload)
+    put(first - 8, &bytes.to_le_bytes());
+    (file, listed * bytes)
 }
 
 pub fn run(turns: usize) {
+    println!("| ranges | MB of the file | read (ms) | part (ms) | copy (ms) |\n|---|---:|---:|---:|---:|");
+    let (alone, all) = one_column(Blocks { listed: 1, there: 1, bytes: 240_000 });
+    let data = alone.len() - all as usize;
+    alone[data..].fill(7);
+    line("a column of 240 kB, the only one, whole", alone, 200 * turns, Ranges { column: 0, ranges: 1, records: all, all, width: 1 });
     let rack = convert(&recording(&[Group { channels: 300, bits: 32, inval: false, id: 0 }], 60_000, 4 << 20));
     assert_eq!(&rack[word(&rack, 88) as usize..][..4], b"##DG");
-    println!("| ranges | MB of the file | read (ms) | part (ms) | copy (ms) |\n|---|---:|---:|---:|---:|");
-    line("a column of 240 kB of 300, whole", &rack, turns, Ranges { column: 150, ranges: 1, records: 60_000, all: 60_000, width: 4 });
+    line("a column of 240 kB of 300, whole", &rack, 200 * turns, Ranges { column: 150, ranges: 1, records: 60_000, all: 60_000, width: 4 });
     line("1,000 ranges of 100 records of it", &rack, turns, Ranges { column: 150, ranges: 1000, records: 100, all: 60_000, width: 4 });
-    for blocks in [50_000, 100_000] {
-        let (file, records) = one_column(blocks, 8);
-        let name = format!("the last 8 records of {blocks} blocks of 8 bytes");
-        let last = times(turns, || assert_eq!(part(file, 0, records - 8, 8).length, 8));
-        let mut buffer = [0; 8];
-        let copied = times(turns, || read(file, 0, records - 8, 8, &mut buffer));
-        println!("| {name} | {} | {:.4} | {:.4} | |", file.len() / 1_000_000, copied.0, last.0);
-    }
-    let (file, records) = one_column(1100, 4 << 20);
-    let last = times(turns, || assert_eq!(part(file, 0, records - 8, 8).length, 8));
-    println!("| 8 records of a file of 4 MiB blocks | {} | | {:.4} | |", file.len() / 1_000_000, last.0);
+    last("50,000 blocks of 8 bytes", 10 * turns, Blocks { listed: 50_000, there: 50_000, bytes: 8 });
+    last("100,000 blocks of 8 bytes", 10 * turns, Blocks { listed: 100_000, there: 100_000, bytes: 8 });
+    last("1,100 blocks of 4 MiB", 10 * turns, Blocks { listed: 1100, there: 1100, bytes: 4 << 20 });
+    last("a DL of 272 MB, one block of 8 bytes 34 million times", turns, Blocks { listed: 34_000_000, there: 1, bytes: 8 });
 }

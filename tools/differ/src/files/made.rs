@@ -17,6 +17,7 @@ pub fn file(port: &mut Port, seed: u64, k: u64) -> Made {
     let mut random = Random::of(seed ^ 0x6669_6c65, k);
     let (sound, from) = match result(port, seed, k).filter(|_| random.percent(60)) {
         Some(bytes) => (found(bytes), ["a result", "a result, damaged"]),
+        None if random.below(60) == 0 => (crowded(&mut random), ["around a limit", "around a limit, damaged"]),
         None => (draft(&mut random).place_anyhow(&mut random), ["made whole", "made whole, damaged"]),
     };
     let n = random.pick(&[0, 0, 1, 1, 1, 1, 2]);
@@ -57,12 +58,93 @@ fn draft(random: &mut Random) -> Draft {
     let n = random.pick(&[0, 1, 1, 2, 2, 3, 5, 9]);
     let mut lists = Vec::new();
     let all: Vec<Id> = (0..n).map(|_| column(&mut draft, random, &mut lists)).collect();
-    let mut before = HD;
-    for &dg in &all {
-        draft.blocks[before].links[0] = Some(dg);
-        before = dg;
-    }
+    chain(&mut draft, &[&[HD], &all[..]].concat());
     draft
+}
+
+/// Each block leads to the next by its first link.
+fn chain(draft: &mut Draft, ids: &[Id]) {
+    ids.windows(2).for_each(|w| draft.blocks[w[0]].links[0] = Some(w[1]));
+}
+
+/// A file around the walk's limits: 512 DG, CG and CN in all, 256 DL and HL in a chain.
+fn crowded(random: &mut Random) -> Image {
+    let mut draft = Draft::new();
+    draft.version = *b"4.20    ";
+    let all = match random.below(4) {
+        0 => many(&mut draft, random),
+        1 => one_longer(&mut draft, random),
+        2 => long_groups(&mut draft, random),
+        _ => long_lists(&mut draft, random),
+    };
+    chain(&mut draft, &[&[HD], &all[..]].concat());
+    draft.place_anyhow(random)
+}
+
+/// Columns in the form.
+fn many(draft: &mut Draft, random: &mut Random) -> Vec<Id> {
+    (0..random.range(511, 514)).map(|_| plain(draft, random).dg).collect()
+}
+
+/// Columns of which one has further CG or CN.
+fn one_longer(draft: &mut Draft, random: &mut Random) -> Vec<Id> {
+    let all: Vec<Plain> = (0..random.range(509, 512)).map(|_| plain(draft, random)).collect();
+    let crowded = random.pick(&all);
+    let more: Vec<Plain> = (0..random.range(0, 3)).map(|_| plain(draft, random)).collect();
+    let of = if random.percent(50) { |p: &Plain| p.cg } else { |p: &Plain| p.cn };
+    let longer: Vec<Id> = std::iter::once(&crowded).chain(&more).map(of).collect();
+    chain(draft, &longer);
+    all.iter().map(|p| p.dg).collect()
+}
+
+/// A DG with as many CG, or a CG with as many CN.
+fn long_groups(draft: &mut Draft, random: &mut Random) -> Vec<Id> {
+    let all: Vec<Plain> = (0..random.range(511, 514)).map(|_| plain(draft, random)).collect();
+    let of = if random.percent(50) { |p: &Plain| p.cg } else { |p: &Plain| p.cn };
+    let longer: Vec<Id> = all.iter().map(of).collect();
+    chain(draft, &longer);
+    vec![all[0].dg]
+}
+
+/// A column with a chain of as many DL and HL.
+fn long_lists(draft: &mut Draft, random: &mut Random) -> Vec<Id> {
+    let lists: Vec<Id> = (0..random.range(255, 258)).map(|_| list(draft, random)).collect();
+    chain(draft, &lists);
+    let column = plain(draft, random);
+    draft.blocks[column.dg].links[2] = Some(lists[0]);
+    vec![column.dg]
+}
+
+/// A DL without blocks, or an HL.
+fn list(draft: &mut Draft, random: &mut Random) -> Id {
+    draft.add(random.pick(&[*b"DL", *b"DL", *b"HL"]), vec![None], vec![0; 16])
+}
+
+/// The blocks of a column.
+#[derive(Clone, Copy)]
+struct Plain {
+    dg: Id,
+    cg: Id,
+    cn: Id,
+}
+
+/// A column of a few bytes in one block.
+fn plain(draft: &mut Draft, random: &mut Random) -> Plain {
+    let n = random.below(4);
+    let data = draft.add(*b"DT", vec![], random.bytes(n));
+    let length = [1, n as u64].map(u64::to_le_bytes).concat();
+    let dl = draft.add(*b"DL", vec![None, Some(data)], length);
+    place(draft, &Records { samples: 1, inval: 0, count: n as u64 }, None, 0, Some(dl))
+}
+
+/// DG, CG and CN of a column.
+fn place(draft: &mut Draft, r: &Records, name: Link, kind: u8, data: Link) -> Plain {
+    let mut cn_data = vec![0; 72];
+    cn_data[0] = kind;
+    let cn = draft.add(*b"CN", [&[None, None, name][..], &[None; 5]].concat(), cn_data);
+    let cg = draft.add(*b"CG", vec![None, Some(cn), name, None, None, None], group_data(r));
+    let dg = draft.add(*b"DG", vec![None, Some(cg), data, None], vec![0; 8]);
+    Plain { dg, cg, cn }
 }
 
 /// What a column's records are.
@@ -89,11 +171,8 @@ fn column(draft: &mut Draft, random: &mut Random, lists: &mut Vec<(Id, u64)>) ->
         w => bytes / w as u64 + (random.percent(3) as u64),
     };
     let name = random.percent(40).then(|| draft.add(*b"TX", vec![], b"name\0\0\0\0".to_vec()));
-    let mut cn_data = vec![0; 72];
-    cn_data[0] = random.pick(&[0, 0, 2, 1, 6]);
-    let cn = draft.add(*b"CN", [&[None, None, name][..], &[None; 5]].concat(), cn_data);
-    let cg = draft.add(*b"CG", vec![None, Some(cn), name, None, None, None], group_data(&r));
-    draft.add(*b"DG", vec![None, Some(cg), data, None], vec![0; 8])
+    let kind = random.pick(&[0, 0, 2, 1, 6]);
+    place(draft, &r, name, kind, data).dg
 }
 
 fn group_data(r: &Records) -> Vec<u8> {

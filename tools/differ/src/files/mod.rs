@@ -3,6 +3,7 @@ mod made;
 mod port;
 mod reader;
 
+use crate::blocks::kind_at;
 use crate::port_side::Port;
 use crate::random::Random;
 use reader::{Column, Refusal};
@@ -28,7 +29,7 @@ struct Try {
 struct Run {
     files: BTreeMap<&'static str, u64>,
     opened: BTreeMap<&'static str, u64>,
-    refused: BTreeMap<u64, u64>,
+    refused: BTreeMap<(u64, String), u64>,
     reads: u64,
     bytes: u64,
     parts: u64,
@@ -86,7 +87,7 @@ impl Run {
                 self.reads += 1;
                 self.bytes += bytes.len() as u64;
             }
-            Err((number, _)) => *self.refused.entry(number).or_default() += 1,
+            Err((number, place)) => *self.refused.entry((number, limited(file, number, place))).or_default() += 1,
         }
         match part {
             Ok(reader::Part::Split) => self.split += 1,
@@ -104,8 +105,18 @@ impl Run {
         println!("\n| Ranges | |\n|---|---:|");
         println!("| copied, the same bytes | {} |\n| bytes of these | {} |", self.reads, self.bytes);
         println!("| handed back as a part, the same place | {} |\n| split | {} |", self.parts, self.split);
-        self.refused.iter().for_each(|(number, n)| println!("| refused with {number}, the same place | {n} |"));
+        self.refused.iter().for_each(|((number, at), n)| println!("| refused with {number}{at}, the same place | {n} |"));
         println!("| disagreements | {} |", self.disagreements);
+    }
+}
+
+/// The kind of the block that a limit is passed at.
+fn limited(file: &[u8], number: u64, place: u64) -> String {
+    let kind = kind_at(file, place as usize);
+    if number == 19 {
+        format!(" at {}", String::from_utf8_lossy(kind.get(2..).unwrap_or(b"")))
+    } else {
+        String::new()
     }
 }
 
