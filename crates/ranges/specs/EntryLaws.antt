@@ -5,24 +5,28 @@ use mathlib.Core.List.{List, [], _++_, append-assoc}
 use mathlib.Core.Bool.{Bool, true, false}
 use native.Mathlib.Nat.{mul-zero, div-add-mod', mod-lt, mul-le-mul-right, suc-mul}
 use native.Mathlib.Omega.{arith}
-use borrow.Author.Tests.{le-leb, lt-leb, leb-true, leb-false}
+use borrow.Author.Tests.{le-leb, lt-leb, leb-true, leb-false, eq-eqb}
 use borrow.Rule.Slice.PartMut.{putMid, midOf}
-use lib.Dec.{leb}
+use lib.Dec.{leb, eqb}
 use lib.ListN.{length, take, drop}
 use lib.Seq.{drop-drop}
 use Rattle.base.specs.Blit.{part, blit}
 use Rattle.base.specs.BlitLaws.{blit-is, length-part}
 use Rattle.base.specs.Checked.{ok, refused}
 use Rattle.fields.specs.declared.Check.{Check}
+use Rattle.fields.specs.declared.Check.the-variants.{Fine}
+use Rattle.mdf.specs.Block.{linkAt}
+use Rattle.mdf.specs.Records.{joined}
 use Rattle.file.specs.Form.{FileColumn, recordBytes}
-use Rattle.file.specs.Range.{asked, bytesOf, Copied, copied, readInto}
+use Rattle.file.specs.Range.{asked, bytesOf, rangeOf, Copied, copied, readInto}
 use Rattle.file.specs.Plot.{Entry, readAt, laidOver, single}
 use Rattle.file_laws.specs.RangeLaws.{read-length}
-use Rattle.file_laws.specs.PlotLaws.{single-read, single-refused, single-past}
+use Rattle.file_laws.specs.PlotLaws.{single-read, single-served, single-refused, single-past}
 use Rattle.ranges.specs.declared.read.Granted.{Granted}
 use Rattle.ranges.specs.declared.read.Granted.the-variants.{Refused, Column}
-use Rattle.ranges.specs.Blocks.{columnOf}
-use Rattle.ranges.specs.Read.{askedAs, copiedAs}
+use Rattle.ranges.specs.Blocks.{blocksOf, columnOf}
+use Rattle.ranges.specs.Read.{askedAs, copiedAs, Fills}
+use Rattle.ranges.specs.ReadLaws.{read-fills, read-copied}
 
 -- ---- whether the bytes lie in the destination
 module _ (n place count w : ℕ) where
@@ -90,9 +94,36 @@ module _ (s : List ℕ) (e : Entry) (d : List ℕ) {g : Granted} (a : askedAs s 
         let l : length d < e .place + e .count * w = leb-false (e .place + e .count * w) (length d) (sym h ∙ z) in
         sym (single-past s e d (columnOf s dg cg cn) column (rw (← bytes-is) l))
 
-    pub entry-served : t ≡ true → (r : Check) (b : List ℕ)
-        → copiedAs r b ≡ readInto s (e .column) (e .first) (e .count) (midOf (e .place) (e .place + e .count * w - e .place) d)
-        → copiedAs r (putMid (e .place) (e .place + e .count * w - e .place) d b) ≡ single s e d
-    entry-served z r b v =
-        let m : e .place + e .count * w - e .place ≡ e .count * w = omega arith in
-        entry-read s e d (columnOf s dg cg cn) column r b (e .place + e .count * w - e .place) (m ∙ bytes-is) (rw m (entry-lies z)) v
+    -- some bytes, which fill the part
+    module _ (z : t ≡ true) where
+      abbrev m : ℕ
+      m = e .place + e .count * w - e .place
+
+      is-count : m ≡ e .count * w
+      is-count = omega arith
+
+      mid-length : length (midOf (e .place) m d) ≡ e .count * w
+      unfolding part
+      mid-length = length-part (e .place) m d (rw is-count (entry-lies z)) ∙ is-count
+
+      fits : true ≡ eqb (length (midOf (e .place) m d)) (e .count * w)
+      fits = sym (eq-eqb _ _ mid-length)
+
+      pub entry-fills : w < 8589934591 → e .place < e .place + e .count * w → Fills s dg (e .first) w (length (midOf (e .place) m d))
+      entry-fills y x =
+          read-fills s (e .column) (e .first) (e .count) (midOf (e .place) m d) a q f fits refl y (let l = mid-length in omega arith)
+
+      pub entry-filled : {b : List ℕ}
+          → b ≡ part (e .first * w) (length (midOf (e .place) m d)) (joined s (blocksOf s (linkAt s dg 2)))
+          → copied d (ok (putMid (e .place) m d b)) ≡ single s e d
+      entry-filled {b} y =
+          entry-read s e d (columnOf s dg cg cn) column Fine b m (is-count ∙ bytes-is) (rw is-count (entry-lies z))
+          (read-copied s (e .column) (e .first) (e .count) (midOf (e .place) m d) a q f fits refl y)
+
+      -- or none
+      pub entry-none : e .place + e .count * w ≤ e .place → copied d (ok d) ≡ single s e d
+      unfolding rangeOf part blit
+      entry-none y =
+          let v : bytesOf s (columnOf s dg cg cn) (e .count) ≡ 0 = sym bytes-is ∙ omega arith in
+          let x : rangeOf s (e .first) (e .count) (columnOf s dg cg cn) ≡ [] = rw v in
+          sym (single-served s e d (columnOf s dg cg cn) column (rw (← bytes-is) (entry-lies z)) ∙ rw x)

@@ -1,9 +1,9 @@
 -- By division.
 use native.Mathlib.Omega.{arith}
 use borrow.Author.Needs.{needs}
-use Rattle.plot.specs.EntryLaws.{lie-past, lie-none, lie-some}
-use Rattle.plot.proofs.lie.Statement.{statement}
-use Rattle.plot.proofs.lie.Tie as tie
+use Rattle.ranges.specs.EntryLaws.{lie-past, lie-none, lie-some}
+use Rattle.ranges.proofs.plot.lie.Statement.{statement}
+use Rattle.ranges.proofs.plot.lie.Tie as tie
 
 returns : tie.Need-returns
 returns c = lie-past _ _ _ _ (c .if1 .taken)

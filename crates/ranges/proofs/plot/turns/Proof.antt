@@ -1,9 +1,9 @@
 use mathlib.Core.Path.{refl}
 use native.Mathlib.Omega.{arith}
 use Rattle.base.specs.ChoiceLaws.{le-yes, le-no}
-use Rattle.plot.specs.Turn.{turnsOf}
-use Rattle.plot.proofs.turns.Statement.{statement}
-use Rattle.plot.proofs.turns.Tie as tie
+use Rattle.ranges.specs.Turn.{turnsOf}
+use Rattle.ranges.proofs.plot.turns.Statement.{statement}
+use Rattle.ranges.proofs.plot.turns.Tie as tie
 
 returns : tie.Need-returns
 unfolding turnsOf
