@@ -65,9 +65,9 @@ module _ (s : List ℕ) (e : Entry) (d : List ℕ) (c : FileColumn) (q : asked s
   unfolding part
   entry-read r b m z h v =
       let l : length b ≡ m =
-          ap (λ (x : Copied). length (x .buffer)) v
-          ∙ read-length s (e .column) (e .first) (e .count) (part (e .place) m d)
-          ∙ length-part (e .place) m d h in
+      ap (λ (x : Copied). length (x .buffer)) v
+      ∙ read-length s (e .column) (e .first) (e .count) (part (e .place) m d)
+      ∙ length-part (e .place) m d h in
       ap (λ (y : List ℕ). copiedAs r y) (mid-blit (e .place) m d b h l)
       ∙ ap (laidOver (e .place) d) v
       ∙ ap (λ (k : ℕ). laidOver (e .place) d (readAt s e d k)) z

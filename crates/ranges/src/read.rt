@@ -28,7 +28,13 @@ pub enum Granted {
 }
 
 // 22 and 23, of a file whose columns stand in the words.
-pub(crate) fn ask_opened(image: &[u8], source: &[u64; 4096], column: u64, first: u64, count: u64) -> Granted
+pub(crate) fn ask_opened(
+    image: &[u8],
+    source: &[u64; 4096],
+    column: u64,
+    first: u64,
+    count: u64,
+) -> Granted
     requires { ⌜ Holds (now image) (now source) ⌝ }
     ensures { λ r. ⌜ askedAs (now (image .entry)) r ≡ asked (now (image .entry)) column first count ⌝ }
 {

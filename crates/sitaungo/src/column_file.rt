@@ -33,7 +33,13 @@ pub struct Part {
 
 // Count records of a column, beginning at a given one, are copied into the buffer: `read_range` of the crate ranges.
 #[no_mangle]
-pub extern "C" fn sitaungo_read_range(image: &[u8], column: u64, first: u64, count: u64, buffer: &mut [u8]) -> Read
+pub extern "C" fn sitaungo_read_range(
+    image: &[u8],
+    column: u64,
+    first: u64,
+    count: u64,
+    buffer: &mut [u8],
+) -> Read
     ensures { λ r. ⌜ filled r (now (buffer .exit)) ≡ exportedRead (readInto (now (image .entry)) column first count (now (buffer .entry))) ⌝ }
 {
     let answer = read_range(image, column, first, count, buffer);

@@ -437,8 +437,19 @@ module _ {M : Type 1} (𝓤 : URA M) (H : Heap 𝓤) (A : Atoms 𝓤) (W : Given
       turn-at zero i st d f = subst (λ (j : ℕ). ent 𝓤 (⋆ 𝓤 H A (At j st d)) (Wp 𝓤 H C Λ En body.turn-1 (afterTurn 𝓤 H (Below zero) Left))) (sym (f .0) ∙ add-zero i) (ends st d (Below zero) (f .1 .0) (f .1 .1 .0) (f .1 .1 .1 .0))
       turn-at (suc t) i st d f =
           more i st d (Below (suc t)) (subst (λ (j : ℕ). i < j) (sym (add-suc i t) ∙ f .0) (lt-of-le-of-lt (le-add-right i t) (lt-suc-self (i + t)))) (f .1 .0) (f .1 .1 .0) (f .1 .1 .1 .1)
-          (λ r zs is l e. below t (suc i) r zs (suc-add i t ∙ sym (add-suc i t) ∙ f .0, (is, (l ∙ f .1 .1 .0, (ap (turnsFrom ss ts t (suc i)) e ∙ f .1 .1 .1 .0,
-          λ h q. f .1 .1 .1 .1 h (turn-keeps ss i (entry i) (laid st d) (ap (λ (x : Laid). x .state .accepted) (sym e) ∙ q)))))))
+          (λ r zs is l e. below t (suc i) r zs (
+            suc-add i t ∙ sym (add-suc i t) ∙ f .0,
+            (
+              is,
+              (
+                l ∙ f .1 .1 .0,
+                (
+                  ap (turnsFrom ss ts t (suc i)) e ∙ f .1 .1 .1 .0,
+                  λ h q. f .1 .1 .1 .1 h (turn-keeps ss i (entry i) (laid st d) (ap (λ (x : Laid). x .state .accepted) (sym e) ∙ q)),
+                ),
+              ),
+            ),
+          ))
 
       any-turn : (t : ℕ) → ent 𝓤 (Inv t) (Wp 𝓤 H C Λ En body.turn-1 (afterTurn 𝓤 H (Below t) Left))
       any-turn t = exE 𝓤 (λ (i : ℕ). ex 𝓤 (λ (st : Plotting). ex 𝓤 (λ (d : List ℕ). guard 𝓤 (Facts t i st d) (⋆ 𝓤 H A (At i st d))))) (λ i.
