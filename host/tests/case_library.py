@@ -50,8 +50,10 @@ def example_in_rust():
     expect(read("convert-rust.mf4") == read("convert-c.mf4"), "another result than in C")
 
 
-def plots_example(program, file):
+def plots_example(program):
     """Three ranges of both columns; a refused entry with those before it; no entries."""
+    file = "plotted.mf4"
+    expect(run(EXAMPLE, file, "--force").returncode == 0, "no result to plot")
     time_, signal_ = columns_of(read(file))
     whole = [b"".join(a + b for a, b in c.cells()) for c in (time_, signal_)]
     due = whole[0][4 * 3 : 4 * 8] + whole[1][:6] + whole[0][76:]
@@ -66,7 +68,7 @@ def plots_example(program, file):
 def plot_in_c():
     program = place("plot-c")
     cc(os.path.join(ROOT, "host", "examples", "plot.c"), LIBRARY, "-o", program)
-    plots_example(program, "convert-c.mf4")
+    plots_example(program)
 
 
 @test
@@ -74,7 +76,7 @@ def plot_in_rust():
     program = place("plot-rust")
     words = ["-O", "--edition", "2021", "-L", os.path.dirname(LIBRARY), os.path.join(ROOT, "host", "examples", "plot.rs"), "-o", program]
     subprocess.run(["rustc", *words], check=True)
-    plots_example(program, "convert-c.mf4")
+    plots_example(program)
 
 
 @test
