@@ -1,16 +1,16 @@
 /* Sitaungo: one row-oriented MDF 4 recording into one column-oriented MDF 4.20 file.
  *
  * Library libsitaungo.a (rt staticlib sitaungo), x86-64 Linux. The functions are proved: for every input, numbers, output, list, lines,
- * buffer and work words are those of the definitions in crates/result/specs, crates/listing/specs and crates/file/specs. They allocate nothing, keep nothing between
+ * buffer, destination and work words are those of the definitions in crates/result/specs, crates/listing/specs and crates/file/specs. They allocate nothing, keep nothing between
  * calls, open no file and always return; several threads may call them, each with slices of its own.
  *
  * What the caller owes, since no proof can see it:
- * - Each slice is a pointer and its true length in elements. A uint64_t slice lies at a multiple of 8. A slice of length 0 may have any pointer.
- * - A slice that is written (work slices, out, list, lines, buffer) shares no byte with another slice of the same call.
+ * - Each slice is a pointer and its true length in elements. A slice of uint64_t or of struct sitaungo_request lies at a multiple of 8. A slice of length 0 may have any pointer.
+ * - A slice that is written (work slices, out, list, lines, buffer, destination) shares no byte with another slice of the same call.
  * - Nobody else changes a slice during the call, a mapped file included.
  * - What a work slice, out, list or lines holds at entry doesn't matter: anything may stand there.
  * - Length times element size is below 2^63.
- * - The calling thread has 160 KiB of stack left: 114,168 bytes were measured, for metadata linked 64 deep; reading takes 40,440.
+ * - The calling thread has 160 KiB of stack left: 114,168 bytes were measured, for metadata linked 64 deep; reading takes 40,440, a plot as much and 48.
  */
 #ifndef SITAUNGO_H
 #define SITAUNGO_H
@@ -99,7 +99,9 @@ enum {
     /* The column has fewer records; 0. */
     SITAUNGO_REFUSED_RECORDS = 23,
     /* The file lacks the form of a column file, or the buffer has another length than the records; 0. */
-    SITAUNGO_REFUSED_FORM = 24
+    SITAUNGO_REFUSED_FORM = 24,
+    /* A plot has over 256 entries, or an entry's bytes leave the destination; 0. */
+    SITAUNGO_REFUSED_PLOT = 25
 };
 
 /* ---- why a channel is left out */
@@ -184,6 +186,31 @@ struct sitaungo_part {
 
 /* The same records as a part of the file's own bytes, those that sitaungo_read_range would copy; of no bytes at offset 0. */
 struct sitaungo_part sitaungo_range_part(const uint8_t *image, size_t image_length, uint64_t column, uint64_t first, uint64_t count);
+
+#define SITAUNGO_PLOT_ENTRIES 256 /* entries of one plot (25) */
+
+/* An entry of a plot: `count` records of a column, beginning at record `first`, go to destination[place ..]. */
+struct sitaungo_request {
+    uint64_t column;
+    uint64_t first;
+    uint64_t count;
+    uint64_t place;
+};
+
+/* What a plot answers: where an entry was refused its number, place and position in the table, from 0, else 0. */
+struct sitaungo_plotting {
+    bool accepted;
+    uint64_t number; /* the refusal: 4 to 13, 19, 22 to 25 */
+    uint64_t place;  /* its place: an offset in the file, 0 for 22 to 25 */
+    uint64_t position;
+};
+
+/* Fetches the ranges of a table of at most 256 entries in one call: what single reads in table order would copy, each into its part of the destination.
+ * The first refused entry ends the call: bytes of the entries before it stand, its own and later ones' are untouched. Entries may overlap; the later
+ * one wins. An empty table succeeds, whatever the image is. The file's block headers are looked at once. Over 256 entries are 25 before all else, with
+ * position 0; the image's refusals come with position 0, and of each entry 22, 23, then 25 where place plus length passes the destination. */
+struct sitaungo_plotting sitaungo_plot(
+    const uint8_t *image, size_t image_length, const struct sitaungo_request *table, size_t entries, uint8_t *destination, size_t destination_length);
 
 #ifdef __cplusplus
 }

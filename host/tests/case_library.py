@@ -94,9 +94,38 @@ def reader_at_its_borders():
     expect(r.returncode == 0 and r.stdout.endswith(b" checks, 0 wrong\n"), r.stdout.decode())
 
 
+def plots_example(program):
+    """Three ranges of both columns; a refused entry with those before it; no entries."""
+    file = "plotted.mf4"
+    expect(run(EXAMPLE, file, "--force").returncode == 0, "no result to plot")
+    time_, signal_ = columns_of(read(file))
+    whole = [b"".join(a + b for a, b in c.cells()) for c in (time_, signal_)]
+    due = whole[0][4 * 3 : 4 * 8] + whole[1][:6] + whole[0][76:]
+    entries = ["0", "3", "5", "4", "1", "0", "2", "3", "0", "19", "1", "4"]
+    refused = ["1", "19", "2", "3", "0", "0", "1", "4"]
+    for words, said in ((entries, due.hex() + "\n"), (entries + refused, due.hex() + "\nrefused 23 place 0 position 3\n"), ([], "\n")):
+        r = subprocess.run([program, place(file), *words], stdout=subprocess.PIPE)
+        expect(r.stdout.decode() == said, words, r.stdout)
+
+
+@test
+def plot_in_c():
+    program = place("plot-c")
+    cc(os.path.join(ROOT, "host", "examples", "plot.c"), LIBRARY, "-o", program)
+    plots_example(program)
+
+
+@test
+def plot_in_rust():
+    program = place("plot-rust")
+    words = ["-O", "--edition", "2021", "-L", os.path.dirname(LIBRARY), os.path.join(ROOT, "host", "examples", "plot.rs"), "-o", program]
+    subprocess.run(["rustc", *words], check=True)
+    plots_example(program)
+
+
 @test
 def library_and_header():
-    """Refusals 1, 2, 20 and 21 and every length of the header, from both sides."""
+    """Refusals 1, 2, 20 and 21, every length of the header, and plots, from both sides."""
     program = place("library")
     cc(os.path.join(ROOT, "host", "tests", "library.c"), LIBRARY, "-o", program)
     r = subprocess.run([program, EXAMPLE], stdout=subprocess.PIPE)

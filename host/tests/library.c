@@ -8,6 +8,7 @@
 #include "sitaungo.h"
 
 _Static_assert(sizeof(struct sitaungo_outcome) == 80, "the struct's size");
+_Static_assert(sizeof(struct sitaungo_request) == 32 && sizeof(struct sitaungo_plotting) == 32, "a plot's structs");
 
 enum { ROOM = 4096, GUARD = 0xA5 };
 
@@ -150,6 +151,68 @@ static void lists(uint64_t room, uint64_t words, const char *expected)
     check(all(lines + 10, sizeof lines - 10, GUARD), "bytes past the lines lent");
 }
 
+/* A plot of the worked example's result: so many entries into so many bytes. */
+static uint8_t drawn[256];
+static struct sitaungo_request table[SITAUNGO_PLOT_ENTRIES + 1];
+
+static struct sitaungo_plotting plot(size_t file, size_t entries, size_t length)
+{
+    memset(drawn, GUARD, sizeof drawn);
+    return sitaungo_plot(out, file, table, entries, drawn, length);
+}
+
+static int ends(struct sitaungo_plotting p, uint64_t number, uint64_t place, uint64_t position)
+{
+    return !p.accepted && p.number == number && p.place == place && p.position == position;
+}
+
+static int served(struct sitaungo_plotting p)
+{
+    return p.accepted && p.number == 0 && p.place == 0 && p.position == 0;
+}
+
+static struct sitaungo_request entry(uint64_t column, uint64_t first, uint64_t count, uint64_t place)
+{
+    return (struct sitaungo_request){column, first, count, place};
+}
+
+/* One entry alone into 80 bytes. */
+static struct sitaungo_plotting one(size_t file, struct sitaungo_request e)
+{
+    table[0] = e;
+    return plot(file, 1, 80);
+}
+
+static void try_plot(void)
+{
+    uint8_t single[80];
+    size_t file = 1288;
+    check(run(usual()).accepted, "a result to plot");
+    check(sitaungo_read_range(out, file, 0, 0, 20, single, 80).accepted, "a single read");
+    check(served(one(file, entry(0, 0, 20, 0))) && memcmp(drawn, single, 80) == 0 && all(drawn + 80, sizeof drawn - 80, GUARD), "one entry");
+    table[0] = entry(0, 4, 2, 8);
+    table[1] = entry(0, 0, 2, 12);
+    check(served(plot(file, 2, 80)) && memcmp(drawn + 8, single + 16, 4) == 0 && memcmp(drawn + 12, single, 8) == 0, "the later entry wins");
+    check(all(drawn, 8, GUARD) && all(drawn + 20, sizeof drawn - 20, GUARD), "bytes beside the entries");
+    for (int i = 0; i < 3; i++)
+        table[i] = entry(0, (uint64_t)i, 1, 4 * (uint64_t)i);
+    table[3] = entry(0, 20, 1, 12);
+    table[4] = entry(0, 4, 1, 16);
+    check(ends(plot(file, 5, 80), 23, 0, 3) && memcmp(drawn, single, 12) == 0 && all(drawn + 12, sizeof drawn - 12, GUARD), "a refusal at entry 3");
+    check(ends(one(file, entry(2, 0, 1, 0)), 22, 0, 0) && ends(one(file, entry(2, 99, 1, 99)), 22, 0, 0), "22 before 23 and 25");
+    check(ends(one(file, entry(0, 20, 1, 99)), 23, 0, 0) && ends(one(file, entry(0, 0, UINT64_MAX, 0)), 23, 0, 0), "23 before 25");
+    check(served(one(file, entry(0, 0, 1, 76))) && ends(one(file, entry(0, 0, 1, 77)), 25, 0, 0), "the destination's end");
+    check(ends(one(file, entry(0, 0, 1, UINT64_MAX)), 25, 0, 0) && all(drawn, sizeof drawn, GUARD), "a place that wraps");
+    check(served(one(file, entry(0, 20, 0, 80))) && ends(one(file, entry(0, 20, 0, 81)), 25, 0, 0), "no bytes at the end and past it");
+    for (int i = 0; i <= SITAUNGO_PLOT_ENTRIES; i++)
+        table[i] = entry(0, (uint64_t)i % 20, 1, 4 * ((uint64_t)i % 20));
+    check(served(plot(file, SITAUNGO_PLOT_ENTRIES, 80)) && memcmp(drawn, single, 80) == 0, "256 entries");
+    check(ends(plot(file, SITAUNGO_PLOT_ENTRIES + 1, 80), 25, 0, 0) && all(drawn, sizeof drawn, GUARD), "257 entries");
+    check(ends(plot(0, SITAUNGO_PLOT_ENTRIES + 1, 80), 25, 0, 0) && ends(plot(0, 1, 80), 4, 0, 0) && served(plot(0, 0, 80)), "no file");
+    out[0] = 'X';
+    check(ends(plot(file, 1, 80), 5, 0, 0) && served(plot(file, 0, 0)), "an image that is no file");
+}
+
 int main(int count, char **arguments)
 {
     FILE *file = count == 2 ? fopen(arguments[1], "rb") : NULL;
@@ -165,6 +228,7 @@ int main(int count, char **arguments)
     lists(1288, 2049, "columns 2\n0 t 4 0 20 2 80 -\n1 s 2 1 20 2 60 0\nomitted 0\n");
     lists(1287, 2049, "refused 20 place 1288\n");
     lists(1288, 0, "refused 21 place 1\n");
+    try_plot();
     printf("%d checks, %d wrong\n", checks, wrong);
     return wrong != 0;
 }

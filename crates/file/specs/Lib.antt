@@ -1,4 +1,5 @@
 pub mod Form
 pub mod Opened
 pub mod Range
+pub mod Plot
 pub mod Examples

@@ -1,3 +1,4 @@
 pub mod Image
 pub mod Worked
 pub mod Forms
+pub mod Plots

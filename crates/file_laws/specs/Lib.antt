@@ -5,3 +5,4 @@ pub mod RangeLaws
 pub mod Standing
 pub mod StandingLaws
 pub mod LimitLaws
+pub mod PlotLaws

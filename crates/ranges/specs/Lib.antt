@@ -16,3 +16,6 @@ pub mod OpenedLaws
 pub mod CopyLaws
 pub mod Read
 pub mod ReadLaws
+pub mod Turn
+pub mod TurnLaws
+pub mod EntryLaws

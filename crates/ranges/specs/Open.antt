@@ -3,13 +3,17 @@ use Prim.{Unit}
 use Prim.Native.Nat.{ℕ, zero, suc, _+_, _*_, _≤_}
 use mathlib.Core.List.{List, [], _∷_}
 use mathlib.Core.Bool.{Bool, true, false}
-use lib.ListN.{getD}
+use mathlib.Core.Path.{_≡_}
+use lib.ListN.{length, getD}
 use lib.Dec.{eqb, ltb}
 use Rattle.base.specs.Choice.{pick, ifLt}
 use Rattle.base.specs.Checked.{Checked, ok, refused, andThen, Verdict, fine}
 use Rattle.mdf.specs.Block.{linkAt}
 use Rattle.work_words.specs.Words.{marksAt}
+use Rattle.fields.specs.declared.Check.{Check}
+use Rattle.fields.specs.declared.Check.the-variants as checks
 use Rattle.file.specs.Form.{FileColumn, holds, formed}
+use Rattle.file.specs.Opened.{opened}
 use Rattle.ranges.specs.declared.open.Opened.{Opened}
 use Rattle.ranges.specs.declared.open.Opened.the-variants.{Refused, Columns}
 use Rattle.ranges.specs.Blocks.{columnOf}
@@ -51,7 +55,22 @@ abbrev pub few : Opened → Type 0
 few (Refused number place) = Unit {0}
 few (Columns count) = count ≤ 512
 
+-- bookkeeping: there are as many words as before
+abbrev pub lasting : Opened → List ℕ → Type 0
+lasting (Refused number place) w = Unit {0}
+lasting (Columns count) w = length w ≡ 4096
+
 -- the code's answer
 abbrev pub openedAs : List ℕ → List ℕ → Opened → Checked (List FileColumn)
 openedAs s w (Refused number place) = refused number place
 openedAs s w (Columns count) = ok (columnsOf s w count 0)
+
+-- bookkeeping: the words hold the columns of the opened file, their number at the last word
+pub record Holds (s w : List ℕ) : Type 0 where
+  pub most : getD w 4095 0 ≤ 512
+  pub columns : ok (columnsOf s w (getD w 4095 0) 0) ≡ opened s
+
+-- bookkeeping: the code's answer where it leaves the columns in the words
+abbrev pub opening : List ℕ → List ℕ → Check → Type 0
+opening s w checks.Fine = Holds s w
+opening s w (checks.Refused number place) = refused number place ≡ opened s

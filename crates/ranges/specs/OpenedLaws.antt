@@ -26,12 +26,15 @@ use Rattle.reading.specs.SoundLaws.{walkOf-sound}
 use Rattle.reading.specs.CountingLaws.{total}
 use Rattle.reading.specs.Sound.{Starts, empty, first-dg}
 use Rattle.reading.specs.Holding.{Stands}
-use Rattle.reading.specs.WordsLaws.{addresses-stand, marks-stand}
+use Rattle.reading.specs.WordsLaws.{length-laid, addresses-stand, marks-stand}
 use Rattle.file.specs.Form.{FileColumn}
 use Rattle.file.specs.Opened.{columnsIn, opened}
 use Rattle.ranges.specs.Met.{Met, Upto, upto}
 use Rattle.ranges.specs.MetLaws.{walk-met}
-use Rattle.ranges.specs.Open.{wordRanges, formFrom}
+use Rattle.ranges.specs.declared.open.Opened.{Opened}
+use Rattle.ranges.specs.declared.open.Opened.the-variants.{Columns}
+use Rattle.ranges.specs.declared.open.Opened.the-variants as opens
+use Rattle.ranges.specs.Open.{wordRanges, formFrom, lasting}
 use Rattle.ranges.specs.ColumnsLaws.{met-ranges, AtDG, met-columns}
 
 -- what the walk left
@@ -105,6 +108,13 @@ module _ (s : List ℕ) {o : Check} (e : verdictOf o ≡ identified s) where
         go : (v : Checked Source) → walkOf fileLimits s ≡ v → _≡_ {A = Checked Kept} (refused x p) (andThen v (λ st. ok (keptOf st w []))) → refused x p ≡ opened s
         go (ok st) i z = done≢refused (sym z)
         go (refused y t) i z = rw (so-fine e q, i) (cc)
+
+    pub open-lasting : {n g k : ℕ} → r ≡ Done n g k → length w ≡ 4096 → (v : Opened) → lasting v w'
+    open-lasting h long v = go v (let l = left-met s w w' f h in ap length (l .words) ∙ length-laid (l .st .items) w ∙ long)
+      where
+        go : (v : Opened) → length w' ≡ 4096 → lasting v w'
+        go (opens.Refused x p) q = tt
+        go (Columns n) q = q
 
     pub open-few : {n g k : ℕ} → r ≡ Done n g k → n ≤ 1536
     open-few h = left-met s w w' f h .few

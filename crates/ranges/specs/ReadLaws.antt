@@ -7,8 +7,8 @@ use mathlib.Core.Option.{Option, none, some}
 use mathlib.Core.Path.{_≡_, refl, sym, ap, subst, _∙_}
 use native.Mathlib.Nat.{le-refl, add-zero, zero-add, zero-mul, mul-zero, mul-div-cancel, div-add-mod', mul-pos, div-lt-iff-lt-mul, le-div-iff-mul-le}
 use native.Mathlib.Omega.{arith}
-use lib.ListN.{length, getD, take, drop, length-drop, drop-of-length-le}
-use lib.Seq.{take-length, take-all}
+use lib.ListN.{length, getD, set, take, drop, length-drop, drop-of-length-le}
+use lib.Seq.{take-length, take-all, getD-set-same, getD-set-other}
 use lib.Dec.{eqb, ltb}
 use borrow.Author.Tests.{eq-eqb, ne-eqb, eqb-true, eqb-false, ltb-true, ltb-false}
 use Rattle.base.specs.Blit.{blit, part}
@@ -19,6 +19,8 @@ use Rattle.base.specs.Checked.{Checked, ok, refused, andThen, Verdict, fine}
 use Rattle.mdf.specs.Block.{sizeAt, linkAt}
 use Rattle.mdf.specs.Chain.{Fragment}
 use Rattle.mdf.specs.Records.{rangesIn, joined, sizeOf}
+use Rattle.fields.specs.declared.Check.{Check}
+use Rattle.fields.specs.declared.Check.the-variants as checks
 use Rattle.file.specs.Form.{FileColumn, cycles, recordBytes}
 use Rattle.file.specs.Opened.{onColumn, opened}
 use Rattle.file.specs.Range.{Place, at, split, within, placeIn, located, fileColumnAt, asked, startOf, bytesOf, rangeOf, Copied, copied, intoBuffer, readInto, handed}
@@ -33,7 +35,7 @@ use Rattle.ranges.specs.declared.seek.Spot.{Spot}
 use Rattle.ranges.specs.Blocks.{blockIn, listedFrom, linksOf, blocksOf, columnOf}
 use Rattle.ranges.specs.BlocksLaws.{from-next, from-end, block-size, block-offset}
 use Rattle.ranges.specs.Seek.{FirstIn, Sought, nowhere, here, seekIn, spotted}
-use Rattle.ranges.specs.Open.{columnAt, columnsOf, few, openedAs}
+use Rattle.ranges.specs.Open.{columnAt, columnsOf, few, lasting, openedAs, Holds, opening}
 use Rattle.ranges.specs.declared.read.Location.{Location}
 use Rattle.ranges.specs.declared.read.Location.the-variants.{Split, At}
 use Rattle.ranges.specs.declared.read.Location.the-variants as places
@@ -78,30 +80,53 @@ column-none s w zero k i h = refl
 column-none s w (suc n) zero i h = absurd (omega arith)
 column-none s w (suc n) (suc k) i h = column-none s w n k (i + 1) (omega arith)
 
-pub columns-few : {o : Opened} {n : ℕ} → few o → o ≡ Columns n → n ≤ 512
-columns-few f q = subst few q f
+-- the number of columns is put at the last word
+columns-kept : (s w : List ℕ) (v n j : ℕ) → 3 * (j + n) ≤ 4095 → columnsOf s (set w 4095 v) n j ≡ columnsOf s w n j
+unfolding columnsOf
+columns-kept s w v zero j h = refl
+columns-kept s w v (suc n) j h =
+    let a : getD (set w 4095 v) (3 * j) 0 ≡ getD w (3 * j) 0 = getD-set-other w 4095 (3 * j) v 0 (λ e. omega arith) in
+    let b : getD (set w 4095 v) (3 * j + 1) 0 ≡ getD w (3 * j + 1) 0 = getD-set-other w 4095 (3 * j + 1) v 0 (λ e. omega arith) in
+    let c : getD (set w 4095 v) (3 * j + 2) 0 ≡ getD w (3 * j + 2) 0 = getD-set-other w 4095 (3 * j + 2) v 0 (λ e. omega arith) in
+    let r : columnsOf s (set w 4095 v) n (j + 1) ≡ columnsOf s w n (j + 1) = columns-kept s w v n (j + 1) (omega arith) in
+    rw (a, b, c, r)
 
-module _ (s w : List ℕ) (k first count : ℕ) {o : Opened} (e : openedAs s w o ≡ opened s) where
-  pub ask-refused : {x p : ℕ} → o ≡ opens.Refused x p → refused x p ≡ asked s k first count
+module _ (s w : List ℕ) {o : Opened} (e : openedAs s w o ≡ opened s) where
+  pub kept-refused : {x p : ℕ} → o ≡ opens.Refused x p → refused x p ≡ opened s
+  kept-refused q = rw q at e
+
+  pub kept-columns : {n : ℕ} → lasting o w → few o → o ≡ Columns n → Holds s (set w 4095 n)
+  kept-columns {n} g f q =
+      let l : length w ≡ 4096 = subst (λ (v : Opened). lasting v w) q g in
+      let m : n ≤ 512 = subst few q f in
+      let a : getD (set w 4095 n) 4095 0 ≡ n = getD-set-same w 4095 n 0 (omega arith) in
+      let c : ok (columnsOf s w n 0) ≡ opened s = rw q at e in
+      record { most = rw a m; columns = rw (a, columns-kept s w n n 0 (omega arith)) c }
+
+-- the columns stand in the words
+pub ask-refused : (s w : List ℕ) (k first count : ℕ) {v : Check} {x p : ℕ} → opening s w v → v ≡ checks.Refused x p → refused x p ≡ asked s k first count
+unfolding asked
+ask-refused s w k first count {v} {x} {p} e q = let f : refused x p ≡ opened s = rw q at e in rw (← f)
+
+pub ask-holds : (s w : List ℕ) {v : Check} → opening s w v → v ≡ checks.Fine → Holds s w
+ask-holds s w e q = rw q at e
+
+module _ (s w : List ℕ) (k first count : ℕ) (e : Holds s w) where
+  pub ask-22 : getD w 4095 0 ≤ k → refused 22 0 ≡ asked s k first count
   unfolding asked
-  ask-refused q = rw (← e, q)
+  ask-22 h = rw (← e .columns, column-none s w (getD w 4095 0) k 0 h)
 
-  module _ {n : ℕ} (q : o ≡ Columns n) where
-    pub ask-22 : n ≤ k → refused 22 0 ≡ asked s k first count
+  module _ (h : k < getD w 4095 0) {c : ℕ} (f : c ≡ cycles s (getD w (3 * k + 1) 0)) where
+    found-column : fileColumnAt k (columnsOf s w (getD w 4095 0) 0) ≡ some (columnAt s w k)
+    found-column = let z : 0 + k ≡ k = zero-add k in column-at s w (getD w 4095 0) k 0 h ∙ rw z
+
+    pub ask-23 : c < first + count → refused 23 0 ≡ asked s k first count
     unfolding asked
-    ask-22 h = rw (← e, q, column-none s w n k 0 h)
+    ask-23 g = rw (← e .columns, found-column) (lt-yes _ _ _ _ (rw f at g) refl)
 
-    module _ (h : k < n) {c : ℕ} (f : c ≡ cycles s (getD w (3 * k + 1) 0)) where
-      found-column : fileColumnAt k (columnsOf s w n 0) ≡ some (columnAt s w k)
-      found-column = let z : 0 + k ≡ k = zero-add k in column-at s w n k 0 h ∙ rw z
-
-      pub ask-23 : c < first + count → refused 23 0 ≡ asked s k first count
-      unfolding asked
-      ask-23 g = rw (← e, q, found-column) (lt-yes _ _ _ _ (rw f at g) refl)
-
-      pub ask-column : first + count ≤ c → ok (columnAt s w k) ≡ asked s k first count
-      unfolding asked
-      ask-column g = rw (← e, q, found-column) (lt-no _ _ _ _ (rw f at g) refl)
+    pub ask-column : first + count ≤ c → ok (columnAt s w k) ≡ asked s k first count
+    unfolding asked
+    ask-column g = rw (← e .columns, found-column) (lt-no _ _ _ _ (rw f at g) refl)
 
 -- ---- the block that holds the first byte
 record Sight (s : List ℕ) (fs : List Fragment) (p : ℕ) (gs : List Fragment) (q : ℕ) : Type 0 where

@@ -11,7 +11,7 @@ ghost use Prim.Native.Nat.{_+_, _≤_, _<_};
 ghost use lib.ListN.{length};
 ghost use Rattle.fields.specs.Answer.{verdictOf};
 ghost use Rattle.file.specs.Opened.{opened};
-ghost use Rattle.ranges.specs.Open.{itemRange, wordRanges, columnFormed, formFrom, few, openedAs};
+ghost use Rattle.ranges.specs.Open.{itemRange, wordRanges, columnFormed, formFrom, few, lasting, openedAs, opening};
 
 // A refusal, or the number of columns.
 pub enum Opened {
@@ -97,7 +97,8 @@ fn form_of(image: &[u8], source: &[u64; 4096], n: u64) -> Opened
 
 // The file's columns: DG, CG and CN of column k stand at words 3k, 3k + 1 and 3k + 2.
 pub fn open_file(image: &[u8], source: &mut [u64; 4096]) -> Opened
-    ensures { λ r. ⌜ (length (now (source .entry)) ≡ 4096 → openedAs (now (image .entry)) (now (source .exit)) r ≡ opened (now (image .entry))) × few r ⌝ }
+    ensures { λ r. ⌜ (length (now (source .entry)) ≡ 4096 → openedAs (now (image .entry)) (now (source .exit)) r ≡ opened (now (image .entry))) × few r
+        × (length (now (source .entry)) ≡ 4096 → lasting r (now (source .exit))) ⌝ }
 {
     let known = identify(image);
     if let Check::Refused { number, place } = known {
@@ -116,6 +117,20 @@ pub fn open_file(image: &[u8], source: &mut [u64; 4096]) -> Opened
                 Check::Refused { number, place } => Opened::Refused { number, place },
                 Check::Fine => form_of(image, source, items),
             }
+        }
+    }
+}
+
+// The same, and the number of columns stands at the last word.
+pub(crate) fn open_columns(image: &[u8], source: &mut [u64; 4096]) -> Check
+    ensures { λ r. ⌜ (length (now (source .entry)) ≡ 4096 → opening (now (image .entry)) (now (source .exit)) r) ⌝ }
+{
+    let opened = open_file(image, source);
+    match opened {
+        Opened::Refused { number, place } => Check::Refused { number, place },
+        Opened::Columns { count } => {
+            source[4095] = count;
+            Check::Fine
         }
     }
 }

@@ -3,8 +3,7 @@ use crate::block::bytes_at;
 use crate::block::links_of;
 use crate::form::cycles_of;
 use crate::form::record_bytes;
-use crate::open::Opened;
-use crate::open::open_file;
+use crate::open::open_columns;
 use crate::seek::copy_from;
 use crate::seek::seek;
 use blocks::block::link_at;
@@ -19,6 +18,7 @@ ghost use Rattle.mdf.specs.Block.{linkAt};
 ghost use Rattle.mdf.specs.Records.{rangesIn, joined, sizeOf};
 ghost use Rattle.file.specs.Range.{asked, readInto, within, located, handed};
 ghost use Rattle.ranges.specs.Blocks.{blocksOf};
+ghost use Rattle.ranges.specs.Open.{Holds};
 ghost use Rattle.ranges.specs.Read.{askedAs, copiedAs, Fills, locatedAs, PlaceAs, handing};
 
 // The column asked for.
@@ -27,40 +27,53 @@ pub enum Granted {
     Column { dg: u64, cg: u64, cn: u64 },
 }
 
+// 22 and 23, of a file whose columns stand in the words.
+pub(crate) fn ask_opened(
+    image: &[u8],
+    source: &[u64; 4096],
+    column: u64,
+    first: u64,
+    count: u64,
+) -> Granted
+    requires { ⌜ Holds (now image) (now source) ⌝ }
+    ensures { λ r. ⌜ askedAs (now (image .entry)) r ≡ asked (now (image .entry)) column first count ⌝ }
+{
+    let columns = source[4095];
+    if column < columns {
+        let k = 3 * column as usize;
+        let dg = source[k];
+        let cg = source[k + 1];
+        let cn = source[k + 2];
+        let all = cycles_of(image, cg);
+        if all < first {
+            return Granted::Refused {
+                number: 23,
+                place: 0,
+            };
+        }
+        if all - first < count {
+            return Granted::Refused {
+                number: 23,
+                place: 0,
+            };
+        }
+        return Granted::Column { dg, cg, cn };
+    }
+    Granted::Refused {
+        number: 22,
+        place: 0,
+    }
+}
+
 // 24 for the image, 22, 23.
 pub fn ask(image: &[u8], column: u64, first: u64, count: u64) -> Granted
     ensures { λ r. ⌜ askedAs (now (image .entry)) r ≡ asked (now (image .entry)) column first count ⌝ }
 {
     let mut source = [0u64; 4096];
-    let opened = open_file(image, &mut source);
+    let opened = open_columns(image, &mut source);
     match opened {
-        Opened::Refused { number, place } => Granted::Refused { number, place },
-        Opened::Columns { count: columns } => {
-            if column < columns {
-                let k = 3 * column as usize;
-                let dg = source[k];
-                let cg = source[k + 1];
-                let cn = source[k + 2];
-                let all = cycles_of(image, cg);
-                if all < first {
-                    return Granted::Refused {
-                        number: 23,
-                        place: 0,
-                    };
-                }
-                if all - first < count {
-                    return Granted::Refused {
-                        number: 23,
-                        place: 0,
-                    };
-                }
-                return Granted::Column { dg, cg, cn };
-            }
-            Granted::Refused {
-                number: 22,
-                place: 0,
-            }
-        }
+        Check::Refused { number, place } => Granted::Refused { number, place },
+        Check::Fine => ask_opened(image, &source, column, first, count),
     }
 }
 
@@ -78,7 +91,7 @@ fn fits(n: u64, count: u64, w: u64) -> bool
 }
 
 // The buffer is filled from the first byte of a record on.
-fn fill(image: &[u8], d: u64, first: u64, w: u64, buffer: &mut [u8])
+pub(crate) fn fill(image: &[u8], d: u64, first: u64, w: u64, buffer: &mut [u8])
     requires { ⌜ Fills (now image) d first w (length (now buffer)) ⌝ }
     ensures { λ _. ⌜ now (buffer .exit) ≡ part (first * w) (length (now (buffer .entry)))
         (joined (now (image .entry)) (blocksOf (now (image .entry)) (linkAt (now (image .entry)) d 2))) ⌝ }

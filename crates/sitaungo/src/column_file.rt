@@ -1,10 +1,15 @@
 // Records of a column file, for programs that link the reader.
 use fields::Check;
+use ranges::plot::Plotting;
+use ranges::plot::Request;
+use ranges::plot::plot;
 use ranges::read::Location;
 use ranges::read::locate;
 use ranges::read::read_range;
 ghost use mathlib.Core.Path.{_≡_};
+ghost use Rattle.file.specs.Plot.{plotted};
 ghost use Rattle.file.specs.Range.{readInto, located};
+ghost use Rattle.ranges.specs.Turn.{entriesOf, laid, answered};
 ghost use Rattle.sitaungo.specs.ColumnFile.{filled, exportedRead, exportedPart};
 
 // Whether the range was read; a refusal's number and place where it was not, else 0.
@@ -28,7 +33,13 @@ pub struct Part {
 
 // Count records of a column, beginning at a given one, are copied into the buffer: `read_range` of the crate ranges.
 #[no_mangle]
-pub extern "C" fn sitaungo_read_range(image: &[u8], column: u64, first: u64, count: u64, buffer: &mut [u8]) -> Read
+pub extern "C" fn sitaungo_read_range(
+    image: &[u8],
+    column: u64,
+    first: u64,
+    count: u64,
+    buffer: &mut [u8],
+) -> Read
     ensures { λ r. ⌜ filled r (now (buffer .exit)) ≡ exportedRead (readInto (now (image .entry)) column first count (now (buffer .entry))) ⌝ }
 {
     let answer = read_range(image, column, first, count, buffer);
@@ -78,4 +89,13 @@ pub extern "C" fn sitaungo_range_part(image: &[u8], column: u64, first: u64, cou
             length,
         },
     }
+}
+
+// Many ranges fetched in one call: `plot` of the crate ranges.
+#[no_mangle]
+pub extern "C" fn sitaungo_plot(image: &[u8], table: &[Request], destination: &mut [u8]) -> Plotting
+    ensures { λ r. ⌜ laid r (now (destination .exit))
+        ≡ answered (plotted (now (image .entry)) (entriesOf (now (table .entry))) (now (destination .entry))) ⌝ }
+{
+    plot(image, table, destination)
 }

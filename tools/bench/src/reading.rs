@@ -1,4 +1,4 @@
-//! bench read TURNS: times reading ranges of column files by both calls beside a plain copy of as many bytes.
+//! bench read TURNS: times reading ranges of column files by both calls, and plots, beside a plain copy of as many bytes.
 use crate::loads::{recording, Group};
 use crate::{convert, times, word};
 
@@ -19,10 +19,28 @@ struct Part {
     length: u64,
 }
 
+#[repr(C)]
+#[derive(Clone, Copy)]
+struct Request {
+    column: u64,
+    first: u64,
+    count: u64,
+    place: u64,
+}
+
+#[repr(C)]
+struct Plotting {
+    accepted: bool,
+    number: u64,
+    place: u64,
+    position: u64,
+}
+
 #[link(name = "sitaungo", kind = "static")]
 extern "C" {
     fn sitaungo_read_range(image: *const u8, image_len: usize, column: u64, first: u64, count: u64, buffer: *mut u8, buffer_len: usize) -> Read;
     fn sitaungo_range_part(image: *const u8, image_len: usize, column: u64, first: u64, count: u64) -> Part;
+    fn sitaungo_plot(image: *const u8, image_len: usize, table: *const Request, entries: usize, destination: *mut u8, destination_len: usize) -> Plotting;
     fn mmap(at: *mut u8, len: usize, protection: i32, flags: i32, file: i32, offset: i64) -> *mut u8;
 }
 
@@ -35,6 +53,26 @@ fn part(file: &[u8], column: u64, first: u64, count: u64) -> Part {
     let p = unsafe { sitaungo_range_part(file.as_ptr(), file.len(), column, first, count) };
     assert!(p.accepted, "refused {} place {}", p.number, p.place);
     p
+}
+
+fn plot(file: &[u8], table: &[Request], destination: &mut [u8]) {
+    let p = unsafe { sitaungo_plot(file.as_ptr(), file.len(), table.as_ptr(), table.len(), destination.as_mut_ptr(), destination.len()) };
+    assert!(p.accepted, "refused {} place {} position {}", p.number, p.place, p.position);
+}
+
+/// A plot of so many entries of so many records of 4 bytes, spread over all columns and their records: one call, single reads, a plain copy.
+fn plot_line(name: &str, file: &[u8], turns: usize, columns: u64, all: u64, entries: u64, records: u64) {
+    let bytes = 4 * records;
+    let entry = |i| Request { column: i * columns / entries, first: i * (all - records) / entries, count: records, place: i * bytes };
+    let table: Vec<Request> = (0..entries).map(entry).collect();
+    let (mut drawn, mut read_out) = (vec![1u8; (entries * bytes) as usize], vec![2u8; (entries * bytes) as usize]);
+    let plots = times(turns, || plot(file, &table, &mut drawn));
+    let reads = times(turns, || {
+        table.iter().for_each(|e| read(file, e.column, e.first, e.count, &mut read_out[e.place as usize..(e.place + bytes) as usize]))
+    });
+    assert!(drawn == read_out, "other bytes");
+    let copy = times(turns, || read_out.copy_from_slice(std::hint::black_box(&drawn)));
+    println!("| {name} | {} | {:.4} | {:.4} | {:.4} |", file.len() / 1_000_000, plots.0, reads.0, copy.0);
 }
 
 /// So many ranges of so many records of a column, spread over all its records; a record's bytes.
@@ -124,4 +162,8 @@ pub fn run(turns: usize) {
     last("100,000 blocks of 8 bytes", 10 * turns, Blocks { listed: 100_000, there: 100_000, bytes: 8 });
     last("1,100 blocks of 4 MiB", 10 * turns, Blocks { listed: 1100, there: 1100, bytes: 4 << 20 });
     last("a DL of 272 MB, one block of 8 bytes 34 million times", turns, Blocks { listed: 34_000_000, there: 1, bytes: 8 });
+    println!("\n| plots | MB of the file | one call (ms) | single reads (ms) | copy (ms) |\n|---|---:|---:|---:|---:|");
+    plot_line("256 entries of 1,000 records over 300 columns", &rack, turns, 300, 60_000, 256, 1000);
+    plot_line("one entry of 1,000 records", &rack, turns, 300, 60_000, 1, 1000);
+    plot_line("256 entries of no record", &rack, turns, 300, 60_000, 256, 0);
 }

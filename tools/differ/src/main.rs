@@ -5,6 +5,7 @@
 //! differ one FILE SIZE: one image with one block size.
 //! differ answers FILE: the list of answers for crates/answers.
 //! differ files RUNS SEED: the reader of column files beside a plain one.
+//! differ plots RUNS SEED: tables of ranges beside single reads and the plain reader.
 mod alone;
 mod answers;
 mod blocks;
@@ -45,9 +46,10 @@ fn main() -> ExitCode {
         ["one", file, size] => return one(file, number(size)),
         ["answers", file] => return status(answers::write(file)),
         ["files", runs, seed] => return status(files::compared(number(runs), number(seed))),
+        ["plots", runs, seed] => return status(files::plots::compared(number(runs), number(seed))),
         [runs, seed] => return compared(number(runs), number(seed)),
         _ => {
-            eprintln!("differ RUNS SEED | image SEED K FILE | one FILE SIZE | answers FILE | files RUNS SEED");
+            eprintln!("differ RUNS SEED | image SEED K FILE | one FILE SIZE | answers FILE | files RUNS SEED | plots RUNS SEED");
             return ExitCode::from(2);
         }
     }

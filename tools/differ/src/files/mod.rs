@@ -1,5 +1,6 @@
 //! differ files RUNS SEED: the port's reader of column files beside a plain one, over files made from a seed; see docs/COMPARED.md.
 mod made;
+pub mod plots;
 mod port;
 mod reader;
 

@@ -1,4 +1,4 @@
-//! The port's reader: `sitaungo_read_range` and `sitaungo_range_part` of the static library.
+//! The port's reader: `sitaungo_read_range`, `sitaungo_range_part` and `sitaungo_plot` of the static library.
 use super::reader::Part;
 
 #[repr(C)]
@@ -18,11 +18,30 @@ struct Handed {
     length: u64,
 }
 
+/// An entry of a plot.
+#[repr(C)]
+#[derive(Clone, Copy, Debug)]
+pub struct Request {
+    pub column: u64,
+    pub first: u64,
+    pub count: u64,
+    pub place: u64,
+}
+
+#[repr(C)]
+struct Plotting {
+    accepted: bool,
+    number: u64,
+    place: u64,
+    position: u64,
+}
+
 #[rustfmt::skip]
 #[link(name = "sitaungo", kind = "static")]
 extern "C" {
     fn sitaungo_read_range(image: *const u8, image_len: usize, column: u64, first: u64, count: u64, buffer: *mut u8, buffer_len: usize) -> Read;
     fn sitaungo_range_part(image: *const u8, image_len: usize, column: u64, first: u64, count: u64) -> Handed;
+    fn sitaungo_plot(image: *const u8, image_len: usize, table: *const Request, entries: usize, destination: *mut u8, destination_len: usize) -> Plotting;
 }
 
 /// What stands in a buffer at entry.
@@ -52,4 +71,13 @@ pub fn part(image: &[u8], column: u64, first: u64, count: u64) -> Result<Part, (
         (true, true) => Ok(Part::Split),
         (true, false) => Ok(Part::At { offset: h.offset, length: h.length }),
     }
+}
+
+/// A refusal's number, place and position, and the destination, which holds some bytes at entry.
+pub fn plot(image: &[u8], table: &[Request], before: &[u8]) -> (Option<(u64, u64, u64)>, Vec<u8>) {
+    let mut bytes = before.to_vec();
+    // Safety: each pointer leads to as many elements as the length after it says, and the destination is apart from image and table.
+    let p = unsafe { sitaungo_plot(image.as_ptr(), image.len(), table.as_ptr(), table.len(), bytes.as_mut_ptr(), bytes.len()) };
+    assert!(!p.accepted || p.number == 0 && p.place == 0 && p.position == 0, "an accepted plot has number, place or position");
+    ((!p.accepted).then_some((p.number, p.place, p.position)), bytes)
 }

@@ -302,6 +302,11 @@ fn range(columns: &[Column], k: u64, first: u64, count: u64) -> Checked<(&Column
     Ok((c, first as u128 * c.width, count as u128 * c.width))
 }
 
+/// How many bytes a range has.
+pub fn bytes(columns: &[Column], k: u64, first: u64, count: u64) -> Checked<u128> {
+    range(columns, k, first, count).map(|(_, _, n)| n)
+}
+
 /// The first call, with a buffer of so many bytes.
 pub fn read(bytes: &[u8], columns: &[Column], k: u64, first: u64, count: u64, buffer: usize) -> Checked<Vec<u8>> {
     let (c, from, n) = range(columns, k, first, count)?;

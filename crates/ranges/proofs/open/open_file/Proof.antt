@@ -1,5 +1,5 @@
 -- Identification, walk, ranges, form, in turn.
-use Rattle.ranges.specs.OpenedLaws.{open-unknown, open-stopped, open-few, open-ranges, open-form}
+use Rattle.ranges.specs.OpenedLaws.{open-unknown, open-stopped, open-few, open-lasting, open-ranges, open-form}
 use native.Mathlib.Omega.{arith}
 use lib.ListN.{length, length-set}
 use Prim.{tt}
@@ -14,7 +14,7 @@ enum-known-known : tie.Need-enum-known-known
 enum-known-known c = search needs
 
 returns : tie.Need-returns
-returns c = (λ long. open-unknown _ (c .before .before .before .identify .ensures) (c .before .known .given .1), tt)
+returns c = (λ long. open-unknown _ (c .before .before .before .identify .ensures) (c .before .known .given .1), tt, λ long. tt)
 
 enum-told : tie.Need-enum-told
 enum-told c = search needs
@@ -41,13 +41,13 @@ form-of-requires : tie.Need-form-of-requires
 form-of-requires c κs = open-few _ (c .before .before .before .before .before .before .before .before .before .before .before .before .identify .ensures) (c .before .before .before .before .before .before .before .before .before .before .enum-told .given .1) (c .before .before .before .before .before .before .before .before .before .before .before .before .before .before .args .source .now) (c .before .before .before .before .before .before .before .before .walk-file .last .1 .0) (c .before .before .before .before .before .before .before .before .walk-file .ensures) (c .before .before .before .before .before .before .met2 .given .1)
 
 returns-2 : tie.Need-returns-2
-returns-2 c = (λ long. open-stopped _ (c .before .before .before .before .before .before .before .identify .ensures) (c .before .before .before .before .before .enum-told .given .1) (c .before .before .before .before .before .before .before .before .before .args .source .now) (c .before .before .before .walk-file .last .1 .0) (c .before .before .before .walk-file .ensures) (c .before .met .given .1), tt)
+returns-2 c = (λ long. open-stopped _ (c .before .before .before .before .before .before .before .identify .ensures) (c .before .before .before .before .before .enum-told .given .1) (c .before .before .before .before .before .before .before .before .before .args .source .now) (c .before .before .before .walk-file .last .1 .0) (c .before .before .before .walk-file .ensures) (c .before .met .given .1), tt, λ long. tt)
 
 returns-3 : tie.Need-returns-3
-returns-3 c = (λ long. open-ranges _ (c .before .before .before .before .before .before .before .before .before .before .before .before .identify .ensures) (c .before .before .before .before .before .before .before .before .before .before .enum-told .given .1) (c .before .before .before .before .before .before .before .before .before .before .before .before .before .before .args .source .now) (c .before .before .before .before .before .before .before .before .walk-file .last .1 .0) (c .before .before .before .before .before .before .before .before .walk-file .ensures) long (c .before .before .before .before .before .before .met2 .given .1) (c .before .before .before .word-ranges .ensures) (c .before .ranged .given .1), tt)
+returns-3 c = (λ long. open-ranges _ (c .before .before .before .before .before .before .before .before .before .before .before .before .identify .ensures) (c .before .before .before .before .before .before .before .before .before .before .enum-told .given .1) (c .before .before .before .before .before .before .before .before .before .before .before .before .before .before .args .source .now) (c .before .before .before .before .before .before .before .before .walk-file .last .1 .0) (c .before .before .before .before .before .before .before .before .walk-file .ensures) long (c .before .before .before .before .before .before .met2 .given .1) (c .before .before .before .word-ranges .ensures) (c .before .ranged .given .1), tt, λ long. tt)
 
 returns-4 : tie.Need-returns-4
-returns-4 c = (λ long. open-form _ (c .before .before .before .before .before .before .before .before .before .before .before .before .before .identify .ensures) (c .before .before .before .before .before .before .before .before .before .before .before .enum-told .given .1) (c .before .before .before .before .before .before .before .before .before .before .before .before .before .before .before .args .source .now) (c .before .before .before .before .before .before .before .before .before .walk-file .last .1 .0) (c .before .before .before .before .before .before .before .before .before .walk-file .ensures) long (c .before .before .before .before .before .before .before .met2 .given .1) (c .before .before .before .before .word-ranges .ensures) (c .before .before .enum-told2 .given .1) (c .form-of .ensures .0), c .form-of .ensures .1)
+returns-4 c = (λ long. open-form _ (c .before .before .before .before .before .before .before .before .before .before .before .before .before .identify .ensures) (c .before .before .before .before .before .before .before .before .before .before .before .enum-told .given .1) (c .before .before .before .before .before .before .before .before .before .before .before .before .before .before .before .args .source .now) (c .before .before .before .before .before .before .before .before .before .walk-file .last .1 .0) (c .before .before .before .before .before .before .before .before .before .walk-file .ensures) long (c .before .before .before .before .before .before .before .met2 .given .1) (c .before .before .before .before .word-ranges .ensures) (c .before .before .enum-told2 .given .1) (c .form-of .ensures .0), c .form-of .ensures .1, λ long. open-lasting _ (c .before .before .before .before .before .before .before .before .before .before .before .before .before .identify .ensures) (c .before .before .before .before .before .before .before .before .before .before .before .enum-told .given .1) (c .before .before .before .before .before .before .before .before .before .before .before .before .before .before .before .args .source .now) (c .before .before .before .before .before .before .before .before .before .walk-file .last .1 .0) (c .before .before .before .before .before .before .before .before .before .walk-file .ensures) (c .before .before .before .before .before .before .before .met2 .given .1) long (c .form-of .result))
 
 pub open-file-spec : {M : Type 1} → statement M
 open-file-spec =
