@@ -9,7 +9,7 @@ ghost use Prim.Native.Nat.{_+_};
 ghost use Rattle.base.specs.Field.{Field};
 ghost use Rattle.fields.specs.Answer.{verdictOf};
 ghost use Rattle.blocks.specs.Data.{Begins};
-ghost use Rattle.mdf.specs.Block.{Wanted, kindAt, sizeAt, linksAt, linkAt, firstLink, dataAt, headerIn, lengthIn, wholeAt, wantedAt, blockAt};
+ghost use Rattle.mdf.specs.Block.{kindAt, sizeAt, linksAt, linkAt, firstLink, dataAt, headerIn, lengthIn, wholeAt, wantedAt, blockAt};
 
 pub const HD: u64 = 1145578275;
 

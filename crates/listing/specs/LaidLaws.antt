@@ -11,7 +11,7 @@ use Rattle.base.specs.ChoiceLaws.{eq-yes, eq-no}
 use Rattle.base.specs.Field.{le}
 use Rattle.base.specs.Blit.{part, blit}
 use Rattle.base.specs.BlitLaws.{length-blit, blit-append}
-use Rattle.result.specs.Listing.{digitsOf, decimal}
+use Rattle.result.specs.Listing.{digitsOf}
 use Rattle.listing.specs.Lines.{Laid}
 
 pub laid-none : {at most : ℕ} {d : List ℕ} → Laid at [] most d d at

@@ -1,13 +1,12 @@
 -- Laws of a whole call's listing.
 use Prim.Native.Nat.{ℕ, _+_, _*_, _≤_, _<_}
-use mathlib.Core.List.{List, [], _∷_, _++_}
+use mathlib.Core.List.{List, [], _∷_}
 use mathlib.Core.Bool.{Bool, true, false}
 use lib.Dec.{ltb}
 use mathlib.Core.Path.{_≡_, refl, sym, ap, subst, _∙_}
 use native.Mathlib.Nat.{zero-add}
 use native.Mathlib.Omega.{arith}
-use lib.ListN.{length, length-append, replicate, length-replicate}
-use Rattle.base.specs.Blit.{blit}
+use lib.ListN.{length, length-append, replicate}
 use Rattle.base.specs.BlitLaws.{length-blit}
 use Rattle.base.specs.Choice.{pick, ifLt}
 use Rattle.base.specs.ChoiceLaws.{lt-yes, lt-no}
@@ -18,7 +17,7 @@ use Rattle.work_words.specs.CopyWords.{laidCopies}
 use Rattle.plan.specs.Columns.{Omission, omissionAddresses, omissionReasons, omissionWords}
 use Rattle.work_words.specs.PlanWords.{signalFragments, laidPlan}
 use Rattle.result.specs.Listing.{planLines, listing}
-use Rattle.result.specs.Result.{Args, Decided, decided, lentIn, answer, zeros, workIn, workLeft}
+use Rattle.result.specs.Result.{Args, Decided, decided, lentIn, answer, workIn}
 use Rattle.plan_laws.specs.Known.{Known, decided-known}
 use Rattle.guarantee.specs.Theorem.{sized}
 use Rattle.placing.specs.declared.layout.Numbers.{Numbers}
@@ -30,7 +29,7 @@ use Rattle.placing.specs.InWords.{AllBounded}
 use Rattle.placing.specs.BoundedLaws.{all-bounded}
 use Rattle.listing.specs.LaidLaws.{laid-as, laid-most}
 use Rattle.listing.specs.Lines.{Laid, planIn, refusalLine, AllCount}
-use Rattle.listing.specs.Listed.{answerIn, listingOf, Listed}
+use Rattle.listing.specs.Listed.{answerIn, Listed}
 use Rattle.listing.specs.PlanLaws.{plan-listed, laid-counts, refusal-listed}
 
 -- ---- 20, 21, or the plan

@@ -1,5 +1,5 @@
 -- The words that planning leaves give the plan's own listing.
-use Prim.Native.Nat.{ℕ, zero, suc, _+_, _*_, _-_, _≤_, _<_}
+use Prim.Native.Nat.{ℕ, suc, _+_, _*_, _-_, _≤_, _<_}
 use mathlib.Core.List.{List, [], _∷_, _++_, append-assoc}
 use mathlib.Core.Bool.{Bool, true, false}
 use mathlib.Core.Option.{Option, none, some}
@@ -15,7 +15,7 @@ use Rattle.mdf.specs.Chain.{Fragment}
 use Rattle.work_words.specs.Words.{fragmentWords}
 use Rattle.plan.specs.Columns.{Column, Signal, noSignal, signalData, sizeOfSignal, Omission, Plan}
 use Rattle.plan.specs.Data.{signalIn}
-use Rattle.work_words.specs.PlanWords.{timeWord, masterWord, columnWords, columnsWords, signalFragments, omissionPairs, laidPlan}
+use Rattle.work_words.specs.PlanWords.{timeWord, columnWords, columnsWords, signalFragments, omissionPairs, laidPlan}
 use Rattle.plan.specs.Layout.{columnBlocks}
 use Rattle.payload_laws.specs.SignalLaws.{length-signal}
 use Rattle.planning.specs.TimeWordLaws.{blit-among}
@@ -25,9 +25,7 @@ use Rattle.result.specs.Guarantee.{In, here, there}
 use Rattle.result.specs.Payload.{signalBytes}
 use Rattle.result.specs.Listing.{decimal, listedBytes, columnLine, columnLines, omissionLines, planLines, listing}
 use Rattle.result.specs.Result.{Args}
-use Rattle.listing.specs.LaidLaws.{laid-as}
 use Rattle.listing.specs.Lines.{
-  Laid,
   numberThen,
   letterOf,
   masterOf,

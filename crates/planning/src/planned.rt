@@ -1,7 +1,6 @@
 // The groups in the order of the walk.
 use crate::column::Progress;
 use crate::column::plan_channels;
-use crate::timing::Settled;
 use crate::timing::own_of;
 use crate::timing::settle;
 use crate::words::word;

@@ -12,9 +12,9 @@ use Rattle.base.specs.BlitLaws.{blit-append}
 use Rattle.base.specs.Checked.{Checked, ok, refused, andThen, Verdict, fine}
 use Rattle.mdf.specs.Block.{DG, CG, CN, linkAt, blockAt}
 use Rattle.mdf.specs.Name.{nameAt}
-use Rattle.mdf.specs.Chain.{isIn, Fragment, Chain.records, Found, found, stopped, Limits, chain}
-use Rattle.mdf.specs.Walk.{Item, dg, cg, cn, address, Source, source, isMet, Level, levelDG, levelCG, levelCN, tally, mostItems, visit, entered, idSizeIn, withFound}
-use Rattle.work_words.specs.Words.{mark, addressWords, marksAt, groupsAt, sourceWords, laidItems, fragmentWords, kindWord}
+use Rattle.mdf.specs.Chain.{isIn, Chain.records, Found, found, stopped, Limits, chain}
+use Rattle.mdf.specs.Walk.{Source, source, isMet, Level, levelDG, levelCG, levelCN, tally, mostItems, visit, entered, idSizeIn, withFound}
+use Rattle.work_words.specs.Words.{marksAt, groupsAt, sourceWords}
 use Rattle.reading.specs.Steps.{after, visited, metCG, metCN, Pieces, pieces, afterData, laidFound, dataIn}
 use Rattle.reading.specs.declared.answer.Taken.{Taken}
 use Rattle.reading.specs.declared.answer.Taken.the-variants.{Done}

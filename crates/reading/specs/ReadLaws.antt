@@ -17,8 +17,8 @@ use Rattle.fields.specs.Answer.{verdictOf}
 use Rattle.mdf.specs.Chain.{Fragment}
 use Rattle.mdf.specs.Identification.{identified}
 use Rattle.mdf.specs.Chain.{limits}
-use Rattle.mdf.specs.Walk.{Item, dg, cg, cn, Source, levelCG, tally, mostItems, walk}
-use Rattle.mdf.specs.Group.{DataGroup, addresses, groupsOf, dataGroupsOf, dataGroups, upTo}
+use Rattle.mdf.specs.Walk.{Item, dg, cg, cn, Source, levelCG, tally, walk}
+use Rattle.mdf.specs.Group.{addresses, groupsOf, dataGroupsOf, dataGroups, upTo}
 use Rattle.mdf.specs.Count.{countGroups, countsFrom, counts}
 use Rattle.work_words.specs.Words.{countsAt, sourceWords, laidItems, fragmentWords}
 use Rattle.chains.specs.KeptLaws.{length-words}

@@ -1,7 +1,7 @@
 -- From the turns of the walk to what it leaves.
-use Prim.Native.Nat.{ℕ, _+_, _≤_}
+use Prim.Native.Nat.{ℕ, _≤_}
 use mathlib.Core.List.{List, [], _∷_}
-use mathlib.Core.Path.{_≡_, refl, sym, ap, _∙_}
+use mathlib.Core.Path.{_≡_, refl, _∙_}
 use native.Mathlib.Omega.{arith}
 use lib.ListN.{length}
 use Rattle.base.specs.Blit.{blit}
@@ -10,11 +10,11 @@ use Rattle.fields.specs.declared.Check.{Check}
 use Rattle.fields.specs.Answer.{verdictOf}
 use Rattle.mdf.specs.Block.{HD, linkAt, blockAt}
 use Rattle.mdf.specs.Chain.{Limits}
-use Rattle.mdf.specs.Walk.{Source, source, levelDG, levelCG, tally, level, turns, belowDG, walkOf}
+use Rattle.mdf.specs.Walk.{source, levelDG, tally, level, turns, belowDG, walkOf}
 use Rattle.work_words.specs.Words.{addressWords, markWords, groupWords, fragmentWords, laidItems, sourceWords}
 use Rattle.reading.specs.declared.answer.Read.{Read}
-use Rattle.reading.specs.Held.{State, state, Held, Within, Gives, Stops}
-use Rattle.reading.specs.Walked.{Kept, given, keptOf, walkedFrom, walked}
+use Rattle.reading.specs.Held.{state, Held, Within, Gives, Stops}
+use Rattle.reading.specs.Walked.{Kept, given, walkedFrom, walked}
 
 -- nothing was met
 pub held-none : (w f : List ℕ) → Held w f (source [] []) (state w f 0 0 0 0 0)

@@ -16,17 +16,15 @@ use Rattle.base.specs.ChoiceLaws.{lt-no, le-yes, eq-yes, eq-no}
 use Rattle.base.specs.Blit.{part, blit}
 use Rattle.base.specs.Field.{leAt}
 use Rattle.mdf.specs.Group.{recordId, samples, invalBytes, isStorage}
-use Rattle.mdf.specs.Records.{most64, joined, Known, known, withId, isIdOf, equalIds}
-use Rattle.records.specs.Ahead.{fragmentsFrom, ahead, Spot, spot, spotPast, Reached, reached, stepTo}
+use Rattle.mdf.specs.Records.{most64, joined, known, withId, isIdOf, equalIds}
+use Rattle.records.specs.Ahead.{fragmentsFrom, ahead, Reached, reached, stepTo}
 use Rattle.records.specs.Framing.{none, value, numeral, bodyOf, bodyTo}
 use Rattle.records.specs.Table.{each, sizeWord, Tabled, IdHere, IdAt, BodyHere, BodyIn}
 use Rattle.records.specs.declared.framing.Framing.{Framing}
 use Rattle.records.specs.declared.framing.Step.{Step}
 use Rattle.records.specs.declared.framing.Step.the-variants.{Broken, Record}
 use Rattle.records.specs.Answer.{reachedOf}
-use Rattle.records.specs.declared.framing.Number.{Number}
 use Rattle.records.specs.declared.framing.Number.the-variants.{Missing, Value}
-use Rattle.records.specs.FragmentLaws.{eq-or-ne}
 use Rattle.records.specs.AheadLaws.{part-high, part-all, joined-ahead, byte-here, spot-stay}
 use Rattle.records.specs.FrameLaws.{record-onto, step-body}
 use Rattle.records.specs.SeveralLaws.{getD-blit}

@@ -7,7 +7,7 @@ use crate::group::inval_bytes;
 use crate::group::record_size;
 use fields::Check;
 ghost use mathlib.Core.Path.{_≡_};
-ghost use Prim.Native.Nat.{_+_, _<_, _≤_};
+ghost use Prim.Native.Nat.{_+_, _<_};
 ghost use lib.ListN.{getD};
 ghost use Rattle.base.specs.Checked.{fine};
 ghost use Rattle.fields.specs.Answer.{verdictOf};

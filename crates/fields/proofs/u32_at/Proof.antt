@@ -1,5 +1,4 @@
 use native.Mathlib.Omega.{arith}
-use Rattle.base.specs.Field.{leAt}
 use Rattle.base.specs.FieldLaws.{split, le-past}
 use borrow.Author.Needs.{needs}
 use Rattle.fields.proofs.u32_at.Statement.{statement}

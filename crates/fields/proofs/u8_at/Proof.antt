@@ -1,6 +1,6 @@
 use native.Mathlib.Omega.{arith}
 use Rattle.base.specs.Field.{leAt}
-use Rattle.base.specs.FieldLaws.{split, le-past}
+use Rattle.base.specs.FieldLaws.{le-past}
 use borrow.Author.Needs.{needs}
 use Rattle.fields.proofs.u8_at.Statement.{statement}
 use Rattle.fields.proofs.u8_at.Tie as tie

@@ -1,7 +1,6 @@
 -- The size is the length less 24, or 0 where the length is under 24.
 use Rattle.chains.specs.NodeLaws.{fragment-size}
 use native.Mathlib.Omega.{arith}
-use lib.ListN.{length}
 use borrow.Author.Needs.{needs}
 use Rattle.chains.proofs.node.fragment_of.Statement.{statement}
 use Rattle.chains.proofs.node.fragment_of.Tie as tie

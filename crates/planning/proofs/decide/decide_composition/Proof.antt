@@ -1,6 +1,5 @@
 -- The tests are those of the definition, in its order.
 use Rattle.planning.specs.DecideLaws.{left-refused, left-omitted, left-same, composed-none, composed-refused, composed-array, composed-structure, composed-other}
-use lib.ListN.{length, length-set}
 use borrow.Author.Needs.{needs}
 use Rattle.planning.proofs.decide.decide_composition.Statement.{statement}
 use Rattle.planning.proofs.decide.decide_composition.Tie as tie

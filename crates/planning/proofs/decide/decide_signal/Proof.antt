@@ -1,6 +1,5 @@
 -- The tests are those of the definition, in its order.
 use Rattle.planning.specs.DecideLaws.{left-refused, left-omitted, left-unsigned, left-same, signal-other, signal-none, signal-refused, signal-storage, signal-data}
-use lib.ListN.{length, length-set}
 use borrow.Author.Needs.{needs}
 use Rattle.planning.proofs.decide.decide_signal.Statement.{statement}
 use Rattle.planning.proofs.decide.decide_signal.Tie as tie

@@ -1,6 +1,5 @@
 -- The chain's answer is the decision.
 use Rattle.planning.specs.DecideLaws.{signal-stop, signal-done}
-use lib.ListN.{length, length-set}
 use borrow.Author.Needs.{needs}
 use Rattle.planning.proofs.decide.signal_at.Statement.{statement}
 use Rattle.planning.proofs.decide.signal_at.Tie as tie

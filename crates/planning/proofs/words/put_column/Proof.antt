@@ -1,6 +1,5 @@
 -- The first four words, then the other four.
 use Rattle.planning.specs.WordLaws.{put-eight}
-use lib.ListN.{length, length-set}
 use borrow.Author.Needs.{needs}
 use Rattle.planning.proofs.words.put_column.Statement.{statement}
 use Rattle.planning.proofs.words.put_column.Tie as tie

@@ -1,6 +1,5 @@
 -- Two stores are the two words.
 use Rattle.planning.specs.WordLaws.{put-two}
-use lib.ListN.{length, length-set}
 use borrow.Author.Needs.{needs}
 use Rattle.planning.proofs.words.put_omission.Statement.{statement}
 use Rattle.planning.proofs.words.put_omission.Tie as tie

@@ -1,6 +1,5 @@
 -- Four stores are the four words.
 use Rattle.planning.specs.WordLaws.{put-four}
-use lib.ListN.{length, length-set}
 use borrow.Author.Needs.{needs}
 use Rattle.planning.proofs.words.put_source.Statement.{statement}
 use Rattle.planning.proofs.words.put_source.Tie as tie

@@ -4,8 +4,6 @@ use mathlib.Core.List.{[]}
 use Rattle.mdf.specs.Chain.{fileLimits}
 use Rattle.reading.specs.WalkedLaws.{without-pieces}
 use borrow.Author.Needs.{needs}
-use native.Mathlib.Omega.{arith}
-use lib.ListN.{length, length-set}
 use Rattle.reading.proofs.recording.walk_file.Statement.{statement}
 use Rattle.reading.proofs.recording.walk_file.Tie as tie
 

@@ -1,6 +1,5 @@
 -- At most as many turns as the table has words.
 use borrow.Author.Needs.{needs}
-use native.Mathlib.Omega.{arith}
 use Prim.Native.Nat.{_-_, _≤_}
 use Rattle.records.proofs.table.fill_hints.Statement.{statement}
 use Rattle.records.proofs.table.fill_hints.Tie as tie

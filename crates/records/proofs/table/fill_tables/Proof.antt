@@ -1,7 +1,7 @@
 -- What is left of the groups, laid over the tables from there on, gives what the whole gives.
 use borrow.Author.Needs.{needs}
 use native.Mathlib.Omega.{arith}
-use lib.ListN.{length, drop, length-set}
+use lib.ListN.{length, drop}
 use Prim.Native.Nat.{_-_}
 use mathlib.Core.Path.{_≡_, refl}
 use Rattle.base.specs.Blit.{blit}

@@ -1,6 +1,5 @@
 -- A slot of the table, in at most as many turns as there are.
 use borrow.Author.Needs.{needs}
-use native.Mathlib.Omega.{arith}
 use Prim.Native.Nat.{_-_, _<_}
 use Rattle.records.proofs.table.free_slot.Statement.{statement}
 use Rattle.records.proofs.table.free_slot.Tie as tie

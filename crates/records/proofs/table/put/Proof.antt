@@ -1,5 +1,4 @@
 -- A word past the end is none; else the store is the contract.
-use native.Mathlib.Omega.{arith}
 use Rattle.records.specs.SeveralLaws.{up-none}
 use borrow.Author.Needs.{needs}
 use Rattle.records.proofs.table.put.Statement.{statement}

@@ -1,5 +1,4 @@
 -- By the kind of the group.
-use native.Mathlib.Omega.{arith}
 use Rattle.records.specs.TableLaws.{word-stored, word-plain}
 use borrow.Author.Needs.{needs}
 use Rattle.records.proofs.table.size_word.Statement.{statement}

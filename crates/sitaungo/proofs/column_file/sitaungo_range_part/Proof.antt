@@ -1,7 +1,5 @@
 -- The place's numbers.
 use Rattle.sitaungo.specs.ColumnFileLaws.{part-as}
-use native.Mathlib.Omega.{arith}
-use lib.ListN.{length, length-set}
 use borrow.Author.Needs.{needs}
 use Rattle.sitaungo.proofs.column_file.sitaungo_range_part.Statement.{statement}
 use Rattle.sitaungo.proofs.column_file.sitaungo_range_part.Tie as tie

@@ -1,7 +1,5 @@
 -- The answer's numbers beside the buffer.
 use Rattle.sitaungo.specs.ColumnFileLaws.{read-as}
-use native.Mathlib.Omega.{arith}
-use lib.ListN.{length, length-set}
 use borrow.Author.Needs.{needs}
 use Rattle.sitaungo.proofs.column_file.sitaungo_read_range.Statement.{statement}
 use Rattle.sitaungo.proofs.column_file.sitaungo_read_range.Tie as tie

@@ -1,7 +1,6 @@
 -- The quick answer, or the step as it is without tables.
 use Rattle.records.specs.TableLaws.{quick-kept}
 use borrow.Author.Needs.{needs}
-use native.Mathlib.Omega.{arith}
 use Rattle.records.proofs.framing.Framing.step_by.Statement.{statement}
 use Rattle.records.proofs.framing.Framing.step_by.Tie as tie
 
