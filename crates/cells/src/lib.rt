@@ -1,0 +1,2 @@
+// The data blocks of a column: the cells of its records, found in stretches of the joined data.
+pub mod column;
