@@ -29,6 +29,7 @@ use Rattle.result.specs.Result.{Args, Decided}
 use Rattle.result.specs.Guarantee.{In, here, there, columnsPlaced}
 use Rattle.chains.specs.KeptLaws.{length-words, words-append, words-back}
 use Rattle.payload_laws.specs.ColumnLaws.{Ready, ready}
+use Rattle.shown_laws.specs.ColumnShown.{blocksAt}
 use Rattle.plan_laws.specs.Lists.{occurs}
 use Rattle.plan_laws.specs.WalkLaws.{itemAddresses, walk-sound}
 use Rattle.plan_laws.specs.SourceLaws.{Origin}
@@ -38,9 +39,10 @@ use Rattle.planning.specs.TimeWordLaws.{stand-rest, laid-stand, blit-among}
 use Rattle.planning.specs.ReadBackLaws.{Words, groups-counted, laid-items, few-items}
 use Rattle.writing.specs.declared.own.Own.{Own}
 use Rattle.writing.specs.declared.data.Entry.{Entry}
-use Rattle.writing.specs.Own.{ownIn, ownWords, ownGroups, numberIn}
+use Rattle.places.specs.Stretch.{numberIn}
+use Rattle.writing.specs.Own.{ownIn, ownWords, ownGroups}
 use Rattle.writing.specs.FoundLaws.{laid-part, ownOf, own-found, groups-found, fragments-found, Found, dg-found, number-same, groups-once}
-use Rattle.writing.specs.Data.{entryIn, recordsBy, entryRecords, entryPayloads, entryBlocks, signalWords, entrySignal, dataFrom, EntryReady, DataReady}
+use Rattle.writing.specs.Data.{entryIn, entryRecords, entryPayloads, entryBlocks, signalWords, entrySignal, dataFrom, EntryReady, DataReady}
 
 -- ---- the words hold a group's DG
 pub record HeldGroup (w : List ℕ) (n : ℕ) (fs : List ℕ) (nf : ℕ) (g : SrcGroup) : Type 0 where
@@ -74,7 +76,7 @@ nonempty s c a b = rw (lt-ltb _ _ a, lt-ltb _ _ b)
 module _ {s w : List ℕ} {n : ℕ} {fs : List ℕ} {nf : ℕ} {e : Entry} {before : ℕ} {p : Placed} (v : EntryOf e before p)
     (h : HeldColumn s w n fs nf (p .column)) where
   records-same : entryRecords s w n fs nf e ≡ recordsOf s (p .column .group)
-  unfolding entryRecords recordsBy recordsOf
+  unfolding entryRecords recordsOf
   records-same = rw (v .parent, v .group, h .group .groups, h .group .fragments, h .group .number)
 
   blocks-same : (size : ℕ) → entryBlocks s size w n fs nf e
@@ -185,10 +187,24 @@ entry-of cs m k before p qs ps c h =
       sd = places-sd m k p ps h;
     }
 
+-- a column of the words is one of those placed
+pub record SameColumn (s : List ℕ) (size : ℕ) (w : List ℕ) (n : ℕ) (fs : List ℕ) (nf : ℕ) (e : Entry) (ps : List Placed) : Type 0 where
+  pub placed : Placed
+  pub one : In placed ps
+  pub first : e .first ≡ placed .first
+  pub sd : e .sd ≡ placed .sd
+  pub blocks : entryBlocks s size w n fs nf e ≡ blocksAt s size placed
+  pub signal : entrySignal s fs e ≡ sdBlocks s (placed .column .signalOf) (placed .sd)
+
+same-later : {s : List ℕ} {size : ℕ} {w : List ℕ} {n : ℕ} {fs : List ℕ} {nf : ℕ} {e : Entry} {p : Placed} {ps : List Placed}
+    → SameColumn s size w n fs nf e ps → SameColumn s size w n fs nf e (p ∷ ps)
+same-later c = record { placed = c .placed; one = there (c .one); first = c .first; sd = c .sd; blocks = c .blocks; signal = c .signal }
+
 -- ---- all columns
 record AllSame (s : List ℕ) (size : ℕ) (w : List ℕ) (n : ℕ) (fs : List ℕ) (nf : ℕ) (cs m : List ℕ) (k : ℕ) (ps : List Placed) : Type 0 where
   blocks : dataFrom s size w n fs nf cs m k (length ps) ≡ dataBlocks s size ps
   entries : (i : ℕ) → k ≤ i → i < k + length ps → EntryReady s w n fs nf (entryIn cs m i)
+  columns : (i : ℕ) → k ≤ i → i < k + length ps → SameColumn s size w n fs nf (entryIn cs m i) ps
 
 module _ (s : List ℕ) (size : ℕ) (w : List ℕ) (n nf : ℕ) (cs m l : List ℕ) where
   all-same : (k : ℕ) (before : List Fragment) (ps : List Placed) (fs : List ℕ)
@@ -198,7 +214,7 @@ module _ (s : List ℕ) (size : ℕ) (w : List ℕ) (n nf : ℕ) (cs m l : List 
       → ((c : Column) → In c (columnsPlaced ps) → HeldColumn s w n fs nf c)
       → AllSame s size w n fs nf cs m k ps
   unfolding dataFrom dataBlocks columnsPlaced signalFragments
-  all-same k before [] fs e h c q g = record { blocks = refl; entries = λ i a b. absurd (omega arith) }
+  all-same k before [] fs e h c q g = record { blocks = refl; entries = λ i a b. absurd (omega arith); columns = λ i a b. absurd (omega arith) }
   all-same k before (p ∷ ps) fs e h c q g =
       let sig : Signal = p .column .signalOf in
       let after : List Fragment = signalFragments (columnsPlaced ps) in
@@ -218,6 +234,10 @@ module _ (s : List ℕ) (size : ℕ) (w : List ℕ) (n nf : ℕ) (cs m l : List 
         entries = λ i a b. ⊎-elim
             (λ (x : k ≡ i). rw (← x) (entry-held v u fi))
             (λ (x : k < i). r .entries i (omega arith) (omega arith))
+            (eq-or-lt-of-le a);
+        columns = λ i a b. ⊎-elim
+            (λ (x : k ≡ i). rw (← x) (record { placed = p; one = here; first = v .first; sd = v .sd; blocks = blocks-same v u size; signal = si }))
+            (λ (x : k < i). same-later (r .columns i (omega arith) (omega arith)))
             (eq-or-lt-of-le a);
       }
 
@@ -342,3 +362,8 @@ module _ (x : Args) (d : Decided) (k : Known x d) (src₀ f₀ w₀ m₀ : List 
         entries = λ i h. all .entries i (omega arith) (omega arith);
         ordered = rw data-blocks o;
       }
+
+  pub data-columns : (i : ℕ) → i < length (d .planned .columns)
+      → SameColumn (x .image) (x .blockSize) sourceWords (length (k .steps .source .items)) fragmentsAll (length (k .steps .source .fragments))
+      (entryIn columnsAll memoAll i) (d .laidOut .placed)
+  data-columns i h = let am = as-many in all .columns i (omega arith) (omega arith)
