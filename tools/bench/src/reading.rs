@@ -89,7 +89,7 @@ fn one_column(blocks: u64, payload: u64) -> (&'static mut [u8], u64) {
 }
 
 pub fn run(turns: usize) {
-    let rack = convert(&recording(&[Group { channels: 300, bits: 32, inval: false, id: 0 }], 60_000, 4 << 20));
+    let rack = convert(&recording(&[Group::of(300, 32, 0)], 60_000, 4 << 20));
     assert_eq!(&rack[word(&rack, 88) as usize..][..4], b"##DG");
     println!("| ranges | MB of the file | read (ms) | part (ms) | copy (ms) |\n|---|---:|---:|---:|---:|");
     line("a column of 240 kB of 300, whole", &rack, turns, Ranges { column: 150, ranges: 1, records: 60_000, all: 60_000, width: 4 });
