@@ -1,2 +1,5 @@
 // The data blocks of a column: the cells of its records, found in stretches of the joined data.
+mod cell;
 pub mod column;
+mod cursor;
+mod strided;
