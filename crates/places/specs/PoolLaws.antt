@@ -12,7 +12,8 @@ use Rattle.base.specs.BlitLaws.{length-blit}
 use Rattle.records.specs.FragmentLaws.{lt-or-le, eq-or-ne}
 use Rattle.records.specs.SeveralLaws.{getD-blit}
 use Rattle.places.specs.declared.stretch.Stretch.{Stretch}
-use Rattle.places.specs.Pool.{keptIn, entryAt, stretchIn, RightOf, Pooled}
+use Rattle.places.specs.declared.pool.Held.{Held}
+use Rattle.places.specs.Pool.{keptIn, entryAt, stretchIn, RightOf, Pooled, KeptIn, EntryFor, HeldFor, HeldIn}
 
 -- ---- words
 -- the six words of an entry
@@ -151,3 +152,30 @@ module _ {s : List ℕ} {gsOf wsOf : ℕ → List ℕ} where
         where
           far : {a : ℕ} (c : ℕ) → c < 6 → (j ≡ i → ⊥) → a < 6 → entryAt j + a ≡ entryAt i + c → ⊥
           far {a} c m n b e = ⊎-elim (λ z. omega arith) (λ z. omega arith) (apart i j a n b)
+
+-- ---- one is sought
+abbrev pub nothing : Stretch
+nothing = record { number = 0; first = 0; stride = 0; count = 0 }
+
+pub entry-none : (p : List ℕ) (i d g r : ℕ) → EntryFor p i d g r nothing
+entry-none p i d g r = record {
+  parent = λ z. absurd (omega arith);
+  group = λ z. absurd (omega arith);
+  is = λ z. absurd (omega arith);
+  has = λ z. absurd (omega arith);
+}
+
+pub entry-here : (p : List ℕ) (i d g r : ℕ) → getD p (entryAt i) 0 ≡ d → getD p (entryAt i + 1) 0 ≡ g → getD p (entryAt i + 2) 0 ≤ r
+    → r - getD p (entryAt i + 2) 0 < getD p (entryAt i + 5) 0
+    → EntryFor p i d g r (stretchIn p i)
+entry-here p i d g r a b h l = record { parent = λ _. a; group = λ _. b; is = λ _. refl; has = λ _. (h, omega arith) }
+
+pub held-none : (p : List ℕ) (i d g r : ℕ) → HeldIn p d g r (record { index = i; stretch = nothing })
+held-none p i d g r s gsOf wsOf w = record { right = λ z. absurd (omega arith); has = λ z. absurd (omega arith) }
+
+pub held-entry : (p : List ℕ) (i d g r : ℕ) {n : ℕ} {t : Stretch} → KeptIn p n → i < n → EntryFor p i d g r t
+    → HeldIn p d g r (record { index = i; stretch = t })
+held-entry p i d g r {n} {t} k h e s gsOf wsOf w = record {
+  right = λ z. let a = e .parent z in let b = e .group z in rw (e .is z, ← a, ← b) (w .right i (omega (arith, k .kept)));
+  has = e .has;
+}
