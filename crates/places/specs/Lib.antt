@@ -1,5 +1,9 @@
 pub mod Stretch
+pub mod StretchLaws
 pub mod Sorted
 pub mod Several
+pub mod SeveralLaws
 pub mod Scan
+pub mod ScanLaws
 pub mod Pool
+pub mod PoolLaws
