@@ -4,4 +4,6 @@ pub mod Shape
 pub mod CellLaws
 pub mod Strided
 pub mod StridedLaws
+pub mod Spot
+pub mod SpotLaws
 pub mod Blocks

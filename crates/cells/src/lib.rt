@@ -2,4 +2,6 @@
 mod cell;
 pub mod column;
 mod cursor;
+mod run;
+mod spot;
 mod strided;
