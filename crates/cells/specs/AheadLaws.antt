@@ -97,7 +97,7 @@ pub part-part : (o n m : ℕ) (l : List ℕ) → m ≤ n → take m (part o n l)
 unfolding part
 part-part o n m l h = take-take m n (drop o l) h
 
-pub drop-take : (m n : ℕ) (l : List ℕ) → drop m (take n l) ≡ take (n - m) (drop m l)
+pub drop-take : {A : Type 0} (m n : ℕ) (l : List A) → drop m (take n l) ≡ take (n - m) (drop m l)
 drop-take zero n l = let e : n - 0 ≡ n = omega arith in rw e
 drop-take (suc m) zero l = let e : 0 - suc m ≡ 0 = omega arith in rw e
 drop-take (suc m) (suc n) [] = sym (take-nil (suc n - suc m))

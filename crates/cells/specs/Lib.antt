@@ -7,3 +7,5 @@ pub mod StridedLaws
 pub mod Spot
 pub mod SpotLaws
 pub mod Blocks
+pub mod Region
+pub mod RegionLaws

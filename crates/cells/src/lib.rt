@@ -2,6 +2,7 @@
 mod cell;
 pub mod column;
 mod cursor;
+mod piece;
 mod run;
 mod spot;
 mod strided;
