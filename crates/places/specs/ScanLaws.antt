@@ -23,8 +23,11 @@ use Rattle.places.specs.SeveralLaws.{unsorted-whole}
 use Rattle.places.specs.Scan.{start, ScanOf}
 
 -- ---- one group
-sorted-start : (s : List ℕ) (d g : ℕ) (ws : List ℕ) → SortedScan s d g ws start
-sorted-start s d g ws = record { rest = refl; within = omega arith; records = refl; few = omega arith }
+sorted-start : (s : List ℕ) (d : ℕ) (gs ws : List ℕ) → length gs ≡ 1 → recordsIn s d gs (fragmentsOf ws) ≡ fine
+    → SortedScan s d (getD gs 0 0) ws start
+sorted-start s d [] ws n e = absurd (omega arith)
+sorted-start s d (g ∷ f ∷ gs) ws n e = absurd (omega arith)
+sorted-start s d (g ∷ []) ws n e = record { checked = e; rest = refl; within = omega arith; records = refl; few = omega arith }
 
 -- ---- several groups
 -- checked data was framed
@@ -51,6 +54,6 @@ several-start s d k gs ws {rs} e = record {
 
 pub scan-start : {s : List ℕ} {d k : ℕ} {gs ws : List ℕ} → Ready s d k gs ws → ScanOf s d k gs ws start
 scan-start {s} {d} {k} {gs} {ws} r = record {
-  alone = λ _. sorted-start s d (getD gs 0 0) ws;
+  alone = λ n. sorted-start s d gs ws n (r .checked);
   several = λ n. let h = r .listed in let f = checked-frames s d gs ws (omega arith) n (r .checked) in several-start s d k gs ws (f .1);
 }
