@@ -3,3 +3,7 @@ pub mod Sorted
 pub mod Several
 pub mod Scan
 pub mod Pool
+pub mod Longer
+pub mod LongerLaws
+pub mod SeveralLaws
+pub mod NextLaws
