@@ -5,5 +5,5 @@ pub mod Scan
 pub mod Pool
 pub mod Longer
 pub mod LongerLaws
-pub mod SeveralLaws
+pub mod FacingLaws
 pub mod NextLaws
