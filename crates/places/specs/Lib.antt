@@ -1,9 +1,13 @@
 pub mod Stretch
+pub mod StretchLaws
 pub mod Sorted
 pub mod Several
+pub mod SeveralLaws
 pub mod Scan
+pub mod ScanLaws
 pub mod Pool
 pub mod Longer
 pub mod LongerLaws
 pub mod FacingLaws
 pub mod NextLaws
+pub mod PoolLaws

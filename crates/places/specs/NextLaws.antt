@@ -20,12 +20,13 @@ use Rattle.records.specs.Table.{Tabled}
 use Rattle.places.specs.declared.stretch.Stretch.{Stretch}
 use Rattle.places.specs.declared.stretch.Scan.{Scan}
 use Rattle.places.specs.declared.stretch.Next.{Next}
-use Rattle.places.specs.Stretch.{spaced, recordsAt, bodyBytes, Ready, StretchOf}
+use Rattle.places.specs.Stretch.{Ready, StretchOf}
+use Rattle.places.specs.StretchLaws.{stretch-none}
 use Rattle.places.specs.Several.{Read, WholeFrames, SeveralScan}
 use Rattle.places.specs.Scan.{ScanOf, NextOf, NextBy}
 use Rattle.places.specs.Longer.{RecordAt, LongerBy}
-use Rattle.places.specs.SeveralLaws.{Whole, whole-checked, group-framed, Facing, Faced, face-move, face-end, face-broken, face-record}
-use Rattle.places.specs.SeveralLaws.{Numbered, numbered-end, numbered-other, numbered-own, own-low, own-at, framed-is}
+use Rattle.places.specs.FacingLaws.{Whole, whole-checked, group-framed, Facing, Faced, face-move, face-end, face-broken, face-record}
+use Rattle.places.specs.FacingLaws.{Numbered, numbered-end, numbered-other, numbered-own, own-low, own-at, framed-is}
 
 -- the records found so far are a stretch, and the others of the group are ahead of the place c
 pub record Nexting (s : List ℕ) (d k : ℕ) (gs ws : List ℕ) (c₀ : Scan) (t : Stretch) (c : Scan) : Type 0 where
@@ -40,11 +41,6 @@ abbrev pub Going : List ℕ → ℕ → ℕ → List ℕ → List ℕ → List �
 Going s n k gs ws ids sizes c₀ t c =
     (d : ℕ) → n ≡ idSize s d → (length gs ≡ 1 → ⊥) → Tabled s gs ids sizes → Ready s d k gs ws → ScanOf s d k gs ws c₀
     → Nexting s d k gs ws c₀ t c
-
-none-stretch : (s : List ℕ) (d k : ℕ) (gs ws : List ℕ) (i : ℕ) → i ≤ length (groupRecords s d k gs (fragmentsOf ws))
-    → StretchOf s d k gs ws (record { number = i; first = 0; stride = 0; count = 0 })
-unfolding recordsAt spaced
-none-stretch s d k gs ws i h = record { few = omega arith; are = refl; inside = λ z. absurd (omega arith) }
 
 step-for : (s : List ℕ) (n : ℕ) (gs ws : List ℕ) (at p l i : ℕ) (x : Step) → n ≡ i → reachedOf x ≡ stepTo s n gs (ahead s ws at p l) at
     → reachedOf x ≡ stepTo s i gs (ahead s ws at p l) at
@@ -63,7 +59,7 @@ module _ (s : List ℕ) (n k : ℕ) (gs ws ids sizes : List ℕ) (c₀ : Scan) w
         frames = v .whole .frames;
         facing = record { rest = v .rest; within = v .within; read = v .whole .read; known = v .whole .known };
         numbered = record { records = rw g (v .records); few = rw g (v .few) };
-        stretch = none-stretch s d k gs ws (c₀ .number) (rw g (v .few));
+        stretch = stretch-none (c₀ .number) 0 0 (rw g (v .few));
         from = refl;
         to = omega arith;
       }

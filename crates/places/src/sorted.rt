@@ -9,5 +9,13 @@ ghost use Rattle.places.specs.Scan.{NextFor};
 pub fn sorted_next(image: &[u8], d: u64, g: u64, fragments: &[u64], scan: Scan) -> Next
     ensures { λ r. ⌜ NextFor (now (image .entry)) d 0 (g ∷ []) (now (fragments .entry)) scan r ⌝ }
 {
-    Next { stretch: Stretch { number: scan.number, first: 0, stride: 0, count: 0 }, scan }
+    Next {
+        stretch: Stretch {
+            number: scan.number,
+            first: 0,
+            stride: 0,
+            count: 0,
+        },
+        scan,
+    }
 }

@@ -1,5 +1,5 @@
 -- What was found so far is a stretch, and the records that follow are ahead.
-use Rattle.places.specs.SeveralLaws.{turn-less}
+use Rattle.places.specs.FacingLaws.{turn-less}
 use Rattle.places.specs.NextLaws.{Going, going-begin, going-move, going-own, going-other, next-without, next-end, next-broken, next-far, next-many, next-stop}
 use Prim.Native.Nat.{_+_, _-_, _*_}
 use mathlib.Core.Path.{refl}
