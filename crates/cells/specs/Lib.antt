@@ -9,3 +9,5 @@ pub mod SpotLaws
 pub mod Blocks
 pub mod Region
 pub mod RegionLaws
+pub mod Filled
+pub mod FilledLaws

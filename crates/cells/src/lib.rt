@@ -1,4 +1,5 @@
 // The data blocks of a column: the cells of its records, found in stretches of the joined data.
+mod by;
 mod cell;
 pub mod column;
 mod cursor;
@@ -6,3 +7,4 @@ mod piece;
 mod run;
 mod spot;
 mod strided;
+mod total;
