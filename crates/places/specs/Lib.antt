@@ -11,3 +11,5 @@ pub mod LongerLaws
 pub mod FacingLaws
 pub mod NextLaws
 pub mod PoolLaws
+pub mod Pass
+pub mod PassLaws
