@@ -1,6 +1,9 @@
 pub mod Stretch
 pub mod StretchLaws
+pub mod Run
+pub mod RunLaws
 pub mod Sorted
+pub mod SortedLaws
 pub mod Several
 pub mod SeveralLaws
 pub mod Scan
@@ -11,3 +14,5 @@ pub mod LongerLaws
 pub mod FacingLaws
 pub mod NextLaws
 pub mod PoolLaws
+pub mod Pass
+pub mod PassLaws
