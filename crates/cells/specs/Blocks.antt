@@ -7,6 +7,7 @@ use lib.ListN.{length}
 use Rattle.base.specs.Blit.{blit}
 use Rattle.base.specs.Checked.{fine}
 use Rattle.mdf.specs.Group.{isStorage}
+use Rattle.mdf.specs.Records.{most64, sizeOf}
 use Rattle.work_words.specs.Words.{fragmentsOf}
 use Rattle.plan.specs.Channel.{fits, keepsInval, width}
 use Rattle.plan.specs.Geometry.{blockCount, perFull}
@@ -50,13 +51,14 @@ abbrev pub blocksBytes : List ℕ → ℕ → List ℕ → List ℕ → Column �
 blocksBytes s size gs ws c = blocksFor s size c (columnRecords s gs ws c)
 
 -- its channel fits its group, which is one of its DG's and no VLSD storage; if it has bytes, its DG's records were checked, and its own
--- counted; the blocks have room
+-- counted, and its DG's data has a size; the blocks have room
 pub record BlocksReady (s : List ℕ) (size : ℕ) (gs ws : List ℕ) (c : Column) (room : ℕ) : Type 0 where
   pub fit : fits s (c .group) (c .channel) ≡ true
   pub kept : isStorage s (c .group) ≡ false
   pub listed : numberIn (c .group) gs < length gs
   pub checked : 0 < wideOf s c → 0 < c .records → recordsIn s (c .parent) gs (fragmentsOf ws) ≡ fine
   pub counted : 0 < wideOf s c → 0 < c .records → length (columnRecords s gs ws c) ≡ c .records
+  pub small : 0 < wideOf s c → 0 < c .records → sizeOf (fragmentsOf ws) ≤ most64
   pub ends : length (blocksBytes s size gs ws c) ≤ room
 
 -- exactly the blocks come to stand, at the front; the stretches that are kept stay right. gsOf and wsOf give the groups and the words of

@@ -35,6 +35,18 @@ RightOf s gsOf wsOf d g t = StretchOf s d (numberIn g (gsOf d)) (gsOf d) (wsOf d
 pub record Pooled (s : List ℕ) (gsOf wsOf : ℕ → List ℕ) (p : List ℕ) : Type 0 where
   pub right : (i : ℕ) → i < keptIn p → RightOf s gsOf wsOf (getD p (entryAt i) 0) (getD p (entryAt i + 1) 0) (stretchIn p i)
 
+-- so many of them, whose words all stand there
+pub record KeptIn (p : List ℕ) (n : ℕ) : Type 0 where
+  pub kept : n ≤ keptIn p
+  pub room : 0 < n → entryAt n ≤ length p
+
+-- what number i has for record r of the group: nothing, or itself
+pub record EntryFor (p : List ℕ) (i d g r : ℕ) (t : Stretch) : Type 0 where
+  pub parent : 0 < t .count → getD p (entryAt i) 0 ≡ d
+  pub group : 0 < t .count → getD p (entryAt i + 1) 0 ≡ g
+  pub is : 0 < t .count → t ≡ stretchIn p i
+  pub has : 0 < t .count → (t .number ≤ r) × (r < t .number + t .count)
+
 -- what was found for record r of the group: nothing, or a stretch that has it
 pub record HeldFor (s : List ℕ) (gsOf wsOf : ℕ → List ℕ) (d g r : ℕ) (h : Held) : Type 0 where
   pub right : 0 < h .stretch .count → RightOf s gsOf wsOf d g (h .stretch)

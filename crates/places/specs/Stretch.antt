@@ -9,7 +9,7 @@ use Rattle.base.specs.Blit.{part}
 use Rattle.base.specs.Checked.{fine}
 use Rattle.mdf.specs.Chain.{Fragment}
 use Rattle.mdf.specs.Group.{samples, invalBytes, isStorage}
-use Rattle.mdf.specs.Records.{joined}
+use Rattle.mdf.specs.Records.{most64, joined, sizeOf}
 use Rattle.work_words.specs.Words.{fragmentsOf}
 use Rattle.plan.specs.Data.{recordsIn}
 use Rattle.result.specs.Payload.{groupRecords}
@@ -34,11 +34,13 @@ unfoldable pub numberIn : ℕ → List ℕ → ℕ
 numberIn g [] = 0
 numberIn g (h ∷ gs) = let later = suc (numberIn g gs) in ifEq h g 0 later
 
--- group k of the DG at d, which has the groups gs and fragments by the words ws: its data was checked, and its records have bytes
+-- group k of the DG at d, which has the groups gs and fragments by the words ws: its data was checked and has a size, and its
+-- records have bytes
 pub record Ready (s : List ℕ) (d k : ℕ) (gs ws : List ℕ) : Type 0 where
   pub listed : k < length gs
   pub plain : isStorage s (getD gs k 0) ≡ false
   pub checked : recordsIn s d gs (fragmentsOf ws) ≡ fine
+  pub small : sizeOf (fragmentsOf ws) ≤ most64
   pub some : 0 < bodyBytes s (getD gs k 0)
 
 -- its records from a number on, so many, are those of a stretch
