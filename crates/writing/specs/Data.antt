@@ -10,7 +10,7 @@ use Rattle.base.specs.Checked.{fine}
 use Rattle.mdf.specs.Block.{kindSD}
 use Rattle.mdf.specs.Group.{samples, invalBytes, isStorage}
 use Rattle.work_words.specs.Words.{fragmentsOf}
-use Rattle.mdf.specs.Records.{joined}
+use Rattle.mdf.specs.Records.{most64, joined, sizeOf}
 use Rattle.plan.specs.Channel.{fits, width}
 use Rattle.plan.specs.Data.{recordsIn}
 use Rattle.result.specs.Payload.{payloads}
@@ -86,7 +86,7 @@ pub record Tables (w fs : List ℕ) (nf : ℕ) : Type 0 where
   pub fragments : 3 * nf ≤ length fs
 
 -- of a column: its channel fits its group, which is one of its DG's and no VLSD storage; if it has bytes, its DG's records were checked,
--- and its own counted
+-- and its own counted, and its DG's data has a size
 pub record EntryReady (s w : List ℕ) (n : ℕ) (fs : List ℕ) (nf : ℕ) (e : Entry) : Type 0 where
   pub fit : fits s (e .group) (e .channel) ≡ true
   pub kept : isStorage s (e .group) ≡ false
@@ -94,6 +94,7 @@ pub record EntryReady (s w : List ℕ) (n : ℕ) (fs : List ℕ) (nf : ℕ) (e :
   pub checked : 0 < width s (e .group) (e .channel) → 0 < e .records
       → recordsIn s (e .parent) (groupsAt w n nf (e .parent)) (fragmentsOf (wordsAt w n fs nf (e .parent))) ≡ fine
   pub counted : 0 < width s (e .group) (e .channel) → 0 < e .records → length (entryRecords s w n fs nf e) ≡ e .records
+  pub small : 0 < width s (e .group) (e .channel) → 0 < e .records → sizeOf (fragmentsOf (wordsAt w n fs nf (e .parent))) ≤ most64
   pub long : 0 < width s (e .group) (e .channel) → 0 < e .records
       → Long (samples s (e .group) + invalBytes s (e .group)) (entryRecords s w n fs nf e)
   pub signal : (e .signal ≡ 0 → ⊥) → 3 * (e .signal - 1) + 3 * e .pieces ≤ length fs

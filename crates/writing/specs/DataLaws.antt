@@ -46,7 +46,7 @@ module _ {s w : List ℕ} {n : ℕ} {fs : List ℕ} {nf : ℕ} {e : Entry} {o : 
       → BlocksReady s size (ownGroups w o) (ownWords fs o) (entryColumn e) room
   unfolding entryRecords
   blocks-ready room r h =
-      rw (q .is) (record { fit = r .fit; kept = r .kept; listed = r .listed; checked = r .checked; counted = r .counted; ends = h })
+      rw (q .is) (record { fit = r .fit; kept = r .kept; listed = r .listed; checked = r .checked; counted = r .counted; small = r .small; ends = h })
 
   pub blocks-put : (p last-p out last : List ℕ) → EntryReady s w n fs nf e → length (entryBytes s size w n fs nf e) ≤ length out
       → Kept s w n fs nf p → WritesBlocks s size (ownGroups w o) (ownWords fs o) (entryColumn e) p last-p out last

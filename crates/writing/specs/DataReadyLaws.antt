@@ -15,6 +15,7 @@ use Rattle.base.specs.Checked.{fine}
 use Rattle.mdf.specs.Chain.{Fragment}
 use Rattle.mdf.specs.Walk.{Item, dg, levelCG, tally}
 use Rattle.mdf.specs.Group.{addresses, groupsOf, dataGroups}
+use Rattle.mdf.specs.Records.{most64, sizeOf}
 use Rattle.work_words.specs.Words.{fragmentWords, fragmentsOf, laidItems, countsAt}
 use Rattle.plan.specs.Channel.{width, keepsInval}
 use Rattle.plan.specs.Columns.{SrcGroup, Column, Signal, noSignal, signalData, sizeOfSignal}
@@ -29,7 +30,9 @@ use Rattle.result.specs.Result.{Args, Decided}
 use Rattle.result.specs.Guarantee.{In, here, there, columnsPlaced}
 use Rattle.chains.specs.KeptLaws.{length-words, words-append, words-back}
 use Rattle.payload_laws.specs.ColumnLaws.{Ready, ready}
+use Rattle.payload_laws.specs.BoundLaws.{fragments-small}
 use Rattle.shown_laws.specs.ColumnShown.{blocksAt}
+use Rattle.guarantee.specs.Theorem.{sized}
 use Rattle.plan_laws.specs.Lists.{occurs}
 use Rattle.plan_laws.specs.WalkLaws.{itemAddresses, walk-sound}
 use Rattle.plan_laws.specs.SourceLaws.{Origin}
@@ -55,6 +58,7 @@ pub record HeldGroup (w : List ℕ) (n : ℕ) (fs : List ℕ) (nf : ℕ) (g : Sr
 pub record HeldColumn (s w : List ℕ) (n : ℕ) (fs : List ℕ) (nf : ℕ) (c : Column) : Type 0 where
   pub group : HeldGroup w n fs nf (c .group)
   pub ready : Ready s c
+  pub small : isNonempty s c ≡ true → sizeOf (c .group .dataGroup .fragments) ≤ most64
   pub checked : isNonempty s c ≡ true
       → recordsIn s (c .group .dataGroup .at) (addresses (c .group .dataGroup .groups)) (c .group .dataGroup .fragments) ≡ fine
 
@@ -95,6 +99,7 @@ module _ {s w : List ℕ} {n : ℕ} {fs : List ℕ} {nf : ℕ} {e : Entry} {befo
         listed = rw (v .parent, v .group, h .group .groups, h .group .number) (h .group .within);
         checked = λ a b. rw (v .parent, h .group .groups, h .group .fragments) (h .checked (some-of a b));
         counted = λ a b. rw (records-same, v .records) (h .ready .read (some-of a b) .many);
+        small = λ a b. rw (v .parent, h .group .fragments) (h .small (some-of a b));
         long = λ a b. rw (records-same, v .group) (h .ready .read (some-of a b) .long (h .ready .kept));
         signal = g;
       }
@@ -322,6 +327,9 @@ module _ (x : Args) (d : Decided) (k : Known x d) (src₀ f₀ w₀ m₀ : List 
         group = held-group (c .group) (k .source c i .0);
         ready = ready (x .image) (dataGroups (k .steps .source)) (d .planned .columns) (k .steps .counted) (k .steps .dataFine) c i
             (subst (In (c .group)) (k .steps .groups) (k .source c i .0)) (k .fitting c i) (k .source c i .1);
+        small = λ q.
+            let z = sized x d k c i in
+            omega (arith, fragments-small (x .image) (c .group .dataGroup .fragments) (z .ready .read q .ranges) (k .steps .imageLength) (z .few));
         checked = k .recordsFine c i;
       }
 
