@@ -18,7 +18,7 @@ use Rattle.cells.specs.Region.{regionOf, reachTo, Due, Grown, PieceOf}
 
 -- the fragments lie in the image and have so many bytes together, or it is not so
 pub record TotalOf (s ws : List ℕ) (r : Total) : Type 0 where
-  pub yes : r .known ≡ true → (rangesIn s (fragmentsOf ws) ≡ fine) × (r .bytes ≡ sizeOf (fragmentsOf ws))
+  pub yes : r .known ≡ true → (rangesIn s (fragmentsOf ws) ≡ fine) × (r .bytes ≡ sizeOf (fragmentsOf ws)) × (r .bytes ≤ most64)
   pub no : r .known ≡ false → rangesIn s (fragmentsOf ws) ≡ fine → sizeOf (fragmentsOf ws) ≤ most64 → ⊥
 
 -- a stretch of records from a number on, of those that the column has, in data of so many bytes

@@ -86,14 +86,14 @@ unfolding later
 totalling-begin s ws = record { within = omega arith; on = λ e. e; back = λ e. e; sizes = omega arith }
 
 module _ {s ws : List ℕ} {i sum : ℕ} (t : Totalling s ws i sum) where
-  pub totalling-end : length ws < i + 3 → {r : Total} → r ≡ record { known = true; bytes = sum } → TotalOf s ws r
+  pub totalling-end : length ws < i + 3 → sum ≤ most64 → {r : Total} → r ≡ record { known = true; bytes = sum } → TotalOf s ws r
   unfolding rangesIn sizeOf
-  totalling-end h e =
+  totalling-end h m e =
       let n = later-none ws i h in
       let o : rangesIn s (later ws i) ≡ fine = rw n refl in
       let z : sizeOf (later ws i) ≡ 0 = rw n in
       rw e (record {
-        yes = λ q. (t .on o, omega (arith, t .sizes));
+        yes = λ q. (t .on o, omega (arith, t .sizes), m);
         no = λ q. absurd (false≢true (sym q));
       })
 

@@ -11,3 +11,6 @@ pub mod Region
 pub mod RegionLaws
 pub mod Filled
 pub mod FilledLaws
+pub mod NumberLaws
+pub mod Written
+pub mod WrittenLaws

@@ -5,10 +5,12 @@ use crate::spot::Spot;
 use crate::spot::begin;
 use places::pool::find;
 use places::several::several_next;
+use places::sorted::sorted_next;
 use places::stretch::Scan;
 use places::stretch::Stretch;
 use records::group::id_size;
 use records::table::make_tables;
+ghost use mathlib.Core.List.{[], _∷_};
 ghost use mathlib.Core.Path.{_≡_};
 ghost use Prim.Native.Nat.{_+_, _*_, _≤_, _<_};
 ghost use lib.ListN.{length};
@@ -86,6 +88,40 @@ fn put_rest(
         return put_piece(out, image, fragments, f, t, spot);
     }
     put_piece(out, image, fragments, f, past(t, a - t.number), spot)
+}
+
+// Of the group at g that is alone in the DG at d.
+pub(crate) fn by_sorted(
+    out: &mut [u8],
+    image: &[u8],
+    d: u64,
+    g: u64,
+    fragments: &[u64],
+    f: Form,
+    size: u64,
+)
+    requires { ⌜ Readable (now image) (now fragments) (f .shape) × Formed (now image) f (length (now out))
+        × (size ≡ sizeOf (fragmentsOf (now fragments))) ⌝ }
+    ensures { λ _. ⌜ Filled (now (image .entry)) d 0 (g ∷ []) (now (fragments .entry)) f 0 (f .records) (now (out .entry)) (now (out .exit)) ⌝ }
+{
+    let mut scan = Scan {
+        at: 0,
+        position: 0,
+        left: 0,
+        offset: 0,
+        number: 0,
+    };
+    let mut spot = begin();
+    let mut at = 0;
+    while at < f.records {
+        let r = sorted_next(image, d, g, fragments, scan);
+        if !usable(r.stretch, at, f, size) {
+            return;
+        }
+        spot = put_rest(out, image, fragments, f, 0, r.stretch, spot);
+        at += r.stretch.count;
+        scan = r.scan;
+    }
 }
 
 // Of the group at g of the DG at d, as far as kept stretches follow each other from the first record on: how many records.

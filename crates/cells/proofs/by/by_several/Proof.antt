@@ -63,7 +63,7 @@ add-at c =
     let t = c .before .before .before .before .before .before .before .several-next .result .stretch in
     let u : Usable (c .before .before .before .before .before .before .before .before .before .before .before .before .before .before .before .before .before .before .before .before .before .before .before .before .args .size) (c .before .before .before .before .before .before .before .before .before .before .before .before .before .before .before .before .before .before .before .before .before .before .before .before .args .f) (c .before .before .before .before .before .before .before .before .before .before .before .before .before .loop .at) t = if-usable _ (c .before .before .before .before .before .before .usable .ensures) (c .before .before .before .before .before .if2 .left) in
     let n : c .before .before .before .before .before .before .before .before .before .before .before .before .before .loop .at + t .count ≤ c .before .before .before .before .before .before .before .before .before .before .before .before .before .before .before .before .before .before .before .before .before .before .before .before .args .f .records = omega (arith, u .next, u .few) in
-    omega (arith, n, c@struct-known .given)
+    omega (arith, n, c .before .before .before .before .before .before .before .before .before .before .before .before .struct-known .given)
 
 loop-less : tie.Need-loop-less Inv-loop μ-loop
 loop-less c = let u = if-usable _ (c .before .before .before .before .before .before .before .usable .ensures) (c .before .before .before .before .before .before .if2 .left) in omega (arith, u .next, u .few, u .lying .some)

@@ -75,7 +75,7 @@ loop-again c =
 returns-4 : tie.Need-returns-4 Inv-loop μ-loop
 returns-4 c =
     let v = c .before .loop .inv in
-    totalling-end (v .0) (omega (arith, v .1, v .0 .within)) refl
+    totalling-end (v .0) (omega (arith, v .1, v .0 .within)) (omega (arith, v .4)) refl
 
 pub total-of-spec : {M : Type 1} → statement M
 total-of-spec =
