@@ -5,9 +5,8 @@ use mathlib.Core.List.{List, [], _∷_}
 use mathlib.Core.Path.{_≡_, refl, sym, ap, _∙_, subst}
 use native.Mathlib.Nat.{add-mul, suc-mul}
 use native.Mathlib.Omega.{arith}
-use lib.ListN.{length, getD, take, drop, length-drop, length-append}
+use lib.ListN.{length, getD, drop, length-drop, length-append}
 use lib.Seq.{drop-drop}
-use Rattle.base.specs.Choice.{ifEq}
 use Rattle.base.specs.ChoiceLaws.{eq-yes, eq-no}
 use Rattle.base.specs.Blit.{part}
 use Rattle.base.specs.Checked.{ok, fine}
@@ -31,7 +30,7 @@ use Rattle.records.specs.AheadLaws.{ahead-counts, joined-ahead, part-all}
 use Rattle.records.specs.ReadingLaws.{Stepping, stepping, stuck-broken}
 use Rattle.places.specs.Stretch.{bodyBytes}
 use Rattle.places.specs.Several.{Read, end, more}
-use Rattle.places.specs.SeveralLaws.{broken≢framed, Fits, frame-fits, frames-read, unsorted-frames}
+use Rattle.places.specs.SeveralLaws.{broken≢framed, frame-fits, frames-read, unsorted-frames}
 use Rattle.places.specs.ScanLaws.{checked-frames}
 use Rattle.places.specs.Longer.{RecordAt}
 
@@ -223,6 +222,11 @@ module _ {s : List ℕ} {n : ℕ} {gs ws : List ℕ} {at p l offset : ℕ} {rs :
             known = w .1;
           };
         }
+
+-- the id's bytes by another name
+pub step-for : (s : List ℕ) (n : ℕ) (gs ws : List ℕ) (at p l i : ℕ) (x : Step) → n ≡ i → reachedOf x ≡ stepTo s n gs (ahead s ws at p l) at
+    → reachedOf x ≡ stepTo s i gs (ahead s ws at p l) at
+step-for s n gs ws at p l i x q e = e ∙ ap (λ (m : ℕ). stepTo s m gs (ahead s ws at p l) at) q
 
 -- ---- the records of one group: those of rs are the group's from number i on
 pub record Numbered (s : List ℕ) (d k : ℕ) (gs ws : List ℕ) (rs : List Frame) (i : ℕ) : Type 0 where

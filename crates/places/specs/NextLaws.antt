@@ -1,14 +1,13 @@
 -- Laws of the next records of one of several groups.
 use Prim.Native.Nat.{ℕ, zero, suc, _+_, _≤_, _<_}
-use mathlib.Core.List.{List, [], _∷_}
-use mathlib.Core.Bool.{false}
+use mathlib.Core.List.{List}
 use mathlib.Core.Path.{_≡_, refl, sym, ap, _∙_, subst}
 use mathlib.Core.Logic.{_⊎_, inl, inr}
 use native.Mathlib.Omega.{arith}
-use lib.ListN.{length, getD, take, drop}
+use lib.ListN.{length, getD}
 use Rattle.base.specs.Blit.{part}
 use Rattle.mdf.specs.Walk.{idSize}
-use Rattle.mdf.specs.Records.{most64, joined, Frame, unsortedRecords}
+use Rattle.mdf.specs.Records.{most64, Frame}
 use Rattle.work_words.specs.Words.{fragmentsOf}
 use Rattle.result.specs.Payload.{groupRecords}
 use Rattle.records.specs.declared.framing.Step.{Step}
@@ -19,14 +18,12 @@ use Rattle.records.specs.Answer.{reachedOf}
 use Rattle.records.specs.Table.{Tabled}
 use Rattle.places.specs.declared.stretch.Stretch.{Stretch}
 use Rattle.places.specs.declared.stretch.Scan.{Scan}
-use Rattle.places.specs.declared.stretch.Next.{Next}
 use Rattle.places.specs.Stretch.{Ready, StretchOf}
 use Rattle.places.specs.StretchLaws.{stretch-none}
-use Rattle.places.specs.Several.{Read, WholeFrames, SeveralScan}
 use Rattle.places.specs.Scan.{ScanOf, NextOf, NextBy}
 use Rattle.places.specs.Longer.{RecordAt, LongerBy}
 use Rattle.places.specs.FacingLaws.{Whole, whole-checked, group-framed, Facing, Faced, face-move, face-end, face-broken, face-record}
-use Rattle.places.specs.FacingLaws.{Numbered, numbered-end, numbered-other, numbered-own, own-low, own-at, framed-is}
+use Rattle.places.specs.FacingLaws.{step-for, Numbered, numbered-end, numbered-other, numbered-own, own-low, own-at, framed-is}
 
 -- the records found so far are a stretch, and the others of the group are ahead of the place c
 pub record Nexting (s : List ℕ) (d k : ℕ) (gs ws : List ℕ) (c₀ : Scan) (t : Stretch) (c : Scan) : Type 0 where
@@ -41,10 +38,6 @@ abbrev pub Going : List ℕ → ℕ → ℕ → List ℕ → List ℕ → List �
 Going s n k gs ws ids sizes c₀ t c =
     (d : ℕ) → n ≡ idSize s d → (length gs ≡ 1 → ⊥) → Tabled s gs ids sizes → Ready s d k gs ws → ScanOf s d k gs ws c₀
     → Nexting s d k gs ws c₀ t c
-
-step-for : (s : List ℕ) (n : ℕ) (gs ws : List ℕ) (at p l i : ℕ) (x : Step) → n ≡ i → reachedOf x ≡ stepTo s n gs (ahead s ws at p l) at
-    → reachedOf x ≡ stepTo s i gs (ahead s ws at p l) at
-step-for s n gs ws at p l i x q e = e ∙ ap (λ (m : ℕ). stepTo s m gs (ahead s ws at p l) at) q
 
 module _ (s : List ℕ) (n k : ℕ) (gs ws ids sizes : List ℕ) (c₀ : Scan) where
   whole-ready : (d : ℕ) → (length gs ≡ 1 → ⊥) → Ready s d k gs ws → Whole s d gs ws

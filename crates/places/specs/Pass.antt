@@ -1,6 +1,6 @@
 -- Bookkeeping: what keeping stretches of a DG's groups, found in one framing of its data, leaves right.
 use Prim.Native.Nat.{ℕ, _+_, _<_}
-use mathlib.Core.List.{List, [], _∷_}
+use mathlib.Core.List.{List}
 use mathlib.Core.Path.{_≡_}
 use lib.ListN.{length, getD}
 use Rattle.base.specs.Checked.{fine}

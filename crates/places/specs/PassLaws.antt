@@ -7,7 +7,6 @@ use mathlib.Core.Logic.{_⊎_, inl, inr}
 use native.Mathlib.Omega.{arith}
 use lib.ListN.{length, getD, set, replicate, length-set}
 use lib.Seq.{getD-set-same, getD-set-other}
-use Rattle.base.specs.Choice.{pick}
 use Rattle.base.specs.Blit.{part, blit}
 use Rattle.base.specs.Checked.{fine}
 use Rattle.plan.specs.Data.{recordsIn}
@@ -16,7 +15,7 @@ use Rattle.mdf.specs.Group.{isStorage}
 use Rattle.mdf.specs.Records.{equalIds, Frame}
 use Rattle.work_words.specs.Words.{fragmentsOf}
 use Rattle.records.specs.declared.framing.Step.{Step}
-use Rattle.records.specs.declared.framing.Step.the-variants.{Broken, Record}
+use Rattle.records.specs.declared.framing.Step.the-variants.{Record}
 use Rattle.records.specs.declared.framing.Framing.{Framing}
 use Rattle.records.specs.Ahead.{ahead, stepTo}
 use Rattle.records.specs.Answer.{reachedOf}
@@ -24,13 +23,13 @@ use Rattle.records.specs.Table.{sizeWord, Tabled}
 use Rattle.records.specs.FragmentLaws.{eq-or-ne}
 use Rattle.places.specs.declared.stretch.Stretch.{Stretch}
 use Rattle.places.specs.declared.stretch.Scan.{Scan}
-use Rattle.places.specs.Stretch.{numberIn, StretchOf}
+use Rattle.places.specs.Stretch.{numberIn}
 use Rattle.places.specs.StretchLaws.{stretch-one, number-apart}
 use Rattle.places.specs.Pool.{keptIn, entryAt, stretchIn, RightOf, Pooled, KeptIn, KeepsRight}
 use Rattle.places.specs.PoolLaws.{entryWords, pooled-back, pooled-past, pooled-put, pooled-more}
 use Rattle.places.specs.Longer.{RecordAt, LongerBy}
-use Rattle.places.specs.FacingLaws.{Whole, whole-checked, Facing, Faced, face-start, face-move, face-record}
-use Rattle.places.specs.FacingLaws.{Numbered, numbered-start, numbered-other, numbered-own, own-at}
+use Rattle.places.specs.FacingLaws.{whole-checked, Facing, Faced, face-start, face-move, face-record}
+use Rattle.places.specs.FacingLaws.{step-for, Numbered, numbered-start, numbered-other, numbered-own, own-at}
 use Rattle.places.specs.Pass.{KeepsAll, KeepsRecord, EndsAt, TakesRecord, Passes}
 
 -- ---- words
@@ -120,10 +119,6 @@ not-storage s g h = go (isStorage s g) refl
     go : (b : Bool) → isStorage s g ≡ b → isStorage s g ≡ false
     go false e = e
     go true e = absurd (h (rw e))
-
-step-for : (s : List ℕ) (n : ℕ) (gs ws : List ℕ) (at p l i : ℕ) (x : Step) → n ≡ i → reachedOf x ≡ stepTo s n gs (ahead s ws at p l) at
-    → reachedOf x ≡ stepTo s i gs (ahead s ws at p l) at
-step-for s n gs ws at p l i x q e = e ∙ ap (λ (m : ℕ). stepTo s m gs (ahead s ws at p l) at) q
 
 zeros-at : (n j : ℕ) → _≡_ {A = ℕ} (getD (replicate n 0) j 0) 0
 zeros-at zero j = refl

@@ -2,43 +2,31 @@
 use Rattle.places.specs.PassLaws.{keeps-same, keeps-begun}
 use mathlib.Core.Path.{refl}
 use native.Mathlib.Omega.{arith}
-use lib.ListN.{length, length-set}
 use borrow.Author.Needs.{needs}
 use Rattle.places.proofs.pass.begin.Statement.{statement}
 use Rattle.places.proofs.pass.begin.Tie as tie
-use Rattle.places.proofs.pass.begin.Reads as reads
-use Rattle.places.proofs.pass.begin.Lts as lts
-use Rattle.places.proofs.pass.put_entry.Reads as put-entry-reads
 
--- src/pass.rt:93:9
 returns : tie.Need-returns
 returns c = keeps-same _ _ _ _ _
 
--- src/pass.rt:95:13
 slice-read-i : tie.Need-slice-read-i
 slice-read-i c = search needs
 
--- src/pass.rt:97:9
 returns-2 : tie.Need-returns-2
 returns-2 c = keeps-same _ _ _ _ _
 
--- src/pass.rt:105:5
 put-entry-requires : tie.Need-put-entry-requires
 put-entry-requires c κs = search needs
 
--- src/pass.rt:106:15
 add-pool : tie.Need-add-pool
 add-pool c = search needs
 
--- src/pass.rt:106:5
 slice-write-pool : tie.Need-slice-write-pool
 slice-write-pool c = search needs
 
--- src/pass.rt:89:1
 same-length : tie.Need-same-length
 same-length c = search needs
 
--- src/pass.rt:89:1
 returns-3 : tie.Need-returns-3
 returns-3 c = keeps-begun _ _ _ _ _ _ refl (omega arith) (c .before .before .put-entry .ensures) refl
 

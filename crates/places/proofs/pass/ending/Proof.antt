@@ -1,106 +1,79 @@
 -- Each test that does not hold leaves nothing; past all of them the entry is the group's and ends there.
 use Rattle.places.specs.PassLaws.{ends-none, ends-here}
 use native.Mathlib.Omega.{arith}
-use lib.ListN.{length, length-set}
 use borrow.Author.Needs.{needs}
 use Rattle.places.proofs.pass.ending.Statement.{statement}
 use Rattle.places.proofs.pass.ending.Tie as tie
-use Rattle.places.proofs.pass.ending.Reads as reads
-use Rattle.places.proofs.pass.ending.Lts as lts
 
--- src/pass.rt:46:19
 mul-at : tie.Need-mul-at
 mul-at c = search needs
 
--- src/pass.rt:46:15
 add-at : tie.Need-add-at
 add-at c = search needs
 
--- src/pass.rt:47:8
 mul-if1 : tie.Need-mul-if1
 mul-if1 c = search needs
 
--- src/pass.rt:47:8
 shared-slice-read-if1 : tie.Need-shared-slice-read-if1
 shared-slice-read-if1 c = search needs
 
--- src/pass.rt:48:9
 returns : tie.Need-returns
 returns c = ends-none _ _ _ _ _
 
--- src/pass.rt:50:13
 add-if2 : tie.Need-add-if2
 add-if2 c = search needs
 
--- src/pass.rt:50:8
 mul-if2 : tie.Need-mul-if2
 mul-if2 c = search needs
 
--- src/pass.rt:50:8
 shared-slice-read-if2 : tie.Need-shared-slice-read-if2
 shared-slice-read-if2 c = search needs
 
--- src/pass.rt:51:9
 returns-2 : tie.Need-returns-2
 returns-2 c = ends-none _ _ _ _ _
 
--- src/pass.rt:53:23
 add-number : tie.Need-add-number
 add-number c = search needs
 
--- src/pass.rt:53:18
 mul-number : tie.Need-mul-number
 mul-number c = search needs
 
--- src/pass.rt:53:18
 shared-slice-read-number : tie.Need-shared-slice-read-number
 shared-slice-read-number c = search needs
 
--- src/pass.rt:54:22
 add-count : tie.Need-add-count
 add-count c = search needs
 
--- src/pass.rt:54:17
 mul-count : tie.Need-mul-count
 mul-count c = search needs
 
--- src/pass.rt:54:17
 shared-slice-read-count : tie.Need-shared-slice-read-count
 shared-slice-read-count c = search needs
 
--- src/pass.rt:56:9
 returns-3 : tie.Need-returns-3
 returns-3 c = ends-none _ _ _ _ _
 
--- src/pass.rt:59:9
 returns-4 : tie.Need-returns-4
 returns-4 c = ends-none _ _ _ _ _
 
--- src/pass.rt:63:21
 add-t15 : tie.Need-add-t15
 add-t15 c = search needs
 
--- src/pass.rt:63:16
 mul-t12 : tie.Need-mul-t12
 mul-t12 c = search needs
 
--- src/pass.rt:63:16
 shared-slice-read-t11 : tie.Need-shared-slice-read-t11
 shared-slice-read-t11 c = search needs
 
--- src/pass.rt:64:22
 add-t20 : tie.Need-add-t20
 add-t20 c = search needs
 
--- src/pass.rt:64:17
 mul-t21 : tie.Need-mul-t21
 mul-t21 c = search needs
 
--- src/pass.rt:64:17
 shared-slice-read-t10 : tie.Need-shared-slice-read-t10
 shared-slice-read-t10 c = search needs
 
--- src/pass.rt:36:1
 returns-5 : tie.Need-returns-5
 returns-5 c = ends-here _ _ _ _ _ (c .before .before .before .before .before .before .before .before .if1 .left) (c .before .before .before .before .before .before .if2 .left) (omega arith) (c .before .before .if4 .left)
 

@@ -1,62 +1,43 @@
 -- The entry stays, or is a right one with a record more.
 use Rattle.places.specs.PassLaws.{keeps-same, keeps-longer}
 use native.Mathlib.Omega.{arith}
-use lib.ListN.{length, length-set}
 use borrow.Author.Needs.{needs}
 use Rattle.places.proofs.pass.extend.Statement.{statement}
 use Rattle.places.proofs.pass.extend.Tie as tie
-use Rattle.places.proofs.pass.extend.Reads as reads
-use Rattle.places.proofs.pass.extend.Lts as lts
-use Rattle.places.proofs.pass.ending.Reads as ending-reads
-use Rattle.places.proofs.pass.put_entry.Reads as put-entry-reads
-use Rattle.places.proofs.pool.kept_in.Reads as kept-in-reads
-use Rattle.places.proofs.several.longer.Reads as longer-reads
 
--- src/pass.rt:73:8
 kept-in-requires : tie.Need-kept-in-requires
 kept-in-requires c κs = search needs
 
--- src/pass.rt:74:9
 same-length : tie.Need-same-length
 same-length c = search needs
 
--- src/pass.rt:74:9
 returns : tie.Need-returns
 returns c = keeps-same _ _ _ _ _
 
--- src/pass.rt:76:9
 ending-requires : tie.Need-ending-requires
 ending-requires c κs = let a = c .before .before .kept-in .ensures .room (omega arith) in omega arith
 
--- src/pass.rt:78:9
 same-length-2 : tie.Need-same-length-2
 same-length-2 c = search needs
 
--- src/pass.rt:78:9
 returns-2 : tie.Need-returns-2
 returns-2 c = keeps-same _ _ _ _ _
 
--- src/pass.rt:80:9
 longer-requires : tie.Need-longer-requires
 longer-requires c κs = search needs
 
--- src/pass.rt:82:9
 same-length-3 : tie.Need-same-length-3
 same-length-3 c = search needs
 
--- src/pass.rt:82:9
 returns-3 : tie.Need-returns-3
 returns-3 c = keeps-same _ _ _ _ _
 
--- src/pass.rt:84:5
 put-entry-requires : tie.Need-put-entry-requires
 put-entry-requires c κs = let a = c .before .before .before .before .before .before .before .before .before .before .kept-in .ensures .room (omega arith) in omega arith
 
--- src/pass.rt:70:1
 same-length-4 : tie.Need-same-length-4
 same-length-4 c = search needs
 
--- src/pass.rt:70:1
 returns-4 : tie.Need-returns-4
 returns-4 c = keeps-longer _ _ _ _ _ _ (c .before .before .before .before .before .before .before .before .before .before .before .before .before .kept-in .ensures) (omega arith) (c .before .before .before .before .before .before .before .before .before .before .ending .ensures) (c .before .before .before .before .before .before .before .before .if2 .left) (c .before .before .before .before .before .before .before .longer .ensures) (c .before .before .put-entry .ensures)
 

@@ -5,15 +5,9 @@ use Prim.Native.Nat.{_+_, _-_, _*_}
 use mathlib.Core.Path.{_≡_, refl}
 use borrow.Author.Needs.{needs}
 use native.Mathlib.Omega.{arith}
-use lib.ListN.{length, length-set}
+use lib.ListN.{length}
 use Rattle.places.proofs.pass.pass.Statement.{statement}
 use Rattle.places.proofs.pass.pass.Tie as tie
-use Rattle.places.proofs.pass.pass.Reads as reads
-use Rattle.places.proofs.pass.pass.Lts as lts
-use Rattle.places.proofs.pass.take.Reads as take-reads
-use Rattle.records.proofs.fragment.word_at.Reads as word-at-reads
-use Rattle.records.proofs.framing.Framing.step_by.Reads as step-by-reads
-use Rattle.records.proofs.framing.inside.Reads as inside-reads
 
 abbrev Inv-records : tie.InvT-records
 Inv-records pool₀ image d n groups fragments ids sizes hints₀ words latest₀ counts₀ c₀ last₀ pool hints latest counts c last =
@@ -23,135 +17,102 @@ abbrev μ-records : tie.MeasureT-records
 μ-records pool₀ image d n groups fragments ids sizes hints₀ words latest₀ counts₀ c₀ last₀ pool hints latest counts c last =
     (18446744073709551615 - c .offset) * (words + 1) + (words - c .at)
 
--- src/pass.rt:183:9
 returns : tie.Need-returns Inv-records μ-records
 returns c = λ gsOf wsOf a b v i h tb w. w
 
--- src/pass.rt:185:5
 records-holds : tie.Need-records-holds Inv-records μ-records
 records-holds c = (passing-begin _ _ _ _ _ _ _ _ 512, refl, refl)
 
--- src/pass.rt:190:12
 inside-requires : tie.Need-inside-requires Inv-records μ-records
 inside-requires c κs = search needs
 
--- src/pass.rt:192:17
 same-length : tie.Need-same-length Inv-records μ-records
 same-length c = search needs
 
--- src/pass.rt:192:17
 returns-2 : tie.Need-returns-2 Inv-records μ-records
 returns-2 c = passing-done _ _ _ _ _ _ _ _ (c .before .before .before .records .inv .0)
 
--- src/pass.rt:195:17
 same-length-2 : tie.Need-same-length-2 Inv-records μ-records
 same-length-2 c = search needs
 
--- src/pass.rt:195:17
 returns-3 : tie.Need-returns-3 Inv-records μ-records
 returns-3 c = passing-done _ _ _ _ _ _ _ _ (c .before .before .before .before .records .inv .0)
 
--- src/pass.rt:197:17
 word-at-requires : tie.Need-word-at-requires Inv-records μ-records
 word-at-requires c κs = search needs
 
--- src/pass.rt:198:40
 add-word-at : tie.Need-add-word-at Inv-records μ-records
 add-word-at c = search needs
 
--- src/pass.rt:198:17
 word-at-requires-2 : tie.Need-word-at-requires-2 Inv-records μ-records
 word-at-requires-2 c κs = search needs
 
--- src/pass.rt:200:21
 add-t34 : tie.Need-add-t34 Inv-records μ-records
 add-t34 c = search needs
 
--- src/pass.rt:185:5
 records-less : tie.Need-records-less Inv-records μ-records
 records-less c = omega arith
 
--- src/pass.rt:185:5
 records-again : tie.Need-records-again Inv-records μ-records
 records-again c = (passing-move _ _ _ _ _ _ _ _ (c .before .before .before .before .before .before .records .inv .0) (c .before .before .before .before .before .inside .ensures) refl (c .before .before .before .before .if2 .taken) (omega arith) (c .before .word-at .ensures) (c .word-at2 .ensures), c .before .before .before .before .before .before .records .inv .1, c .before .before .before .before .before .before .records .inv .2)
 
--- src/pass.rt:208:17
 step-by-requires : tie.Need-step-by-requires Inv-records μ-records
 step-by-requires c κs = search needs
 
--- src/pass.rt:222:21
 enum-told : tie.Need-enum-told Inv-records μ-records
 enum-told c = search needs
 
--- src/pass.rt:222:21
 same-length-3 : tie.Need-same-length-3 Inv-records μ-records
 same-length-3 c = search needs
 
--- src/pass.rt:222:21
 returns-4 : tie.Need-returns-4 Inv-records μ-records
 returns-4 c = passing-done _ _ _ _ _ _ _ _ (c .before .before .before .before .before .before .records .inv .0)
 
--- src/pass.rt:225:21
 enum-known-step : tie.Need-enum-known-step Inv-records μ-records
 enum-known-step c = search needs
 
--- src/pass.rt:231:24
 sub-if5 : tie.Need-sub-if5 Inv-records μ-records
 sub-if5 c = search needs
 
--- src/pass.rt:232:25
 same-length-4 : tie.Need-same-length-4 Inv-records μ-records
 same-length-4 c = search needs
 
--- src/pass.rt:232:25
 returns-5 : tie.Need-returns-5 Inv-records μ-records
 returns-5 c = passing-done _ _ _ _ _ _ _ _ (c .before .before .before .before .before .before .before .before .before .records .inv .0)
 
--- src/pass.rt:234:24
 sub-if6 : tie.Need-sub-if6 Inv-records μ-records
 sub-if6 c = search needs
 
--- src/pass.rt:234:24
 sub-if6-2 : tie.Need-sub-if6-2 Inv-records μ-records
 sub-if6-2 c = search needs
 
--- src/pass.rt:235:25
 same-length-5 : tie.Need-same-length-5 Inv-records μ-records
 same-length-5 c = search needs
 
--- src/pass.rt:235:25
 returns-6 : tie.Need-returns-6 Inv-records μ-records
 returns-6 c = passing-done _ _ _ _ _ _ _ _ (c .before .before .before .before .before .before .before .before .before .before .before .records .inv .0)
 
--- src/pass.rt:245:25
 add-take : tie.Need-add-take Inv-records μ-records
 add-take c = search needs
 
--- src/pass.rt:237:25
 take-requires : tie.Need-take-requires Inv-records μ-records
 take-requires c κs = search needs
 
--- src/pass.rt:248:25
 same-length-6 : tie.Need-same-length-6 Inv-records μ-records
 same-length-6 c = search needs
 
--- src/pass.rt:248:25
 returns-7 : tie.Need-returns-7 Inv-records μ-records
 returns-7 c = passing-out _ _ _ _ _ _ _ _ (c .before .before .before .before .before .before .before .before .before .before .before .before .before .before .before .before .before .before .records .inv .0) (c .before .before .before .before .before .before .before .before .before .before .before .before .before .before .before .before .before .inside .ensures) (c .before .before .before .before .before .before .before .before .before .before .before .before .before .before .before .before .if2 .left) _ (c .before .before .before .before .before .before .before .before .before .before .before .before .before .before .step-by .ensures) (c .before .before .before .before .before .before .before .before .before .before .before .before .step .given .1) (c .before .before .before .take .ensures .0)
 
--- src/pass.rt:254:33
 add-t36 : tie.Need-add-t36 Inv-records μ-records
 add-t36 c = search needs
 
--- src/pass.rt:254:33
 add-t38 : tie.Need-add-t38 Inv-records μ-records
 add-t38 c = search needs
 
--- src/pass.rt:185:5
 records-less-2 : tie.Need-records-less-2 Inv-records μ-records
 records-less-2 c = turn-less _ _ _ _ _ _ (omega (arith, c .before .before .before .before .before .before .before .before .before .before .before .before .before .before .before .before .before .before .before .if1 .left)) (omega arith)
 
--- src/pass.rt:185:5
 records-again-2 : tie.Need-records-again-2 Inv-records μ-records
 records-again-2 c = (passing-record _ _ _ _ _ _ _ _ (c .before .before .before .before .before .before .before .before .before .before .before .before .before .before .before .before .before .before .records .inv .0) (c .before .before .before .before .before .before .before .before .before .before .before .before .before .before .before .before .before .inside .ensures) (c .before .before .before .before .before .before .before .before .before .before .before .before .before .before .before .before .if2 .left) _ (c .before .before .before .before .before .before .before .before .before .before .before .before .before .before .step-by .ensures) (c .before .before .before .before .before .before .before .before .before .before .before .before .step .given .1) (c .before .before .before .take .ensures .0) (c .before .before .before .before .before .before .before .before .before .before .before .before .before .before .before .before .before .before .records .inv .1) (c .before .before .before .take .ensures .1 (not-false _ (c .if7 .left))), passing-counted _ _ _ _ _ _ _ _ (c .before .before .before .before .before .before .before .before .before .before .before .before .before .before .before .before .before .before .records .inv .0) (c .before .before .before .before .before .before .before .before .before .before .before .before .before .before .before .before .before .inside .ensures) (c .before .before .before .before .before .before .before .before .before .before .before .before .before .before .before .before .if2 .left) _ (c .before .before .before .before .before .before .before .before .before .before .before .before .before .before .step-by .ensures) (c .before .before .before .before .before .before .before .before .before .before .before .before .step .given .1) (c .before .before .before .take .ensures .0) (c .before .before .before .before .before .before .before .before .before .before .before .before .before .before .before .before .before .before .records .inv .1) (c .before .before .before .take .ensures .1 (not-false _ (c .if7 .left))), omega arith)
 

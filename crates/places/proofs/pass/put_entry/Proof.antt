@@ -1,94 +1,71 @@
 -- Six stores in a row are six words laid.
 use Rattle.places.specs.PassLaws.{six-words}
 use native.Mathlib.Omega.{arith}
-use lib.ListN.{length, length-set}
+use lib.ListN.{length-set}
 use borrow.Author.Needs.{needs}
 use Rattle.places.proofs.pass.put_entry.Statement.{statement}
 use Rattle.places.proofs.pass.put_entry.Tie as tie
-use Rattle.places.proofs.pass.put_entry.Reads as reads
-use Rattle.places.proofs.pass.put_entry.Lts as lts
 
--- src/pass.rt:26:19
 mul-at : tie.Need-mul-at
 mul-at c = search needs
 
--- src/pass.rt:26:15
 add-at : tie.Need-add-at
 add-at c = search needs
 
--- src/pass.rt:27:5
 mul-pool : tie.Need-mul-pool
 mul-pool c = search needs
 
--- src/pass.rt:27:5
 slice-write-pool : tie.Need-slice-write-pool
 slice-write-pool c = search needs
 
--- src/pass.rt:28:10
 add-pool : tie.Need-add-pool
 add-pool c = search needs
 
--- src/pass.rt:28:5
 mul-pool-2 : tie.Need-mul-pool-2
 mul-pool-2 c = search needs
 
--- src/pass.rt:28:5
 slice-write-pool-2 : tie.Need-slice-write-pool-2
 slice-write-pool-2 c = simp length-set (omega arith)
 
--- src/pass.rt:29:10
 add-pool-2 : tie.Need-add-pool-2
 add-pool-2 c = search needs
 
--- src/pass.rt:29:5
 mul-pool-3 : tie.Need-mul-pool-3
 mul-pool-3 c = search needs
 
--- src/pass.rt:29:5
 slice-write-pool-3 : tie.Need-slice-write-pool-3
 slice-write-pool-3 c = simp length-set (omega arith)
 
--- src/pass.rt:30:10
 add-pool-3 : tie.Need-add-pool-3
 add-pool-3 c = search needs
 
--- src/pass.rt:30:5
 mul-pool-4 : tie.Need-mul-pool-4
 mul-pool-4 c = search needs
 
--- src/pass.rt:30:5
 slice-write-pool-4 : tie.Need-slice-write-pool-4
 slice-write-pool-4 c = simp length-set (omega arith)
 
--- src/pass.rt:31:10
 add-pool-4 : tie.Need-add-pool-4
 add-pool-4 c = search needs
 
--- src/pass.rt:31:5
 mul-pool-5 : tie.Need-mul-pool-5
 mul-pool-5 c = search needs
 
--- src/pass.rt:31:5
 slice-write-pool-5 : tie.Need-slice-write-pool-5
 slice-write-pool-5 c = simp length-set (omega arith)
 
--- src/pass.rt:32:10
 add-pool-5 : tie.Need-add-pool-5
 add-pool-5 c = search needs
 
--- src/pass.rt:32:5
 mul-pool-6 : tie.Need-mul-pool-6
 mul-pool-6 c = search needs
 
--- src/pass.rt:32:5
 slice-write-pool-6 : tie.Need-slice-write-pool-6
 slice-write-pool-6 c = simp length-set (omega arith)
 
--- src/pass.rt:22:1
 same-length : tie.Need-same-length
 same-length c = search needs
 
--- src/pass.rt:22:1
 returns : tie.Need-returns
 returns c = six-words _ _ _ _ _ _ _ _
 

@@ -1,34 +1,25 @@
 -- Fewer are kept.
 use Rattle.places.specs.PassLaws.{keeps-back}
 use native.Mathlib.Omega.{arith}
-use lib.ListN.{length, length-set}
 use borrow.Author.Needs.{needs}
 use Rattle.places.proofs.pass.set_back.Statement.{statement}
 use Rattle.places.proofs.pass.set_back.Tie as tie
-use Rattle.places.proofs.pass.set_back.Reads as reads
-use Rattle.places.proofs.pass.set_back.Lts as lts
 
--- src/pass.rt:305:9
 returns : tie.Need-returns
 returns c = λ s gsOf wsOf w. w
 
--- src/pass.rt:307:8
 slice-read-if2 : tie.Need-slice-read-if2
 slice-read-if2 c = search needs
 
--- src/pass.rt:308:9
 returns-2 : tie.Need-returns-2
 returns-2 c = λ s gsOf wsOf w. w
 
--- src/pass.rt:310:5
 slice-write-pool : tie.Need-slice-write-pool
 slice-write-pool c = search needs
 
--- src/pass.rt:301:1
 same-length : tie.Need-same-length
 same-length c = search needs
 
--- src/pass.rt:301:1
 returns-3 : tie.Need-returns-3
 returns-3 c = keeps-back _ _ (omega arith)
 

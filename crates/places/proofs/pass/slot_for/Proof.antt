@@ -2,11 +2,8 @@
 use Prim.Native.Nat.{_-_, _≤_}
 use borrow.Author.Needs.{needs}
 use native.Mathlib.Omega.{arith}
-use lib.ListN.{length, length-set}
 use Rattle.places.proofs.pass.slot_for.Statement.{statement}
 use Rattle.places.proofs.pass.slot_for.Tie as tie
-use Rattle.places.proofs.pass.slot_for.Reads as reads
-use Rattle.places.proofs.pass.slot_for.Lts as lts
 
 abbrev Inv-loop : tie.InvT-loop
 Inv-loop pool d i₀ i = (3584 ≤ i) × (i ≤ 4096)
@@ -14,47 +11,36 @@ Inv-loop pool d i₀ i = (3584 ≤ i) × (i ≤ 4096)
 abbrev μ-loop : tie.MeasureT-loop
 μ-loop pool d i₀ i = 4096 - i
 
--- src/pass.rt:270:5
 loop-holds : tie.Need-loop-holds Inv-loop μ-loop
 loop-holds c = (omega arith, omega arith)
 
--- src/pass.rt:271:12
 mul-if1 : tie.Need-mul-if1 Inv-loop μ-loop
 mul-if1 c = search needs
 
--- src/pass.rt:271:12
 shared-slice-read-if1 : tie.Need-shared-slice-read-if1 Inv-loop μ-loop
 shared-slice-read-if1 c = search needs
 
--- src/pass.rt:272:13
 returns : tie.Need-returns Inv-loop μ-loop
 returns c = (omega arith, omega arith)
 
--- src/pass.rt:274:12
 mul-if2 : tie.Need-mul-if2 Inv-loop μ-loop
 mul-if2 c = search needs
 
--- src/pass.rt:274:12
 shared-slice-read-if2 : tie.Need-shared-slice-read-if2 Inv-loop μ-loop
 shared-slice-read-if2 c = search needs
 
--- src/pass.rt:275:13
 returns-2 : tie.Need-returns-2 Inv-loop μ-loop
 returns-2 c = (omega arith, omega arith)
 
--- src/pass.rt:277:9
 add-i : tie.Need-add-i Inv-loop μ-loop
 add-i c = search needs
 
--- src/pass.rt:270:5
 loop-less : tie.Need-loop-less Inv-loop μ-loop
 loop-less c = omega arith
 
--- src/pass.rt:270:5
 loop-again : tie.Need-loop-again Inv-loop μ-loop
 loop-again c = (omega arith, omega arith)
 
--- src/pass.rt:265:1
 returns-3 : tie.Need-returns-3 Inv-loop μ-loop
 returns-3 c = (omega arith, omega arith)
 

@@ -3,92 +3,67 @@ use Rattle.places.specs.PassLaws.{takes-same, takes-kept}
 use Rattle.payload_laws.specs.Answers.{false≢true}
 use mathlib.Core.Path.{refl}
 use native.Mathlib.Omega.{arith}
-use lib.ListN.{length, length-set}
 use borrow.Author.Needs.{needs}
 use Rattle.places.proofs.pass.take.Statement.{statement}
 use Rattle.places.proofs.pass.take.Tie as tie
-use Rattle.places.proofs.pass.take.Reads as reads
-use Rattle.places.proofs.pass.take.Lts as lts
-use Rattle.places.proofs.pass.keep.Reads as keep-reads
-use Rattle.records.proofs.fragment.word_at.Reads as word-at-reads
 
--- src/pass.rt:136:9
 returns : tie.Need-returns
 returns c = (takes-same, λ e. absurd (false≢true e))
 
--- src/pass.rt:139:13
 mul-r : tie.Need-mul-r
 mul-r c = search needs
 
--- src/pass.rt:139:13
 element-copy-out-r : tie.Need-element-copy-out-r
 element-copy-out-r c = search needs
 
--- src/pass.rt:141:9
 returns-2 : tie.Need-returns-2
 returns-2 c = (takes-same, λ e. absurd (false≢true e))
 
--- src/pass.rt:143:17
 add-counts : tie.Need-add-counts
 add-counts c = search needs
 
--- src/pass.rt:143:5
 mul-counts : tie.Need-mul-counts
 mul-counts c = search needs
 
--- src/pass.rt:143:5
 element-write-counts : tie.Need-element-write-counts
 element-write-counts c = search needs
 
--- src/pass.rt:144:8
 mul-if3 : tie.Need-mul-if3
 mul-if3 c = search needs
 
--- src/pass.rt:144:8
 element-copy-out-if3 : tie.Need-element-copy-out-if3
 element-copy-out-if3 c = search needs
 
--- src/pass.rt:145:9
 returns-3 : tie.Need-returns-3
 returns-3 c = (takes-same, λ _. refl)
 
--- src/pass.rt:147:9
 word-at-requires : tie.Need-word-at-requires
 word-at-requires c κs = search needs
 
--- src/pass.rt:148:24
 mul-keep : tie.Need-mul-keep
 mul-keep c = search needs
 
--- src/pass.rt:148:24
 element-copy-out-keep : tie.Need-element-copy-out-keep
 element-copy-out-keep c = search needs
 
--- src/pass.rt:148:9
 keep-requires : tie.Need-keep-requires
 keep-requires c κs = search needs
 
--- src/pass.rt:150:9
 same-length : tie.Need-same-length
 same-length c = search needs
 
--- src/pass.rt:150:9
 returns-4 : tie.Need-returns-4
 returns-4 c = (takes-kept (c .before .before .before .before .before .before .word-at .ensures) refl (omega arith) (c .before .before .before .before .before .before .before .if3 .left) (c .before .before .before .keep .ensures), λ e. absurd (false≢true e))
 
--- src/pass.rt:152:5
 mul-latest : tie.Need-mul-latest
 mul-latest c = search needs
 
--- src/pass.rt:152:5
 element-write-latest : tie.Need-element-write-latest
 element-write-latest c = search needs
 
--- src/pass.rt:122:1
 same-length-2 : tie.Need-same-length-2
 same-length-2 c = search needs
 
--- src/pass.rt:122:1
 returns-5 : tie.Need-returns-5
 returns-5 c = (takes-kept (c .before .before .before .before .before .before .word-at .ensures) refl (omega arith) (c .before .before .before .before .before .before .before .if3 .left) (c .before .before .before .keep .ensures), λ _. refl)
 

@@ -1,51 +1,37 @@
 -- The word lies past all that are kept.
 use Rattle.places.specs.PassLaws.{keeps-tried}
 use native.Mathlib.Omega.{arith}
-use lib.ListN.{length, length-set}
 use borrow.Author.Needs.{needs}
 use Rattle.places.proofs.pass.try_new.Statement.{statement}
 use Rattle.places.proofs.pass.try_new.Tie as tie
-use Rattle.places.proofs.pass.try_new.Reads as reads
-use Rattle.places.proofs.pass.try_new.Lts as lts
-use Rattle.places.proofs.pass.slot_for.Reads as slot-for-reads
 
--- src/pass.rt:287:9
 returns : tie.Need-returns
 returns c = λ s gsOf wsOf w. w
 
--- src/pass.rt:289:14
 slice-read-if2 : tie.Need-slice-read-if2
 slice-read-if2 c = search needs
 
--- src/pass.rt:290:9
 returns-2 : tie.Need-returns-2
 returns-2 c = λ s gsOf wsOf w. w
 
--- src/pass.rt:292:9
 slot-for-requires : tie.Need-slot-for-requires
 slot-for-requires c κs = search needs
 
--- src/pass.rt:294:9
 same-length : tie.Need-same-length
 same-length c = search needs
 
--- src/pass.rt:294:9
 returns-3 : tie.Need-returns-3
 returns-3 c = λ s gsOf wsOf w. w
 
--- src/pass.rt:296:5
 mul-pool : tie.Need-mul-pool
 mul-pool c = search needs
 
--- src/pass.rt:296:5
 slice-write-pool : tie.Need-slice-write-pool
 slice-write-pool c = search needs
 
--- src/pass.rt:283:1
 same-length-2 : tie.Need-same-length-2
 same-length-2 c = search needs
 
--- src/pass.rt:283:1
 returns-4 : tie.Need-returns-4
 returns-4 c = keeps-tried _ _ _ (omega arith) (omega arith)
 

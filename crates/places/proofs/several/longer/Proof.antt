@@ -1,45 +1,34 @@
+-- Each way is a stretch with the record or the stretch as it was.
 use Rattle.places.specs.LongerLaws.{longer-first, longer-second, longer-next, longer-not, product-low}
 use native.Mathlib.Omega.{arith}
-use lib.ListN.{length, length-set}
 use borrow.Author.Needs.{needs}
 use Rattle.places.proofs.several.longer.Statement.{statement}
 use Rattle.places.proofs.several.longer.Tie as tie
-use Rattle.places.proofs.several.longer.Reads as reads
-use Rattle.places.proofs.several.longer.Lts as lts
 
--- src/several.rt:12:9
 returns : tie.Need-returns
 returns c = longer-first _ _ (omega arith)
 
--- src/several.rt:20:9
 returns-2 : tie.Need-returns-2
 returns-2 c = longer-not _ _ (λ e. omega arith)
 
--- src/several.rt:23:9
 returns-3 : tie.Need-returns-3
 returns-3 c = longer-second _ _ (omega arith) (omega arith)
 
--- src/several.rt:31:9
 returns-4 : tie.Need-returns-4
 returns-4 c = longer-not _ _ (λ e. omega arith)
 
--- src/several.rt:34:9
 returns-5 : tie.Need-returns-5
 returns-5 c = longer-not _ _ (λ e. omega arith)
 
--- src/several.rt:36:23
 mul-if6 : tie.Need-mul-if6
 mul-if6 c = let a = c .before .before .before .before .before .before .before .before .before .before .before .before .args .t in omega (arith, product-low (a .count) (a .stride) (omega arith) (omega arith))
 
--- src/several.rt:37:9
 returns-6 : tie.Need-returns-6
 returns-6 c = longer-not _ _ (λ e. omega arith)
 
--- src/several.rt:43:16
 add-t5 : tie.Need-add-t5
 add-t5 c = search needs
 
--- src/several.rt:8:1
 returns-7 : tie.Need-returns-7
 returns-7 c = longer-next _ _ (omega arith) (omega arith) (omega arith)
 
