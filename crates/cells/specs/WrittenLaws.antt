@@ -38,6 +38,9 @@ use Rattle.cells.specs.NumberLaws.{number-at}
 use Rattle.cells.specs.Blocks.{framedAll, columnRecords, wideOf, perOf, countOf, kindOf, blocksFor, blocksBytes, BlocksReady, WritesBlocks}
 use Rattle.cells.specs.Written.{FormOf, Room, IfRoom, PutRecords}
 
+pub formed-same : {s : List ℕ} {f : Form} {a b : ℕ} → Formed s f a → b ≡ a → Formed s f b
+formed-same y e = rw e y
+
 -- ---- room
 pub room-no : {room : ℕ} {f : Form} → (Room room f → ⊥) → IfRoom room f false
 room-no n = record { yes = λ e. absurd (false≢true e); no = λ e. n }
