@@ -8,7 +8,6 @@ use Rattle.cells.specs.Filled.{Usable}
 use Rattle.cells.specs.FilledLaws.{if-usable, usable-in, Filling, filling-begin, filling-stop, filling-turn, filling-end, tables-of}
 use borrow.Author.Needs.{needs}
 use native.Mathlib.Omega.{arith}
-use lib.ListN.{length}
 use Rattle.cells.proofs.by.by_several.Statement.{statement}
 use Rattle.cells.proofs.by.by_several.Tie as tie
 

@@ -4,7 +4,6 @@ use mathlib.Core.Path.{refl}
 use Rattle.cells.specs.RegionLaws.{lying-past}
 use Rattle.cells.specs.FilledLaws.{past-in, rest-none, rest-all, rest-part}
 use native.Mathlib.Omega.{arith}
-use lib.ListN.{length}
 use borrow.Author.Needs.{needs}
 use Rattle.cells.proofs.by.put_rest.Statement.{statement}
 use Rattle.cells.proofs.by.put_rest.Tie as tie

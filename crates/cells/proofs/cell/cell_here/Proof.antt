@@ -1,5 +1,5 @@
 -- The channel's bytes, then the bit, both as they stand in the record.
-use mathlib.Core.Path.{_∙_, sym}
+use mathlib.Core.Path.{_∙_}
 use Rattle.base.specs.Blit.{part}
 use Rattle.payload_laws.specs.Lists.{length-part}
 use Rattle.cells.specs.CellLaws.{room-bytes, room-kept, cell-bare, cell-kept, part-in, byte-in}

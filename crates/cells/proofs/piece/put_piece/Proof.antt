@@ -1,7 +1,6 @@
 -- Each turn puts the records of one block: the header, where the first begins it, then their cells.
 use native.Mathlib.Nat.{mod-lt}
 use Rattle.cells.specs.Spot.{SpotOf}
-use Rattle.cells.specs.StridedLaws.{mul-less}
 use Rattle.cells.specs.RegionLaws.{Piecing, piecing-begin, piecing-few, piecing-turn, piecing-end, begin-room, piece-room, lying-front, lying-past, Piece, piece-of}
 use borrow.Author.Needs.{needs}
 use native.Mathlib.Omega.{arith}
