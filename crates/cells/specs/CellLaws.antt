@@ -9,17 +9,13 @@ use lib.ListN.{length, take, drop, getD, set, length-drop, List·getD-append}
 use lib.Seq.{take-take, drop-drop, length-take-le, getD-drop, getD-take}
 use lib.Dec.{ltb, eqb}
 use borrow.Author.Tests.{ltb-true}
-use Rattle.base.specs.Field.{leAt, Field}
 use Rattle.base.specs.Blit.{part, blit}
 use Rattle.base.specs.BlitLaws.{blit-append, blit-one}
 use Rattle.base.specs.Checked.{fine}
-use Rattle.mdf.specs.Block.{dataAt}
-use Rattle.mdf.specs.Walk.{idSize}
 use Rattle.mdf.specs.Group.{invalBytes}
 use Rattle.mdf.specs.Records.{rangesIn, joined}
 use Rattle.plan.specs.Channel.{channelBytes, channelFlags, invalPosition, keepsInval, invalBit, width, bit, both}
 use Rattle.result.specs.Payload.{cell}
-use Rattle.channels.specs.Small.{Small}
 use Rattle.puts.specs.PutLaws.{copy-more}
 use Rattle.payload_laws.specs.Lists.{length-part}
 use Rattle.payload_laws.specs.CellLaws.{both-true}
@@ -60,10 +56,6 @@ kept-within s g c e =
     let a = both-true (eqb (bit 0 (channelFlags s c)) 0) (both (eqb (bit 1 (channelFlags s c)) 1) within) e in
     let b = both-true (eqb (bit 1 (channelFlags s c)) 1) within (a .1) in
     ltb-true (invalPosition s c / 8) (invalBytes s g) (b .1)
-
-pub id-size-is : (s : List ℕ) (d : ℕ) {r : ℕ} → Field 1 s (dataAt s d + 0) r → Small 1 (idSize s d) r
-unfolding leAt idSize
-id-size-is s d f = record { is = f .is ∙ simp add-zero; small = f .small }
 
 -- ---- the column's width
 width-kept : (s : List ℕ) (g c : ℕ) → keepsInval s g c ≡ true → width s g c ≡ channelBytes s c + 1

@@ -1,42 +1,38 @@
 -- Laws of the records of a group in the blocks of its column, stretch by stretch.
-use Prim.Native.Nat.{ℕ, zero, suc, _+_, _-_, _*_, _/_, _≤_, _<_, max}
+use Prim.Native.Nat.{ℕ, _+_, _-_, _*_, _/_, _≤_, _<_, max}
 use mathlib.Core.Bool.{Bool, true, false, not}
 use mathlib.Core.List.{List, [], _∷_}
 use mathlib.Core.Path.{_≡_, refl, sym, ap, _∙_, subst}
-use mathlib.Core.Logic.{⊎-elim}
 use native.Mathlib.Nat.{mul-comm, mul-le-mul-right, div-mul-le-self, div-lt-iff-lt-mul, zero-mul}
 use native.Mathlib.Omega.{arith}
-use lib.ListN.{length, getD, take, drop}
-use lib.Seq.{drop-drop, take-length}
+use lib.ListN.{length, getD, drop}
+use lib.Seq.{drop-drop}
 use Rattle.base.specs.Blit.{blit}
 use Rattle.base.specs.Checked.{fine}
-use Rattle.mdf.specs.Chain.{Fragment}
 use Rattle.mdf.specs.Records.{most64, rangesIn, joined, sizeOf}
 use Rattle.work_words.specs.Words.{kindOf, fragmentsOf}
 use Rattle.result.specs.Payload.{groupRecords}
 use Rattle.payload_laws.specs.Answers.{false≢true}
 use Rattle.payload_laws.specs.FramedLaws.{unsorted-several}
-use Rattle.mdf.specs.Group.{recordId}
-use Rattle.records.specs.Table.{sizeWord, idsOf, sizesOf, Tabled}
+use Rattle.records.specs.Table.{idsOf, sizesOf, Tabled}
 use Rattle.records.specs.TableLaws.{tabled}
 use Rattle.payload_laws.specs.SortedLaws.{joined-length}
 use Rattle.places.specs.declared.stretch.Stretch.{Stretch}
 use Rattle.places.specs.declared.stretch.Scan.{Scan}
 use Rattle.places.specs.declared.stretch.Next.{Next}
-use Rattle.places.specs.Stretch.{bodyBytes, recordsAt, spaced, Ready, StretchOf}
+use Rattle.places.specs.Stretch.{bodyBytes, Ready, StretchOf}
 use Rattle.places.specs.Scan.{start, ScanOf, NextOf}
 use Rattle.places.specs.ScanLaws.{scan-start, checked-frames}
-use Rattle.places.specs.Pool.{Pooled, HeldIn}
+use Rattle.places.specs.Pool.{HeldIn}
 use Rattle.places.specs.declared.pool.Held.{Held}
 use Rattle.cells.specs.declared.piece.Form.{Form}
 use Rattle.cells.specs.declared.spot.Spot.{Spot}
 use Rattle.cells.specs.declared.total.Total.{Total}
 use Rattle.cells.specs.Ahead.{later}
-use Rattle.cells.specs.AheadLaws.{lt-or-le, later-more, later-none, ranges-head, ranges-tail, ranges-cons}
+use Rattle.cells.specs.AheadLaws.{later-more, later-none, ranges-head, ranges-tail, ranges-cons}
 use Rattle.cells.specs.Shape.{Shaped}
-use Rattle.cells.specs.Strided.{Lying}
 use Rattle.cells.specs.Spot.{front, SpotOf, Readable}
-use Rattle.cells.specs.Region.{regionOf, reachTo, Formed, Due, Grown, PieceIn, PieceOf, PutPiece}
+use Rattle.cells.specs.Region.{reachTo, Due, PieceIn, PieceOf, PutPiece}
 use Rattle.cells.specs.RegionLaws.{back-records, lying-past, grown-none}
 use Rattle.cells.specs.SpotLaws.{spot-front}
 use Rattle.cells.specs.Filled.{TotalOf, Usable, IfUsable, pastOf, PutRest, Filled, PoolFilled}

@@ -19,7 +19,7 @@ use Rattle.plan.specs.Channel.{fits, width}
 use Rattle.result.specs.Payload.{cells, payloads}
 use Rattle.result.specs.Fill.{header, blockOf}
 use Rattle.payload_laws.specs.Lists.{Long, long-take, long-drop, together}
-use Rattle.payload_laws.specs.GeometryLaws.{Split, split-some}
+use Rattle.payload_laws.specs.GeometryLaws.{split-some}
 use Rattle.payload_laws.specs.PayloadLaws.{length-header, length-framed, length-payloads, payloads-joined}
 use Rattle.payload_laws.specs.CellLaws.{length-cells, cells-append}
 use Rattle.places.specs.declared.stretch.Stretch.{Stretch}

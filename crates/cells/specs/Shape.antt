@@ -3,7 +3,6 @@ use Prim.Native.Nat.{ℕ, _+_, _/_, _%_, _≤_, _<_}
 use mathlib.Core.Bool.{true}
 use mathlib.Core.List.{List}
 use mathlib.Core.Path.{_≡_}
-use Rattle.mdf.specs.Walk.{idSize}
 use Rattle.mdf.specs.Group.{samples, invalBytes}
 use Rattle.plan.specs.Channel.{byteOffset, channelBytes, invalPosition, keepsInval, fits, width}
 use Rattle.cells.specs.declared.cell.Shape.{Shape}
@@ -18,13 +17,10 @@ pub record Shaped (s : List ℕ) (h : Shape) : Type 0 where
   pub fit : h .first + h .bytes ≤ h .length
   pub kept : h .keep ≡ true → h .inval < h .length
   pub short : h .length < 8589934592
-  pub id : h .id ≡ idSize s (h .parent)
-  pub id-short : h .id < 256
   pub wide : h .width ≡ width s (h .group) (h .channel)
   pub fitting : fits s (h .group) (h .channel) ≡ true
 
-pub record ShapeOf (s : List ℕ) (d g c : ℕ) (h : Shape) : Type 0 where
+pub record ShapeOf (s : List ℕ) (g c : ℕ) (h : Shape) : Type 0 where
   pub shaped : Shaped s h
-  pub parent : h .parent ≡ d
   pub group : h .group ≡ g
   pub channel : h .channel ≡ c

@@ -1,5 +1,5 @@
 -- Bookkeeping: a place in the joined data of fragments, and what is known of fragments before cells are read from them.
-use Prim.Native.Nat.{ℕ, _+_, _-_, _*_, _≤_, _<_}
+use Prim.Native.Nat.{ℕ, _-_, _*_, _≤_, _<_}
 use mathlib.Core.List.{List}
 use mathlib.Core.Path.{_≡_}
 use lib.ListN.{length, drop}
@@ -7,7 +7,6 @@ use Rattle.base.specs.Checked.{fine}
 use Rattle.mdf.specs.Records.{most64, rangesIn, joined, sizeOf}
 use Rattle.work_words.specs.Words.{fragmentsOf}
 use Rattle.cells.specs.declared.cell.Shape.{Shape}
-use Rattle.cells.specs.declared.cursor.Cursor.{Cursor}
 use Rattle.cells.specs.declared.spot.Spot.{Spot}
 use Rattle.cells.specs.Ahead.{ahead}
 use Rattle.cells.specs.Shape.{Shaped}

@@ -2,7 +2,7 @@
 use Prim.Native.Nat.{ℕ, zero, suc, _+_, _*_, _-_, _/_, _≤_, _<_}
 use mathlib.Core.List.{List, [], _∷_, _++_, append-nil}
 use mathlib.Core.Path.{_≡_, refl, sym, ap, _∙_}
-use native.Mathlib.Nat.{zero-mul, add-zero, suc-mul, add-mul, mul-le-mul-right, div-mul-le-self}
+use native.Mathlib.Nat.{zero-mul, suc-mul, add-mul, mul-le-mul-right, div-mul-le-self}
 use native.Mathlib.Numerals.{sub-one}
 use native.Mathlib.Omega.{arith}
 use lib.ListN.{length, take, drop, length-append, length-drop}
@@ -11,7 +11,7 @@ use Rattle.base.specs.Blit.{part, blit}
 use Rattle.base.specs.BlitLaws.{length-blit, blit-append}
 use Rattle.base.specs.Checked.{fine}
 use Rattle.mdf.specs.Chain.{Fragment}
-use Rattle.mdf.specs.Records.{most64, rangesIn, joined, sizeOf}
+use Rattle.mdf.specs.Records.{rangesIn, joined, sizeOf}
 use Rattle.work_words.specs.Words.{fragmentsOf}
 use Rattle.result.specs.Payload.{cell, cells}
 use Rattle.payload_laws.specs.SortedLaws.{joined-length}
@@ -21,12 +21,11 @@ use Rattle.places.specs.StretchLaws.{spaced-add, recordsAt-append}
 use Rattle.cells.specs.declared.cell.Shape.{Shape}
 use Rattle.cells.specs.declared.cursor.Cursor.{Cursor}
 use Rattle.cells.specs.declared.spot.Spot.{Spot}
-use Rattle.cells.specs.Ahead.{later, here, ahead, past, settled, Settled}
-use Rattle.cells.specs.AheadLaws.{ranges-cons, ranges-here, ranges-past, ranges-settled, joined-zero, joined-past, joined-settled, size-past, size-settled, take-here, drop-take, past-here}
-use Rattle.cells.specs.CellLaws.{part-in}
+use Rattle.cells.specs.Ahead.{later, ahead, past, settled, Settled}
+use Rattle.cells.specs.AheadLaws.{ranges-cons, ranges-past, ranges-settled, joined-zero, joined-past, joined-settled, size-past, take-here, drop-take}
 use Rattle.cells.specs.Shape.{Shaped}
 use Rattle.cells.specs.Strided.{Lying}
-use Rattle.cells.specs.StridedLaws.{mul-less, spaced-first, cell-wide}
+use Rattle.cells.specs.StridedLaws.{mul-less, cell-wide}
 use Rattle.cells.specs.Spot.{front, SpotOf, Readable, RunOf}
 
 -- ---- the place before all bytes

@@ -17,7 +17,7 @@ use Rattle.cells.specs.Region.{regionOf, reachTo, Due, Grown}
 
 -- the column's blocks are formed so
 pub record FormOf (s : List ℕ) (size : ℕ) (c : Column) (f : Form) : Type 0 where
-  pub shape-of : ShapeOf s (c .parent) (c .group) (c .channel) (f .shape)
+  pub shape-of : ShapeOf s (c .group) (c .channel) (f .shape)
   pub kind-is : f .kind ≡ dataKind (f .shape .keep)
   pub per-is : f .per ≡ perFull size (f .shape .width) (c .records)
   pub blocks-are : f .blocks ≡ blockCount size (f .shape .width) (c .records)

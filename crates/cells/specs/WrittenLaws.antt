@@ -1,22 +1,22 @@
 -- Laws of a column's blocks, from its group's records.
-use Prim.Native.Nat.{ℕ, zero, suc, _+_, _-_, _*_, _/_, _≤_, _<_}
+use Prim.Native.Nat.{ℕ, zero, suc, _+_, _*_, _/_, _≤_, _<_}
 use mathlib.Core.Bool.{Bool, true, false, not}
 use mathlib.Core.List.{List, [], _∷_}
 use mathlib.Core.Path.{_≡_, refl, sym, ap, _∙_, subst}
-use native.Mathlib.Nat.{zero-mul, mul-zero, mul-comm, mul-le-mul-right, div-mul-le-self, div-lt-iff-lt-mul}
+use native.Mathlib.Nat.{zero-mul, mul-zero, mul-le-mul-right, div-mul-le-self, div-lt-iff-lt-mul}
 use native.Mathlib.Omega.{arith}
 use lib.ListN.{length, getD, take}
 use lib.Seq.{take-length}
 use Rattle.base.specs.Blit.{blit}
 use Rattle.base.specs.Checked.{ok, fine}
 use Rattle.mdf.specs.Chain.{Fragment}
-use Rattle.mdf.specs.Group.{samples, invalBytes, isStorage}
-use Rattle.mdf.specs.Records.{most64, rangesIn, sizeOf, Frame, unsortedFrames, unsortedRecords}
+use Rattle.mdf.specs.Group.{isStorage}
+use Rattle.mdf.specs.Records.{rangesIn, unsortedFrames}
 use Rattle.work_words.specs.Words.{fragmentsOf}
 use Rattle.plan.specs.Channel.{fits, keepsInval, width}
 use Rattle.plan.specs.Geometry.{blockCount, perFull}
 use Rattle.plan.specs.Data.{recordsIn}
-use Rattle.result.specs.Payload.{groupRecords, payloads, framedRecords}
+use Rattle.result.specs.Payload.{groupRecords, payloads}
 use Rattle.result.specs.Fill.{dataKind}
 use Rattle.payload_laws.specs.Answers.{false≢true, then-ok}
 use Rattle.payload_laws.specs.Lists.{Long}
@@ -29,13 +29,12 @@ use Rattle.places.specs.Pool.{Pooled, KeepsRight}
 use Rattle.cells.specs.declared.column.Column.{Column}
 use Rattle.cells.specs.declared.piece.Form.{Form}
 use Rattle.cells.specs.declared.total.Total.{Total}
-use Rattle.cells.specs.Shape.{Shaped, ShapeOf}
 use Rattle.cells.specs.Spot.{Readable}
-use Rattle.cells.specs.Region.{regionOf, filledTo, reachTo, Formed, Due, Grown}
+use Rattle.cells.specs.Region.{regionOf, reachTo, Formed, Due}
 use Rattle.cells.specs.RegionLaws.{filled-none, region-size, region-full}
 use Rattle.cells.specs.Filled.{TotalOf, Filled, PoolFilled}
 use Rattle.cells.specs.NumberLaws.{number-at}
-use Rattle.cells.specs.Blocks.{framedAll, columnRecords, wideOf, perOf, countOf, kindOf, blocksFor, blocksBytes, BlocksReady, WritesBlocks}
+use Rattle.cells.specs.Blocks.{framedAll, columnRecords, wideOf, perOf, countOf, kindOf, blocksFor, BlocksReady, WritesBlocks}
 use Rattle.cells.specs.Written.{FormOf, Room, IfRoom, PutRecords}
 
 pub formed-same : {s : List ℕ} {f : Form} {a b : ℕ} → Formed s f a → b ≡ a → Formed s f b

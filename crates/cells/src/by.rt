@@ -187,7 +187,17 @@ pub(crate) fn by_several(
     let mut spot = begin();
     let mut at = 0;
     while at < f.records {
-        let r = several_next(image, n, groups, k, fragments, &ids, &sizes, &mut hints, scan);
+        let r = several_next(
+            image,
+            n,
+            groups,
+            k,
+            fragments,
+            &ids,
+            &sizes,
+            &mut hints,
+            scan,
+        );
         if !usable(r.stretch, at, f, size) {
             return;
         }

@@ -3,7 +3,6 @@ use crate::cursor::Cursor;
 use crate::cursor::copy_joined;
 use crate::cursor::settle;
 use crate::cursor::skip;
-use blocks::block::data_u8;
 use channels::byte_offset;
 use channels::channel_bytes;
 use channels::inval_bytes_of;
@@ -18,18 +17,15 @@ ghost use Prim.Native.Nat.{_+_, _≤_, _<_};
 ghost use lib.ListN.{length, getD, take};
 ghost use Rattle.base.specs.Blit.{part, blit};
 ghost use Rattle.base.specs.Checked.{fine};
-ghost use Rattle.mdf.specs.Walk.{idSize};
 ghost use Rattle.mdf.specs.Records.{rangesIn, joined, sizeOf};
 ghost use Rattle.plan.specs.Channel.{fits, width};
-ghost use Rattle.channels.specs.Small.{Small};
 ghost use Rattle.result.specs.Payload.{cell};
 ghost use Rattle.cells.specs.Ahead.{ahead};
 ghost use Rattle.cells.specs.Shape.{Shaped, ShapeOf};
 
 // A channel in the records of its group: where its bytes begin, how many there are, the record's length without its id, whether the
-// invalidation bit is kept, and where it is: its byte and its bit in that; the bytes of an id, and the column's width.
+// invalidation bit is kept, and where it is: its byte and its bit in that; the column's width.
 pub struct Shape {
-    pub parent: u64,
     pub group: u64,
     pub channel: u64,
     pub first: u64,
@@ -38,21 +34,13 @@ pub struct Shape {
     pub keep: bool,
     pub inval: u64,
     pub bit: u32,
-    pub id: u64,
     pub width: u64,
 }
 
-// The size of the record ids of the DG at d.
-pub(crate) fn id_size(image: &[u8], d: u64) -> u64
-    ensures { λ r. ⌜ Small 1 (idSize (now (image .entry)) d) r ⌝ }
-{
-    data_u8(image, d, 0)
-}
-
-// The channel at c in the records of the group at g of the DG at d.
-pub(crate) fn shape_of(image: &[u8], d: u64, g: u64, c: u64) -> Shape
+// The channel at c in the records of the group at g.
+pub(crate) fn shape_of(image: &[u8], g: u64, c: u64) -> Shape
     requires { ⌜ fits (now image) g c ≡ true ⌝ }
-    ensures { λ r. ⌜ ShapeOf (now (image .entry)) d g c r ⌝ }
+    ensures { λ r. ⌜ ShapeOf (now (image .entry)) g c r ⌝ }
 {
     let first = byte_offset(image, c);
     let bytes = channel_bytes(image, c);
@@ -61,10 +49,8 @@ pub(crate) fn shape_of(image: &[u8], d: u64, g: u64, c: u64) -> Shape
     let keep = keeps_inval(image, g, c);
     let position = inval_position(image, c);
     let bit = (position % 8) as u32;
-    let id = id_size(image, d);
     let width = width_of(image, g, c);
     Shape {
-        parent: d,
         group: g,
         channel: c,
         first,
@@ -73,7 +59,6 @@ pub(crate) fn shape_of(image: &[u8], d: u64, g: u64, c: u64) -> Shape
         keep,
         inval: samples + position / 8,
         bit,
-        id,
         width,
     }
 }

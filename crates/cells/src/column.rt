@@ -12,7 +12,7 @@ use places::pass::fill;
 use places::pool::find;
 ghost use mathlib.Core.Bool.{true, false};
 ghost use mathlib.Core.Path.{_≡_};
-ghost use Prim.Native.Nat.{_≤_, _<_};
+ghost use Prim.Native.Nat.{_<_};
 ghost use lib.ListN.{length};
 ghost use Rattle.mdf.specs.Records.{sizeOf};
 ghost use Rattle.work_words.specs.Words.{fragmentsOf};
@@ -63,7 +63,7 @@ fn form_of(image: &[u8], size: u64, c: Column) -> Form
     requires { ⌜ fits (now image) (c .group) (c .channel) ≡ true ⌝ }
     ensures { λ r. ⌜ FormOf (now (image .entry)) size c r ⌝ }
 {
-    let shape = shape_of(image, c.parent, c.group, c.channel);
+    let shape = shape_of(image, c.group, c.channel);
     let kind = data_kind(shape.keep);
     let per = per_full(size, shape.width, c.records);
     let blocks = block_count(size, shape.width, c.records);

@@ -24,10 +24,7 @@ pub(crate) fn begin() -> Spot
         position: 0,
         left: 0,
     };
-    Spot {
-        cursor,
-        offset: 0,
-    }
+    Spot { cursor, offset: 0 }
 }
 
 // The place at an offset, from a place before it on: in a fragment that has bytes there.
@@ -38,10 +35,7 @@ fn onto(image: &[u8], fragments: &[u64], p: Spot, offset: u64) -> Spot
 {
     let c = skip(image, fragments, p.cursor, offset - p.offset);
     let cursor = settle(fragments, c);
-    Spot {
-        cursor,
-        offset,
-    }
+    Spot { cursor, offset }
 }
 
 // From any place on: where it lies past the offset, from the front.

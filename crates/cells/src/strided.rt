@@ -94,7 +94,15 @@ fn put_kept(out: &mut [u8], to: usize, image: &[u8], from: usize, stride: usize,
 }
 
 // Of n records of any channel.
-pub(crate) fn put_strided(out: &mut [u8], to: usize, image: &[u8], from: usize, stride: usize, n: u64, h: Shape)
+pub(crate) fn put_strided(
+    out: &mut [u8],
+    to: usize,
+    image: &[u8],
+    from: usize,
+    stride: usize,
+    n: u64,
+    h: Shape,
+)
     requires { ⌜ Shaped (now image) h × Lying (length (now image)) (h .length) from stride n × (to + n * h .width ≤ length (now out)) ⌝ }
     ensures { λ _. ⌜ now (out .exit) ≡ blit to (cells (now (image .entry)) (h .group) (h .channel)
         (recordsAt (now (image .entry)) (h .length) (spaced from stride n))) (now (out .entry)) ⌝ }

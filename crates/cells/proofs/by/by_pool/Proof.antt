@@ -23,9 +23,12 @@ begin-requires c κs = search needs
 
 loop-holds : tie.Need-loop-holds Inv-loop μ-loop
 loop-holds c =
-    let a = c .before .before .before .before .before .args in
-    (omega arith, refl, rw (c .begin .ensures) (spot-front _ _ (c .before .before .before .before .before .pre .0 .ranges)),
-        pool-none (a .image .now) (a .d) (a .g) (a .fragments .now) (a .f) (a .pool .now) (a .out .now))
+    let a = c .before .before .before .before .before .args in (
+      omega arith,
+      refl,
+      rw (c .begin .ensures) (spot-front _ _ (c .before .before .before .before .before .pre .0 .ranges)),
+      pool-none (a .image .now) (a .d) (a .g) (a .fragments .now) (a .f) (a .pool .now) (a .out .now),
+    )
 
 find-requires : tie.Need-find-requires Inv-loop μ-loop
 find-requires c κs = search needs
@@ -62,10 +65,13 @@ loop-again c =
     let v = c .before .before .before .before .before .before .before .before .before .before .loop .inv in
     let x = c .before .before .before .before .before .before .before .before .before .before .loop in
     let u = if-usable _ (c .before .before .before .before .before .before .usable .ensures) (c .before .before .before .before .before .if2 .left) in
-    let r = c .before .before .before .put-rest .ensures in
-    (omega (arith, u .next, u .few), omega (arith, v .1, c .before .before .before .put-rest .kept), r .0,
-        pool-turn (a .image .now) (a .d) (a .g) (a .fragments .now) (a .f) (a .pool .now) (x .at) (a .out .now) (x .out) (c .before .before .before .before .before .before .before .find .result) (c .before .before .before .before .before .before .before .before .before .before .before .before .before .before .before .before .pre .0 .shaped)
-            (v .3) (c .before .before .before .before .before .before .before .find .ensures) u (r .1))
+    let r = c .before .before .before .put-rest .ensures in (
+      omega (arith, u .next, u .few),
+      omega (arith, v .1, c .before .before .before .put-rest .kept),
+      r .0,
+      pool-turn (a .image .now) (a .d) (a .g) (a .fragments .now) (a .f) (a .pool .now) (x .at) (a .out .now) (x .out) (c .before .before .before .before .before .before .before .find .result) (c .before .before .before .before .before .before .before .before .before .before .before .before .before .before .before .before .pre .0 .shaped)
+          (v .3) (c .before .before .before .before .before .before .before .find .ensures) u (r .1),
+    )
 
 same-length-2 : tie.Need-same-length-2 Inv-loop μ-loop
 same-length-2 c = search needs

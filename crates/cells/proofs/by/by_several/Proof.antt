@@ -8,7 +8,6 @@ use Rattle.cells.specs.Filled.{Usable}
 use Rattle.cells.specs.FilledLaws.{if-usable, usable-in, Filling, filling-begin, filling-stop, filling-turn, filling-end, tables-of}
 use borrow.Author.Needs.{needs}
 use native.Mathlib.Omega.{arith}
-use lib.ListN.{length}
 use Rattle.cells.proofs.by.by_several.Statement.{statement}
 use Rattle.cells.proofs.by.by_several.Tie as tie
 
@@ -32,9 +31,11 @@ begin-requires c κs = search needs
 loop-holds : tie.Need-loop-holds Inv-loop μ-loop
 loop-holds c =
     let a = c .before .before .before .before .before .before .before .before .before .before .args in
-    let m = c .before .before .make-tables .ensures in
-    (rw (c .begin .ensures) (filling-begin (a .a) (a .out .now) (c .before .before .before .before .before .before .before .before .before .before .pre .0)),
-        (λ r. tables-of (a .image .now) (a .groups .now) _ _ r (c .before .before .before .before .before .before .before .before .before .before .pre .4) (m .0) (search needs) (m .1) (search needs)), c .before .id-size .ensures .is)
+    let m = c .before .before .make-tables .ensures in (
+      rw (c .begin .ensures) (filling-begin (a .a) (a .out .now) (c .before .before .before .before .before .before .before .before .before .before .pre .0)),
+      (λ r. tables-of (a .image .now) (a .groups .now) _ _ r (c .before .before .before .before .before .before .before .before .before .before .pre .4) (m .0) (search needs) (m .1) (search needs)),
+      c .before .id-size .ensures .is,
+    )
 
 several-next-requires : tie.Need-several-next-requires Inv-loop μ-loop
 several-next-requires c κs = search needs

@@ -1,6 +1,6 @@
 -- Each turn puts the records of the next stretch.
 use mathlib.Core.List.{[], _∷_}
-use mathlib.Core.Path.{_≡_, refl}
+use mathlib.Core.Path.{refl}
 use Prim.Native.Nat.{_+_, _-_, _≤_}
 use Rattle.cells.specs.Filled.{Usable}
 use Rattle.cells.specs.FilledLaws.{if-usable, usable-in, Filling, filling-begin, filling-stop, filling-turn, filling-end}

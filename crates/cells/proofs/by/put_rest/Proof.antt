@@ -4,7 +4,6 @@ use mathlib.Core.Path.{refl}
 use Rattle.cells.specs.RegionLaws.{lying-past}
 use Rattle.cells.specs.FilledLaws.{past-in, rest-none, rest-all, rest-part}
 use native.Mathlib.Omega.{arith}
-use lib.ListN.{length}
 use borrow.Author.Needs.{needs}
 use Rattle.cells.proofs.by.put_rest.Statement.{statement}
 use Rattle.cells.proofs.by.put_rest.Tie as tie
@@ -51,9 +50,11 @@ same-length-2 c = search needs
 returns-3 : tie.Need-returns-3
 returns-3 c =
     let a = c .before .before .before .before .before .before .before .before .before .before .before .before .before .args in
-    let r = c .before .before .put-piece2 .ensures in
-    (r .0, rest-part (a .image .now) (a .fragments .now) (a .f) (a .t) (a .a) (a .a - a .t .number) refl (omega arith) (omega arith)
-        (rw (c .before .before .before .past .ensures) at (r .1)))
+    let r = c .before .before .put-piece2 .ensures in (
+      r .0,
+      rest-part (a .image .now) (a .fragments .now) (a .f) (a .t) (a .a) (a .a - a .t .number) refl (omega arith) (omega arith)
+          (rw (c .before .before .before .past .ensures) at (r .1)),
+    )
 
 pub put-rest-spec : {M : Type 1} → statement M
 put-rest-spec =

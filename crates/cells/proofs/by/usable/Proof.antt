@@ -48,9 +48,9 @@ returns-9 c =
     usable-yes _ _ _ _ (record {
       next = omega arith;
       lying = record {
-          some = omega arith;
-          within = omega (arith, strides-fit (a .t .stride) (a .size - a .f .shape .length - a .t .first) (a .t .count - 1) (omega arith));
-        };
+        some = omega arith;
+        within = omega (arith, strides-fit (a .t .stride) (a .size - a .f .shape .length - a .t .first) (a .t .count - 1) (omega arith));
+      };
       few = omega arith;
     })
 

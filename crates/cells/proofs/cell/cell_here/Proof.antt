@@ -1,5 +1,5 @@
 -- The channel's bytes, then the bit, both as they stand in the record.
-use mathlib.Core.Path.{_∙_, sym}
+use mathlib.Core.Path.{_∙_}
 use Rattle.base.specs.Blit.{part}
 use Rattle.payload_laws.specs.Lists.{length-part}
 use Rattle.cells.specs.CellLaws.{room-bytes, room-kept, cell-bare, cell-kept, part-in, byte-in}
@@ -54,8 +54,8 @@ returns c =
     let n = length-part (a .q) (a .h .length) s (omega arith) in
     let k = p .4 ∙ c .before .before .if1 .taken in
     rw (← p .3) (cell-kept w (part (a .q) (a .h .length) s) (a .to) _ _ k (omega arith)
-        (c .before .before .before .before .before .copy-within .ensures ∙ rw (← p .3, part-in (a .q) (a .h .length) (a .h .first) (a .h .bytes) s f))
-        (byte-in (a .q) (a .h .length) (a .h .inval) s (w .kept k)))
+    (c .before .before .before .before .before .copy-within .ensures ∙ rw (← p .3, part-in (a .q) (a .h .length) (a .h .first) (a .h .bytes) s f))
+    (byte-in (a .q) (a .h .length) (a .h .inval) s (w .kept k)))
 
 same-length-2 : tie.Need-same-length-2
 same-length-2 c = search needs

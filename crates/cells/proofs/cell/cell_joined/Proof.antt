@@ -72,7 +72,7 @@ returns c =
           (a .h .bytes) (joined s fs) (w .fit),
     ))
     (c .before .byte-at .ensures ∙ sym (getD-take (a .h .length) (joined s fs) (a .h .inval) 0 (w .kept
-        (c .before .before .if1 .taken))))
+    (c .before .before .if1 .taken))))
 
 same-length-2 : tie.Need-same-length-2
 same-length-2 c = search needs

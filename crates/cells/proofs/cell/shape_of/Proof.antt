@@ -31,44 +31,38 @@ inval-position-requires c κs = search needs
 cast-bit : tie.Need-cast-bit
 cast-bit c = search needs
 
-id-size-requires : tie.Need-id-size-requires
-id-size-requires c κs = search needs
-
 width-of-requires : tie.Need-width-of-requires
 width-of-requires c κs = search needs
 
-add-t15 : tie.Need-add-t15
-add-t15 c = search needs
+add-t13 : tie.Need-add-t13
+add-t13 c = search needs
 
 returns : tie.Need-returns
 returns c =
-    let s = c .before .before .before .before .before .before .before .before .before .args .image .now in
-    let g = c .before .before .before .before .before .before .before .before .before .args .g in
-    let n = c .before .before .before .before .before .before .before .before .before .args .c in
-    let f = fits-within s g n (c .before .before .before .before .before .before .before .before .before .pre) in
-    let a = c .before .before .before .before .before .before .before .byte-offset .ensures .is in
-    let b = c .before .before .before .before .before .before .channel-bytes .ensures .is in
-    let d = c .before .before .before .before .before .samples-of .ensures .is in
-    let e = c .before .before .before .before .inval-bytes-of .ensures .is in
-    let p = c .before .before .inval-position .ensures .is in
+    let s = c .before .before .before .before .before .before .before .before .args .image .now in
+    let g = c .before .before .before .before .before .before .before .before .args .g in
+    let n = c .before .before .before .before .before .before .before .before .args .c in
+    let f = fits-within s g n (c .before .before .before .before .before .before .before .before .pre) in
+    let a = c .before .before .before .before .before .before .byte-offset .ensures .is in
+    let b = c .before .before .before .before .before .channel-bytes .ensures .is in
+    let d = c .before .before .before .before .samples-of .ensures .is in
+    let e = c .before .before .before .inval-bytes-of .ensures .is in
+    let p = c .before .inval-position .ensures .is in
     record {
       shaped = record {
         first = a;
         bytes = b;
         long = rw (d, e);
-        keep = c .before .before .before .keeps-inval .ensures;
+        keep = c .before .before .keeps-inval .ensures;
         inval = rw (d, p);
         bit = rw p;
         fit = omega arith;
-        kept = λ q. let k = kept-within s g n (sym (c .before .before .before .keeps-inval .ensures) ∙ q) in omega arith;
-        short = let x = c .before .before .before .before .before .samples-of .ensures .small in let y =
-            c .before .before .before .before .inval-bytes-of .ensures .small in omega arith;
-        id = c .before .id-size .ensures .is;
-        id-short = c .before .id-size .ensures .small;
+        kept = λ q. let k = kept-within s g n (sym (c .before .before .keeps-inval .ensures) ∙ q) in omega arith;
+        short = let x = c .before .before .before .before .samples-of .ensures .small in let y =
+            c .before .before .before .inval-bytes-of .ensures .small in omega arith;
         wide = c .width-of .ensures .is;
-        fitting = c .before .before .before .before .before .before .before .before .before .pre;
+        fitting = c .before .before .before .before .before .before .before .before .pre;
       };
-      parent = refl;
       group = refl;
       channel = refl;
     }
@@ -85,7 +79,6 @@ shape-of-spec =
     keeps-inval-requires
     inval-position-requires
     cast-bit
-    id-size-requires
     width-of-requires
-    add-t15
+    add-t13
     returns)

@@ -21,7 +21,7 @@ returns : tie.Need-returns
 returns c =
     let a = c .before .before .before .before .before .before .before .before .before .before .before .before .before .before .before .before .args in
     among-all (a .image .now) (a .groups .now) (a .fragments .now) (a .c) (a .f) (a .pool .now) _ (c .before .before .before .before .before .before .before .before .before .prepare .ensures) _ (a .out .now) _ (c .before .before .before .before .by-pool .ensures .1)
-        (c .if1 .taken)
+    (c .if1 .taken)
 
 number-in-requires : tie.Need-number-in-requires
 number-in-requires c κs = search needs
@@ -41,7 +41,7 @@ returns-2 : tie.Need-returns-2
 returns-2 c =
     let a = c .before .before .before .before .before .before .before .before .before .before .before .before .before .before .before .before .before .before .before .before .before .args in
     among-rest (a .image .now) (a .groups .now) (a .fragments .now) (a .c) (a .f) (a .pool .now) _ (c .before .before .before .before .before .before .before .before .before .before .before .before .before .before .prepare .ensures) _ (a .out .now) _ (c .before .before .before .before .before .before .before .before .before .by-pool .ensures .1)
-        (c .before .before .before .before .number-in .ensures) (c .before .before .by-several .ensures)
+    (c .before .before .before .before .number-in .ensures) (c .before .before .by-several .ensures)
 
 pub among-spec : {M : Type 1} → statement M
 among-spec =

@@ -1,6 +1,5 @@
 -- As its parts are found.
 use mathlib.Core.Path.{refl}
-use native.Mathlib.Omega.{arith}
 use borrow.Author.Needs.{needs}
 use Rattle.cells.proofs.column.form_of.Statement.{statement}
 use Rattle.cells.proofs.column.form_of.Tie as tie

@@ -1,5 +1,4 @@
 -- The widths of all records, then the headers.
-use Prim.Native.Nat.{_*_, _-_}
 use Rattle.cells.specs.WrittenLaws.{room-no, room-yes, widths-fit, widths-over}
 use native.Mathlib.Omega.{arith}
 use borrow.Author.Needs.{needs}

@@ -33,8 +33,10 @@ loop-less : tie.Need-loop-less Inv-loop μ-loop
 loop-less c = search needs
 
 loop-again : tie.Need-loop-again Inv-loop μ-loop
-loop-again c = (number-on (c .before .before .before .loop .inv .0) (omega arith) (c .if1 .left),
-    c .before .before .before .loop .inv .1)
+loop-again c = (
+  number-on (c .before .before .before .loop .inv .0) (omega arith) (c .if1 .left),
+  c .before .before .before .loop .inv .1,
+)
 
 returns-2 : tie.Need-returns-2 Inv-loop μ-loop
 returns-2 c = let e = c .before .loop .inv .1 in rw e (number-end (c .before .loop .inv .0) (omega arith))

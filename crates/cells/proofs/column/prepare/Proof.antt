@@ -1,5 +1,4 @@
 -- Nothing changes, or stretches are added.
-use native.Mathlib.Omega.{arith}
 use borrow.Author.Needs.{needs}
 use Rattle.cells.proofs.column.prepare.Statement.{statement}
 use Rattle.cells.proofs.column.prepare.Tie as tie

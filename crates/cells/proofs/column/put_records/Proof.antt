@@ -1,6 +1,5 @@
 -- By the number of the groups.
 use Rattle.cells.specs.WrittenLaws.{alone-all}
-use native.Mathlib.Omega.{arith}
 use borrow.Author.Needs.{needs}
 use Rattle.cells.proofs.column.put_records.Statement.{statement}
 use Rattle.cells.proofs.column.put_records.Tie as tie

@@ -1,7 +1,6 @@
 -- A column that is ready passes the tests; then its records come to stand.
 use mathlib.Core.Path.{sym, _∙_}
 use Rattle.cells.specs.WrittenLaws.{not-false, form-empty, form-formed, form-readable, form-written, written-unfit, written-full, written-outside}
-use native.Mathlib.Omega.{arith}
 use borrow.Author.Needs.{needs}
 use Rattle.cells.proofs.column.write_blocks.Statement.{statement}
 use Rattle.cells.proofs.column.write_blocks.Tie as tie

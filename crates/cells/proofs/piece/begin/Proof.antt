@@ -73,9 +73,11 @@ same-length c = search needs
 returns-2 : tie.Need-returns-2
 returns-2 c =
     let a = c .before .before .before .before .before .before .before .args in
-    let q = c .before .before .before .before .least .ensures in
-    (refl, start-header (a .kind) (a .m) (a .n) (a .w) (a .at) _ (a .out .now) (omega arith) q (lent-is _ _ _ _
-        (c .before .before .header .ensures)))
+    let q = c .before .before .before .before .least .ensures in (
+      refl,
+      start-header (a .kind) (a .m) (a .n) (a .w) (a .at) _ (a .out .now) (omega arith) q (lent-is _ _ _ _
+          (c .before .before .header .ensures)),
+    )
 
 pub begin-spec : {M : Type 1} → statement M
 begin-spec =

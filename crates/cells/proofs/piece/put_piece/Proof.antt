@@ -1,7 +1,6 @@
 -- Each turn puts the records of one block: the header, where the first begins it, then their cells.
 use native.Mathlib.Nat.{mod-lt}
 use Rattle.cells.specs.Spot.{SpotOf}
-use Rattle.cells.specs.StridedLaws.{mul-less}
 use Rattle.cells.specs.RegionLaws.{Piecing, piecing-begin, piecing-few, piecing-turn, piecing-end, begin-room, piece-room, lying-front, lying-past, Piece, piece-of}
 use borrow.Author.Needs.{needs}
 use native.Mathlib.Omega.{arith}
@@ -57,9 +56,12 @@ put-stretch-requires c κs =
     let p = c .before .before .before .before .before .before .before .before .before .before .before .before .before .pre in
     let v = c .before .before .before .before .before .before .before .before .loop .inv .0 in
     let q = turn ((c .before)) in
-    let r = piece-room (p .1) (c .before .before .before .before .before .before .before .before .loop .at) (c .before .least .result) (q .some) (q .block) (omega (arith, piecing-few v (p .1) (p .3), q .within)) in
-    (p .0, c .before .before .before .before .before .before .before .before .loop .inv .1, lying-front (c .before .least .result) (v .lying) (q .some) (omega (arith, q .within)),
-        omega (arith, r, c .before .before .before .before .before .before .begin .ensures .0, v .same, c .before .before .before .before .before .before .begin .kept))
+    let r = piece-room (p .1) (c .before .before .before .before .before .before .before .before .loop .at) (c .before .least .result) (q .some) (q .block) (omega (arith, piecing-few v (p .1) (p .3), q .within)) in (
+      p .0,
+      c .before .before .before .before .before .before .before .before .loop .inv .1,
+      lying-front (c .before .least .result) (v .lying) (q .some) (omega (arith, q .within)),
+      omega (arith, r, c .before .before .before .before .before .before .begin .ensures .0, v .same, c .before .before .before .before .before .before .begin .kept),
+    )
 
 same-length : tie.Need-same-length Inv-loop μ-loop
 same-length c = search needs
@@ -105,9 +107,11 @@ loop-again c =
     let v = c .before .before .before .before .before .before .before .before .before .before .before .before .before .loop .inv .0 in
     let q = turn ((c .before .before .before .before .before .before)) in
     let b = c .before .before .before .before .before .before .before .before .before .before .before .begin .ensures in
-    let r = c .before .before .before .before .put-stretch .ensures in
-    (piecing-turn v (p .1) (p .3) (c .before .before .before .before .before .before .least .result) (q .some) (q .block) (omega (arith, q .within)) (b .0) (b .1) (r .1) (omega (arith, q .within))
-        (omega (arith, c .before .before .before .before .before .before .before .before .before .before .before .begin .kept, c .before .before .before .before .put-stretch .kept)), r .0)
+    let r = c .before .before .before .before .put-stretch .ensures in (
+      piecing-turn v (p .1) (p .3) (c .before .before .before .before .before .before .least .result) (q .some) (q .block) (omega (arith, q .within)) (b .0) (b .1) (r .1) (omega (arith, q .within))
+          (omega (arith, c .before .before .before .before .before .before .before .before .before .before .before .begin .kept, c .before .before .before .before .put-stretch .kept)),
+      r .0,
+    )
 
 pub put-piece-spec : {M : Type 1} → statement M
 put-piece-spec =

@@ -41,9 +41,12 @@ same-length-2 c = search needs
 returns-2 : tie.Need-returns-2
 returns-2 c =
     let a = c .before .before .before .before .before .before .before .before .before .before .before .before .before .args in
-    let r = c .before .before .before .before .run-of .ensures in
-    (r .some, r .few, some-run (a .image .now) (a .fragments .now) (a .k) (a .h) (a .stride) (c .before .before .before .before .run-of .result) (a .to) (a .out .now) (c .before .before .before .before .before .before .before .before .before .before .before .before .before .pre .1)
-        (omega (arith, r .within)) (c .before .before .put-strided .ensures))
+    let r = c .before .before .before .before .run-of .ensures in (
+      r .some,
+      r .few,
+      some-run (a .image .now) (a .fragments .now) (a .k) (a .h) (a .stride) (c .before .before .before .before .run-of .result) (a .to) (a .out .now) (c .before .before .before .before .before .before .before .before .before .before .before .before .before .pre .1)
+          (omega (arith, r .within)) (c .before .before .put-strided .ensures),
+    )
 
 pub put-some-spec : {M : Type 1} → statement M
 put-some-spec =

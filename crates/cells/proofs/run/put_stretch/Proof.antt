@@ -47,9 +47,11 @@ returns c =
     let a = c .before .before .before .before .before .before .before .before .before .before .args in
     let p = c .before .before .before .before .before .before .before .before .before .before .pre in
     let x = c .before .before .before .before .before .before .loop in
-    let r = c .before .before .before .before .before .reach .ensures in
-    (r .0, stretching-end (x .inv .0) (p .0) (c .before .before .before .put-some .result) (c .if1 .taken)
-        (some-of (a .h) (a .stride) (c .before .before .before .put-some .result) (x .index) (x .out) (r .0) (r .1) (c .before .before .before .put-some .ensures .2)))
+    let r = c .before .before .before .before .before .reach .ensures in (
+      r .0,
+      stretching-end (x .inv .0) (p .0) (c .before .before .before .put-some .result) (c .if1 .taken)
+          (some-of (a .h) (a .stride) (c .before .before .before .put-some .result) (x .index) (x .out) (r .0) (r .1) (c .before .before .before .put-some .ensures .2)),
+    )
 
 sub-left : tie.Need-sub-left Inv-loop μ-loop
 sub-left c = let e = c .before .before .before .put-some .ensures .1 in omega arith
@@ -84,9 +86,11 @@ loop-again c =
     let a = c .before .before .before .before .before .before .before .before .before .before .before .args in
     let p = c .before .before .before .before .before .before .before .before .before .before .before .pre in
     let x = c .before .before .before .before .before .before .before .loop in
-    let r = c .before .before .before .before .before .before .reach .ensures in
-    (stretching-turn (x .inv .0) (p .0) (c .before .before .before .before .put-some .result) (r .0) (omega (arith, c .before .before .before .before .put-some .ensures .1))
-        (some-of (a .h) (a .stride) (c .before .before .before .before .put-some .result) (x .index) (x .out) (r .0) (r .1) (c .before .before .before .before .put-some .ensures .2)), search needs)
+    let r = c .before .before .before .before .before .before .reach .ensures in (
+      stretching-turn (x .inv .0) (p .0) (c .before .before .before .before .put-some .result) (r .0) (omega (arith, c .before .before .before .before .put-some .ensures .1))
+          (some-of (a .h) (a .stride) (c .before .before .before .before .put-some .result) (x .index) (x .out) (r .0) (r .1) (c .before .before .before .before .put-some .ensures .2)),
+      search needs,
+    )
 
 pub put-stretch-spec : {M : Type 1} → statement M
 put-stretch-spec =

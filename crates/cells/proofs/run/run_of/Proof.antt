@@ -1,4 +1,3 @@
-
 -- As many as the room has distances, and the first.
 use native.Mathlib.Omega.{arith}
 use Rattle.cells.specs.SpotLaws.{run-one, run-all, run-most}
