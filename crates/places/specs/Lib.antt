@@ -9,4 +9,10 @@ pub mod SeveralLaws
 pub mod Scan
 pub mod ScanLaws
 pub mod Pool
+pub mod Longer
+pub mod LongerLaws
+pub mod FacingLaws
+pub mod NextLaws
 pub mod PoolLaws
+pub mod Pass
+pub mod PassLaws
