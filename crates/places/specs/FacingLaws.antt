@@ -1,9 +1,8 @@
 -- Laws of what is ahead of a place between two records of several groups.
-use Prim.Native.Nat.{ℕ, zero, suc, _+_, _-_, _*_, _≤_, _<_}
-use mathlib.Core.Bool.{false}
+use Prim.Native.Nat.{ℕ, _+_, _-_, _≤_, _<_}
+use mathlib.Core.Bool.{Bool, true, false, not}
 use mathlib.Core.List.{List, [], _∷_}
 use mathlib.Core.Path.{_≡_, refl, sym, ap, _∙_, subst}
-use native.Mathlib.Nat.{add-mul, suc-mul}
 use native.Mathlib.Omega.{arith}
 use lib.ListN.{length, getD, drop, length-drop, length-append}
 use lib.Seq.{drop-drop}
@@ -17,7 +16,9 @@ use Rattle.mdf.specs.Records.{most64, joined, equalIds, Frame, framed, broken, 
 use Rattle.work_words.specs.Words.{fragmentsOf}
 use Rattle.plan.specs.Data.{recordsIn}
 use Rattle.result.specs.Payload.{framedRecords, groupRecords}
+use Rattle.payload_laws.specs.Answers.{false≢true}
 use Rattle.payload_laws.specs.SortedLaws.{joined-length}
+use Rattle.records.specs.Table.{Tabled}
 use Rattle.payload_laws.specs.FramedLaws.{KnownFrame, AllKnown, next, counted-group, unsorted-several, framed-few}
 use Rattle.records.specs.declared.framing.Step.{Step}
 use Rattle.records.specs.declared.framing.Step.the-variants.{Broken, Record}
@@ -33,6 +34,8 @@ use Rattle.places.specs.Several.{Read, end, more}
 use Rattle.places.specs.SeveralLaws.{broken≢framed, frame-fits, frames-read, unsorted-frames}
 use Rattle.places.specs.ScanLaws.{checked-frames}
 use Rattle.places.specs.Longer.{RecordAt}
+use Rattle.places.specs.Facing.{Facing, Faced, FoundAt}
+use Rattle.places.specs.declared.stretch.Scan.{Scan}
 
 same-frame : {q r : Frame} → framed q ≡ framed r → q ≡ r
 same-frame e = cc
@@ -77,13 +80,7 @@ group-framed s d k [] fs o h = absurd (omega arith)
 group-framed s d k (g ∷ []) fs o h = absurd (o refl)
 group-framed s d k (g ∷ i ∷ gs) fs o h = refl
 
--- ---- a place between two records: what is ahead of it are the records rs
-pub record Facing (s : List ℕ) (n : ℕ) (gs ws : List ℕ) (at p l offset : ℕ) (rs : List Frame) : Type 0 where
-  pub rest : joined s (ahead s ws at p l) ≡ drop offset (joined s (fragmentsOf ws))
-  pub within : offset ≤ length (joined s (fragmentsOf ws))
-  pub read : Read s n gs (drop offset (joined s (fragmentsOf ws))) rs
-  pub known : AllKnown s n gs rs
-
+-- ---- a place between two records
 length-zero : (l : List ℕ) → length l ≡ 0 → l ≡ []
 length-zero [] e = refl
 length-zero (x ∷ l) e = absurd (omega arith)
@@ -138,18 +135,6 @@ first-read {s} {n} {gs} {l} {r} z f (more {r = q} {rs = rs} y g k) =
     let e : q ≡ r = same-frame (sym g ∙ f) in
     record { later = rs; is = ap (λ (x : Frame). x ∷ rs) e; read = subst (λ (x : Frame). Read s n gs (drop (x .size) l) rs) e k }
 
--- the first record: of group j, with m bytes past its id; at', p', l' is the place past it
-pub record Faced (s : List ℕ) (n : ℕ) (gs ws : List ℕ) (offset : ℕ) (rs : List Frame) (j m at' p' l' : ℕ) : Type 0 where
-  pub first : Frame
-  pub later : List Frame
-  pub is : rs ≡ first ∷ later
-  pub group : first .group ≡ j
-  pub listed : j < length gs
-  pub bytes : first .bytes ≡ part (offset + n) m (joined s (fragmentsOf ws))
-  pub inside : offset + n + m ≤ length (joined s (fragmentsOf ws))
-  pub long : isStorage s (getD gs j 0) ≡ false → m ≡ bodyBytes s (getD gs j 0)
-  pub facing : Facing s n gs ws at' p' l' (offset + n + m) later
-
 first-known : {s gs : List ℕ} {n : ℕ} {r : Frame} {rs : List Frame} → AllKnown s n gs (r ∷ rs) → KnownFrame s n gs r × AllKnown s n gs rs
 first-known (next k l) = (k, l)
 
@@ -185,7 +170,8 @@ module _ {s : List ℕ} {n : ℕ} {gs ws : List ℕ} {at p l offset : ℕ} {rs :
         go z (end y) = omega arith
         go z (more y g k) = broken≢framed (sym no-frame ∙ g)
 
-    pub face-record : {j m p' l' : ℕ} {x : Framing} → o ≡ Record j m x p' l' → Faced s n gs ws offset rs j m (x .at) p' l'
+    pub face-record : {j m p' l' : ℕ} {x : Framing} → o ≡ Record j m x p' l'
+        → Faced s n gs ws rs j (offset + n) (x .at) p' l' (offset + n + m) × (offset + n + m ≤ length (joined s (fragmentsOf ws)))
     unfolding part
     face-record {j} {m} {p'} {l'} {x} b =
         let a = so-record s n gs ws at p l e b in
@@ -205,28 +191,104 @@ module _ {s : List ℕ} {n : ℕ} {gs ws : List ℕ} {at p l offset : ℕ} {rs :
         let y : r .size ≡ n + m = omega (arith, z, i1) in
         let v : offset + n + m ≤ length J = omega (arith, y, i2, i3, t .within) in
         let d1 : drop (r .size) (drop offset J) ≡ drop (offset + n + m) J =
-        drop-drop (r .size) offset J ∙ (let h : offset + r .size ≡ offset + n + m = omega (arith, y) in rw h) in
-        record {
-          first = r;
-          later = u .later;
-          is = u .is;
-          group = g;
-          listed = rw g at (w .0 .within);
-          bytes = i .bytes ∙ rw (c, drop-drop n offset J);
-          inside = v;
-          long = λ h. sym c ∙ (rw g at (w .0 .long)) h;
-          facing = record {
-            rest = ahead-counts s ws at p l .drops (r .size) (k .on) ∙ rw (t .rest) d1;
-            within = v;
-            read = rw d1 at (u .read);
-            known = w .1;
-          };
-        }
+        drop-drop (r .size) offset J ∙ (let h : offset + r .size ≡ offset + n + m = omega (arith, y) in rw h) in (
+          record {
+            first = r;
+            later = u .later;
+            is = u .is;
+            group = g;
+            listed = rw g at (w .0 .within);
+            bytes = i .bytes ∙ rw (drop-drop n offset J);
+            inside = omega (arith, c, v);
+            long = rw g at (w .0 .long);
+            facing = record {
+              rest = ahead-counts s ws at p l .drops (r .size) (k .on) ∙ rw (t .rest) d1;
+              within = v;
+              read = rw d1 at (u .read);
+              known = w .1;
+            };
+          },
+          v,
+        )
 
--- the id's bytes by another name
-pub step-for : (s : List ℕ) (n : ℕ) (gs ws : List ℕ) (at p l i : ℕ) (x : Step) → n ≡ i → reachedOf x ≡ stepTo s n gs (ahead s ws at p l) at
+-- ---- the record that follows
+pub not-false : (b : Bool) → not b ≡ false → b ≡ true
+not-false true e = refl
+not-false false e = sym e
+
+pub not-true : (b : Bool) → not b ≡ true → b ≡ false
+not-true true e = sym e
+not-true false e = refl
+
+step-for : (s : List ℕ) (n : ℕ) (gs ws : List ℕ) (at p l i : ℕ) (x : Step) → n ≡ i → reachedOf x ≡ stepTo s n gs (ahead s ws at p l) at
     → reachedOf x ≡ stepTo s i gs (ahead s ws at p l) at
 step-for s n gs ws at p l i x q e = e ∙ ap (λ (m : ℕ). stepTo s m gs (ahead s ws at p l) at) q
+
+-- the same records are ahead of two places
+pub record Ahead (s : List ℕ) (n : ℕ) (gs ws : List ℕ) (c : Scan) (at p l : ℕ) : Type 0 where
+  pub on : (d : ℕ) → n ≡ idSize s d → (rs : List Frame) → Facing s (idSize s d) gs ws (c .at) (c .position) (c .left) (c .offset) rs
+      → Facing s (idSize s d) gs ws at p l (c .offset) rs
+
+pub ahead-begin : {s : List ℕ} {n : ℕ} {gs ws : List ℕ} {c : Scan} → Ahead s n gs ws c (c .at) (c .position) (c .left)
+ahead-begin = record { on = λ d i rs f. f }
+
+module _ (s : List ℕ) (n : ℕ) (gs ws ids sizes : List ℕ) (c : Scan) where
+  pub found-without : n ≡ 0 → FoundAt s n gs ws ids sizes c (record { some = false; group = 0; place = 0; past = c })
+  found-without z = record {
+    further = λ e. absurd (false≢true e);
+    number = refl;
+    right = λ d i h tb few rs f. absurd (omega arith);
+  }
+
+  module _ {at p l : ℕ} (t : Ahead s n gs ws c at p l) {here : ℕ} (is : here ≡ length (part p l s)) where
+    pub ahead-move : {o z : ℕ} → here ≡ 0 → at + 3 ≤ length ws → o ≡ getD ws at 0 → z ≡ getD ws (at + 1) 0 → Ahead s n gs ws c (at + 3) o z
+    ahead-move q h x y = record { on = λ d i rs f. face-move (t .on d i rs f) is q h x y }
+
+    pub found-end : here ≡ 0 → length ws < at + 3 → FoundAt s n gs ws ids sizes c (record { some = false; group = 0; place = 0; past = c })
+    found-end q h = record {
+      further = λ e. absurd (false≢true e);
+      number = refl;
+      right = λ d i some tb few rs f. (λ e. face-end (t .on d i rs f) is q h, λ e. absurd (false≢true e));
+    }
+
+    module _ (q : here ≡ 0 → ⊥) (x : Step) (e : Tabled s gs ids sizes → reachedOf x ≡ stepTo s n gs (ahead s ws at p l) at) where
+      pub found-broken : x ≡ Broken → FoundAt s n gs ws ids sizes c (record { some = false; group = 0; place = 0; past = c })
+      found-broken b = record {
+        further = λ e. absurd (false≢true e);
+        number = refl;
+        right = λ d i some tb few rs f.
+            absurd (face-broken (t .on d i rs f) is q (step-for s n gs ws at p l (idSize s d) x i (e tb)) b);
+      }
+
+      module _ {j m p' l' : ℕ} {y : Framing} (b : x ≡ Record j m y p' l') where
+        -- numbers of 64 bits are enough
+        pub found-far : most64 < c .offset + n + m → FoundAt s n gs ws ids sizes c (record { some = false; group = 0; place = 0; past = c })
+        found-far h = record {
+          further = λ e. absurd (false≢true e);
+          number = refl;
+          right = λ d i some tb few rs f.
+              let a = face-record (t .on d i rs f) is q (step-for s n gs ws at p l (idSize s d) x i (e tb)) b .1 in
+              absurd (omega (arith, h, a, few, i));
+        }
+
+        pub found-record : 0 < n → c .offset + n + m ≤ most64
+            → FoundAt s n gs ws ids sizes c
+            (record {
+              some = true;
+              group = j;
+              place = c .offset + n;
+              past = record { at = y .at; position = p'; left = l'; offset = c .offset + n + m; number = c .number };
+            })
+        found-record z h = record {
+          further = λ _. (omega arith, h);
+          number = refl;
+          right = λ d i some tb few rs f. (
+            λ e. absurd (false≢true (sym e)),
+            λ _.
+                let a = face-record (t .on d i rs f) is q (step-for s n gs ws at p l (idSize s d) x i (e tb)) b .0 in
+                subst (λ (k : ℕ). Faced s (idSize s d) gs ws rs j (c .offset + k) (y .at) p' l' (c .offset + k + m)) (sym i) a,
+          );
+        }
 
 -- ---- the records of one group: those of rs are the group's from number i on
 pub record Numbered (s : List ℕ) (d k : ℕ) (gs ws : List ℕ) (rs : List Frame) (i : ℕ) : Type 0 where
@@ -266,7 +328,7 @@ module _ {s : List ℕ} {d k : ℕ} {gs ws : List ℕ} {rs : List Frame} {i : �
       let c = length-drop i (groupRecords s d k gs (fragmentsOf ws)) in
       omega arith
 
-  module _ {n offset j m at' p' l' : ℕ} (f : Faced s n gs ws offset rs j m at' p' l') where
+  module _ {n j place at' p' l' offset' : ℕ} (f : Faced s n gs ws rs j place at' p' l' offset') where
     pub numbered-other : (j ≡ k → ⊥) → Numbered s d k gs ws (f .later) i
     numbered-other q =
         let g = f .group in
@@ -287,24 +349,12 @@ module _ {s : List ℕ} {d k : ℕ} {gs ws : List ℕ} {rs : List Frame} {i : �
     pub own-low : j ≡ k → i < length (groupRecords s d k gs (fragmentsOf ws))
     own-low q = drop-low (groupRecords s d k gs (fragmentsOf ws)) i (own-here q)
 
-    pub own-at : j ≡ k → isStorage s (getD gs k 0) ≡ false → RecordAt s d k gs ws i (offset + n)
+    pub own-at : j ≡ k → isStorage s (getD gs k 0) ≡ false → RecordAt s d k gs ws i place
     own-at q h =
         let a = own-here q in
-        let e : m ≡ bodyBytes s (getD gs k 0) = rw q at (f .long) h in
+        let e : length (f .first .bytes) ≡ bodyBytes s (getD gs k 0) = rw q at (f .long) h in
         let v = f .inside in
         record {
           is = a ∙ rw (f .bytes, e, drop-next (groupRecords s d k gs (fragmentsOf ws)) i a);
           inside = omega (arith, e, v);
         }
-
--- ---- turns: each record takes bytes, each other turn a fragment's words
-turns-more : (a b k : ℕ) → 0 < b → k + a * k ≤ (a + b) * k
-turns-more a zero k h = absurd (omega arith)
-turns-more a (suc b) k h = let e = add-mul a (suc b) k in let f = suc-mul b k in omega arith
-
-pub turn-less : (most words at offset at' offset' : ℕ) → offset < offset' → offset' ≤ most
-    → (most - offset') * (words + 1) + (words - at') < (most - offset) * (words + 1) + (words - at)
-turn-less most words at offset at' offset' h i =
-    let e : most - offset' + (offset' - offset) ≡ most - offset = omega arith in
-    let a = rw e at (turns-more (most - offset') (offset' - offset) (words + 1) (omega arith)) in
-    omega arith

@@ -11,6 +11,7 @@ pub mod ScanLaws
 pub mod Pool
 pub mod Longer
 pub mod LongerLaws
+pub mod Facing
 pub mod FacingLaws
 pub mod NextLaws
 pub mod PoolLaws

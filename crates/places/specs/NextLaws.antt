@@ -1,20 +1,15 @@
 -- Laws of the next records of one of several groups.
 use Prim.Native.Nat.{ℕ, zero, suc, _+_, _≤_, _<_}
-use mathlib.Core.List.{List}
+use mathlib.Core.Bool.{true, false}
+use mathlib.Core.List.{List, []}
 use mathlib.Core.Path.{_≡_, refl, sym, ap, _∙_, subst}
 use mathlib.Core.Logic.{_⊎_, inl, inr}
 use native.Mathlib.Omega.{arith}
-use lib.ListN.{length, getD}
-use Rattle.base.specs.Blit.{part}
+use lib.ListN.{length}
 use Rattle.mdf.specs.Walk.{idSize}
 use Rattle.mdf.specs.Records.{most64, Frame}
 use Rattle.work_words.specs.Words.{fragmentsOf}
 use Rattle.result.specs.Payload.{groupRecords}
-use Rattle.records.specs.declared.framing.Step.{Step}
-use Rattle.records.specs.declared.framing.Step.the-variants.{Broken, Record}
-use Rattle.records.specs.declared.framing.Framing.{Framing}
-use Rattle.records.specs.Ahead.{ahead, stepTo}
-use Rattle.records.specs.Answer.{reachedOf}
 use Rattle.records.specs.Table.{Tabled}
 use Rattle.places.specs.declared.stretch.Stretch.{Stretch}
 use Rattle.places.specs.declared.stretch.Scan.{Scan}
@@ -22,8 +17,9 @@ use Rattle.places.specs.Stretch.{Ready, StretchOf}
 use Rattle.places.specs.StretchLaws.{stretch-none}
 use Rattle.places.specs.Scan.{ScanOf, NextOf, NextBy}
 use Rattle.places.specs.Longer.{RecordAt, LongerBy}
-use Rattle.places.specs.FacingLaws.{Whole, whole-checked, group-framed, Facing, Faced, face-move, face-end, face-broken, face-record}
-use Rattle.places.specs.FacingLaws.{step-for, Numbered, numbered-end, numbered-other, numbered-own, own-low, own-at, framed-is}
+use Rattle.places.specs.declared.frame.Found.{Found}
+use Rattle.places.specs.Facing.{Facing, Faced, FoundAt}
+use Rattle.places.specs.FacingLaws.{Whole, whole-checked, group-framed, Numbered, numbered-end, numbered-other, numbered-own, own-low, own-at, framed-is}
 
 -- the records found so far are a stretch, and the others of the group are ahead of the place c
 pub record Nexting (s : List ℕ) (d k : ℕ) (gs ws : List ℕ) (c₀ : Scan) (t : Stretch) (c : Scan) : Type 0 where
@@ -56,10 +52,6 @@ module _ (s : List ℕ) (n k : ℕ) (gs ws ids sizes : List ℕ) (c₀ : Scan) w
         from = refl;
         to = omega arith;
       }
-
-  -- without ids there are no records
-  pub next-without : (t : Stretch) (c : Scan) → n ≡ 0 → NextBy s n k gs ws ids sizes c₀ (record { stretch = t; scan = c })
-  next-without t c z d e o tb r v = let a = whole-ready d o r .id in absurd (omega (arith, a, e, z))
 
   -- the place is one of the group's
   module _ {t : Stretch} {c : Scan} (g : Going s n k gs ws ids sizes c₀ t c) where
@@ -97,98 +89,80 @@ module _ (s : List ℕ) (n k : ℕ) (gs ws ids sizes : List ℕ) (c₀ : Scan) w
         zero-or zero f = f refl
         zero-or (suc m) f = omega arith
 
-    module _ {here : ℕ} (is : here ≡ length (part (c .position) (c .left) s)) where
-      -- no bytes here: the next fragment, or the end
-      pub going-move : {at' o z : ℕ} → at' ≡ c .at → here ≡ 0 → at' + 3 ≤ length ws → o ≡ getD ws at' 0 → z ≡ getD ws (at' + 1) 0
-          → Going s n k gs ws ids sizes c₀ t (record { at = at' + 3; position = o; left = z; offset = c .offset; number = c .number })
-      going-move e q h x y d i o tb r v =
-          let u = g d i o tb r v in
-          record {
-            frames = u .frames;
-            facing = rw e (face-move (u .facing) is q (rw e at h) (rw e at x) (rw e at y));
-            numbered = u .numbered;
-            stretch = u .stretch;
-            from = u .from;
-            to = u .to;
-          }
+    module _ {x : Found} (f : FoundAt s n gs ws ids sizes c x) where
+      found : (d : ℕ) → n ≡ idSize s d → (length gs ≡ 1 → ⊥) → Tabled s gs ids sizes → Ready s d k gs ws → (u : Nexting s d k gs ws c₀ t c)
+          → (x .some ≡ false → u .frames ≡ [])
+          × (x .some ≡ true
+          → Faced s (idSize s d) gs ws (u .frames) (x .group) (x .place) (x .past .at) (x .past .position) (x .past .left) (x .past .offset))
+      found d i o tb r u = let w = whole-ready d o r in let z = w .id in f .right d i (omega (arith, z, i)) tb (w .bytes) (u .frames) (u .facing)
 
-      pub next-end : here ≡ 0 → length ws < c .at + 3 → NextBy s n k gs ws ids sizes c₀ (record { stretch = t; scan = c })
-      next-end q h d i o tb r v =
+      pub next-end : x .some ≡ false → NextBy s n k gs ws ids sizes c₀ (record { stretch = t; scan = c })
+      next-end q d i o tb r v =
           let u = g d i o tb r v in
-          let a = numbered-end (u .numbered) (face-end (u .facing) is q h) in
+          let a = numbered-end (u .numbered) (found d i o tb r u .0 q) in
           next-is d o r u (λ b. absurd (omega arith))
 
-      module _ (q : here ≡ 0 → ⊥) (x : Step) (e : Tabled s gs ids sizes → reachedOf x ≡ stepTo s n gs (ahead s ws (c .at) (c .position) (c .left)) (c .at))
+      -- a record that doesn't lie at the distance of the others
+      pub next-stop : {p : ℕ} {u : Stretch} → LongerBy t p u → u .count ≡ t .count
+          → NextBy s n k gs ws ids sizes c₀ (record { stretch = t; scan = c })
+      next-stop a z d i o tb r v =
+          next-is d o r (g d i o tb r v) (λ _. some (t .count) (λ w. let y = a .first w in omega (arith, y, z, w)))
         where
-          pub next-broken : x ≡ Broken → NextBy s n k gs ws ids sizes c₀ (record { stretch = t; scan = c })
-          next-broken b d i o tb r v = absurd (face-broken (g d i o tb r v .facing) is q (step-for s n gs ws (c .at) (c .position) (c .left) (idSize s d) x i (e tb)) b)
+          some : (m : ℕ) → (m ≡ 0 → ⊥) → 0 < m
+          some m h = omega arith
 
-          module _ {j m p' l' : ℕ} {f : Framing} (b : x ≡ Record j m f p' l') where
-            faced : (d : ℕ) (i : n ≡ idSize s d) (tb : Tabled s gs ids sizes) (u : Nexting s d k gs ws c₀ t c)
-                → Faced s (idSize s d) gs ws (c .offset) (u .frames) j m (f .at) p' l'
-            faced d i tb u = face-record (u .facing) is q (step-for s n gs ws (c .at) (c .position) (c .left) (idSize s d) x i (e tb)) b
+      module _ (q : x .some ≡ true) where
+        -- numbers of 64 bits are enough
+        pub next-many : x .group ≡ k → most64 ≤ c .number → NextBy s n k gs ws ids sizes c₀ (record { stretch = t; scan = c })
+        next-many y h d i o tb r v =
+            let u = g d i o tb r v in
+            let w = whole-ready d o r in
+            let z = r .listed in
+            let a = own-low (u .numbered) (found d i o tb r u .1 q) y in
+            let l = ap length (framed-is s d k gs ws o w (omega arith)) in
+            let z = w .records k in
+            absurd (omega (arith, h, a, l, z))
 
-            -- numbers of 64 bits are enough
-            pub next-far : most64 < c .offset + n + m → NextBy s n k gs ws ids sizes c₀ (record { stretch = t; scan = c })
-            next-far h d i o tb r v =
-                let u = g d i o tb r v in
-                let a = faced d i tb u .inside in
-                let z = whole-ready d o r .bytes in
-                absurd (omega (arith, h, a, z, i))
+        pub going-other : (x .group ≡ k → ⊥) → Going s n k gs ws ids sizes c₀ t (x .past)
+        going-other y d i o tb r v =
+            let u = g d i o tb r v in
+            let a = found d i o tb r u .1 q in
+            let e = f .number in
+            record {
+              frames = a .later;
+              facing = a .facing;
+              numbered = subst (λ (m : ℕ). Numbered s d k gs ws (a .later) m) (sym e) (numbered-other (u .numbered) a y);
+              stretch = u .stretch;
+              from = u .from;
+              to = u .to ∙ sym e;
+            }
 
-            pub next-many : j ≡ k → most64 ≤ c .number → NextBy s n k gs ws ids sizes c₀ (record { stretch = t; scan = c })
-            next-many y h d i o tb r v =
-                let u = g d i o tb r v in
-                let w = whole-ready d o r in
-                let z = r .listed in
-                let a = own-low (u .numbered) (faced d i tb u) y in
-                let l = ap length (framed-is s d k gs ws o w (omega arith)) in
-                let z = w .records k in
-                absurd (omega (arith, h, a, l, z))
-
-            -- a record that doesn't lie at the distance of the others
-            pub next-stop : {p : ℕ} {u : Stretch} → LongerBy t p u → u .count ≡ t .count
-                → NextBy s n k gs ws ids sizes c₀ (record { stretch = t; scan = c })
-            next-stop a z d i o tb r v =
-                next-is d o r (g d i o tb r v) (λ _. some (t .count) (λ w. let y = a .first w in omega (arith, y, z, w)))
-              where
-                some : (m : ℕ) → (m ≡ 0 → ⊥) → 0 < m
-                some m h = omega arith
-
-            pub going-other : (j ≡ k → ⊥) → Going s n k gs ws ids sizes c₀ t
-                (record { at = f .at; position = p'; left = l'; offset = c .offset + n + m; number = c .number })
-            going-other y d i o tb r v =
-                let u = g d i o tb r v in
-                let a = faced d i tb u in
-                record {
-                  frames = a .later;
-                  facing = subst (λ (y : ℕ). Facing s (idSize s d) gs ws (f .at) p' l' (c .offset + y + m) (a .later)) (sym i) (a .facing);
-                  numbered = numbered-other (u .numbered) a y;
-                  stretch = u .stretch;
-                  from = u .from;
-                  to = u .to;
-                }
-
-            pub going-own : {u : Stretch} → j ≡ k → LongerBy t (c .offset + n) u → (u .count ≡ t .count → ⊥)
-                → Going s n k gs ws ids sizes c₀ u
-                (record { at = f .at; position = p'; left = l'; offset = c .offset + n + m; number = c .number + 1 })
-            going-own {u} y lb z d i o tb r v =
-                let w = g d i o tb r v in
-                let a = faced d i tb w in
-                let w1 = w .from in
-                let w2 = w .to in
-                let l1 = lb .from in
-                let h : RecordAt s d k gs ws (t .number + t .count) (c .offset + n) = rw (w2, i) (own-at (w .numbered) a y (r .plain)) in
-                record {
-                  frames = a .later;
-                  facing = subst (λ (y : ℕ). Facing s (idSize s d) gs ws (f .at) p' l' (c .offset + y + m) (a .later)) (sym i) (a .facing);
-                  numbered = numbered-own (w .numbered) a y;
-                  stretch = lb .right s d k gs ws (w .stretch) h;
-                  from = l1 ∙ w1;
-                  to = grown (lb .count) (λ m. omega (arith, l1, w2, m));
-                }
-              where
-                grown : (u .count ≡ t .count) ⊎ (u .count ≡ t .count + 1) → (u .count ≡ t .count + 1 → u .number + u .count ≡ c .number + 1)
-                    → u .number + u .count ≡ c .number + 1
-                grown (inl m) h = absurd (z m)
-                grown (inr m) h = h m
+        pub going-own : {u : Stretch} → x .group ≡ k → LongerBy t (x .place) u → (u .count ≡ t .count → ⊥)
+            → Going s n k gs ws ids sizes c₀ u
+            (record {
+              at = x .past .at;
+              position = x .past .position;
+              left = x .past .left;
+              offset = x .past .offset;
+              number = c .number + 1;
+            })
+        going-own {u} y lb z d i o tb r v =
+            let w = g d i o tb r v in
+            let a = found d i o tb r w .1 q in
+            let w1 = w .from in
+            let w2 = w .to in
+            let l1 = lb .from in
+            let h : RecordAt s d k gs ws (t .number + t .count) (x .place) = rw w2 (own-at (w .numbered) a y (r .plain)) in
+            record {
+              frames = a .later;
+              facing = a .facing;
+              numbered = numbered-own (w .numbered) a y;
+              stretch = lb .right s d k gs ws (w .stretch) h;
+              from = l1 ∙ w1;
+              to = grown (lb .count) (λ m. omega (arith, l1, w2, m));
+            }
+          where
+            grown : (u .count ≡ t .count) ⊎ (u .count ≡ t .count + 1) → (u .count ≡ t .count + 1 → u .number + u .count ≡ c .number + 1)
+                → u .number + u .count ≡ c .number + 1
+            grown (inl m) h = absurd (z m)
+            grown (inr m) h = h m

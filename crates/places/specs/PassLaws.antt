@@ -1,24 +1,19 @@
 -- Laws of keeping the stretches of all groups of a DG.
 use Prim.Native.Nat.{ℕ, zero, suc, _+_, _-_, _≤_, _<_}
 use mathlib.Core.List.{List, [], _∷_}
-use mathlib.Core.Bool.{Bool, true, false, not}
-use mathlib.Core.Path.{_≡_, refl, sym, ap, _∙_, subst}
+use mathlib.Core.Bool.{Bool, true, false}
+use mathlib.Core.Path.{_≡_, refl, sym, ap, _∙_}
 use mathlib.Core.Logic.{_⊎_, inl, inr}
 use native.Mathlib.Omega.{arith}
 use lib.ListN.{length, getD, set, replicate, length-set}
 use lib.Seq.{getD-set-same, getD-set-other}
-use Rattle.base.specs.Blit.{part, blit}
+use Rattle.base.specs.Blit.{blit}
 use Rattle.base.specs.Checked.{fine}
 use Rattle.plan.specs.Data.{recordsIn}
 use Rattle.mdf.specs.Walk.{idSize}
 use Rattle.mdf.specs.Group.{isStorage}
 use Rattle.mdf.specs.Records.{equalIds, Frame}
 use Rattle.work_words.specs.Words.{fragmentsOf}
-use Rattle.records.specs.declared.framing.Step.{Step}
-use Rattle.records.specs.declared.framing.Step.the-variants.{Record}
-use Rattle.records.specs.declared.framing.Framing.{Framing}
-use Rattle.records.specs.Ahead.{ahead, stepTo}
-use Rattle.records.specs.Answer.{reachedOf}
 use Rattle.records.specs.Table.{sizeWord, Tabled}
 use Rattle.records.specs.FragmentLaws.{eq-or-ne}
 use Rattle.places.specs.declared.stretch.Stretch.{Stretch}
@@ -28,8 +23,9 @@ use Rattle.places.specs.StretchLaws.{stretch-one, number-apart}
 use Rattle.places.specs.Pool.{keptIn, entryAt, stretchIn, RightOf, Pooled, KeptIn, KeepsRight}
 use Rattle.places.specs.PoolLaws.{entryWords, pooled-back, pooled-past, pooled-put, pooled-more}
 use Rattle.places.specs.Longer.{RecordAt, LongerBy}
-use Rattle.places.specs.FacingLaws.{whole-checked, Facing, Faced, face-start, face-move, face-record}
-use Rattle.places.specs.FacingLaws.{step-for, Numbered, numbered-start, numbered-other, numbered-own, own-at}
+use Rattle.places.specs.declared.frame.Found.{Found}
+use Rattle.places.specs.Facing.{Facing, Faced, FoundAt}
+use Rattle.places.specs.FacingLaws.{whole-checked, face-start, Numbered, numbered-start, numbered-other, numbered-own, own-at}
 use Rattle.places.specs.Pass.{KeepsAll, KeepsRecord, EndsAt, TakesRecord, Passes}
 
 -- ---- words
@@ -89,10 +85,6 @@ pub keeps-back : (p : List ℕ) (n : ℕ) → n < keptIn p → KeepsAll p (set p
 keeps-back p n h s gsOf wsOf w = pooled-back n w (omega arith)
 
 -- ---- one record of group j
-pub not-false : (b : Bool) → not b ≡ false → b ≡ true
-not-false true e = refl
-not-false false e = sym e
-
 pub takes-same : {d j a : ℕ} {gs sizes counts p : List ℕ} → TakesRecord d gs sizes j a counts p p
 takes-same = record { keeps = λ s gsOf wsOf f w. w }
 
@@ -143,66 +135,58 @@ module _ (s : List ℕ) (d n : ℕ) (gs ws ids sizes p₀ : List ℕ) where
   pub passing-done : {p counts : List ℕ} {c : Scan} → PassingOn s d n gs ws ids sizes p₀ p counts c → Passes s d n gs ws ids sizes p₀ p
   passing-done g gsOf wsOf a b v i h tb w = g gsOf wsOf a b v i h tb w .0
 
-  module _ {p counts : List ℕ} {c : Scan} (g : PassingOn s d n gs ws ids sizes p₀ p counts c) {here : ℕ}
-      (is : here ≡ length (part (c .position) (c .left) s)) where
-    pub passing-move : {at' o z m : ℕ} → at' ≡ c .at → here ≡ 0 → at' + 3 ≤ length ws → o ≡ getD ws at' 0 → z ≡ getD ws (at' + 1) 0
-        → PassingOn s d n gs ws ids sizes p₀ p counts (record { at = at' + 3; position = o; left = z; offset = c .offset; number = m })
-    passing-move e q l x y gsOf wsOf a b v i h tb w =
-        let u = g gsOf wsOf a b v i h tb w in (
-          u .0,
+  module _ {p counts : List ℕ} {c : Scan} (g : PassingOn s d n gs ws ids sizes p₀ p counts c) {x : Found} (f : FoundAt s n gs ws ids sizes c x)
+      (q : x .some ≡ true) {p' : List ℕ} (k : TakesRecord d gs sizes (x .group) (x .place) counts p p') where
+    faced : n ≡ idSize s d → recordsIn s d gs (fragmentsOf ws) ≡ fine → 1 < length gs → Tabled s gs ids sizes → (u : Passing s d gs ws counts c)
+        → Faced s (idSize s d) gs ws (u .frames) (x .group) (x .place) (x .past .at) (x .past .position) (x .past .left) (x .past .offset)
+    faced i v h tb u =
+        let w = whole-checked s d gs ws (several-of h) (omega arith) v in
+        let z = w .id in
+        f .right d i (omega (arith, z, i)) tb (w .bytes) (u .frames) (u .facing) .1 q
+
+    record-here : n ≡ idSize s d → recordsIn s d gs (fragmentsOf ws) ≡ fine → 1 < length gs → Tabled s gs ids sizes → Passing s d gs ws counts c
+        → (gsOf wsOf : ℕ → List ℕ)
+        → gsOf d ≡ gs → wsOf d ≡ ws → x .group < 512 → (getD sizes (x .group) 0 ≡ 0 → ⊥)
+        → RecordAt s d (numberIn (getD gs (x .group) 0) (gsOf d)) (gsOf d) (wsOf d) (getD counts (x .group) 0) (x .place)
+    record-here i e h tb u gsOf wsOf a o l z =
+        let y = faced i e h tb u in
+        let r = number-apart s gs (x .group) (tb .apart) (y .listed) in
+        let m = not-storage s (getD gs (x .group) 0) (λ h. z (tb .size-of (x .group) (y .listed) l ∙ h)) in
+        let v : RecordAt s d (x .group) gs ws (getD counts (x .group) 0) (x .place) = own-at (u .numbered (x .group) (y .listed) l) y refl m in
+        rw (a, o, r) v
+
+    -- it is kept, and those before
+    pub passing-out : Passes s d n gs ws ids sizes p₀ p'
+    passing-out gsOf wsOf a o v i h tb w =
+        let u = g gsOf wsOf a o v i h tb w in k .keeps s gsOf wsOf (record-here i v h tb (u .1) gsOf wsOf a o) (u .0)
+
+    pub passing-counted : {counts' : List ℕ} → length counts ≡ 512 → counts' ≡ set counts (x .group) (getD counts (x .group) 0 + 1)
+        → length counts' ≡ 512
+    passing-counted h z = ap length z ∙ length-set counts (x .group) (getD counts (x .group) 0 + 1) ∙ h
+
+    pub passing-record : {counts' : List ℕ} → length counts ≡ 512 → counts' ≡ set counts (x .group) (getD counts (x .group) 0 + 1)
+        → PassingOn s d n gs ws ids sizes p₀ p' counts' (x .past)
+    passing-record {counts'} l z gsOf wsOf a o v i h tb w =
+        let u = g gsOf wsOf a o v i h tb w in
+        let t = faced i v h tb (u .1) in (
+          passing-out gsOf wsOf a o v i h tb w,
           record {
-            frames = u .1 .frames;
-            facing = rw e (face-move (u .1 .facing) is q (rw e at l) (rw e at x) (rw e at y));
-            numbered = u .1 .numbered;
+            frames = t .later;
+            facing = t .facing;
+            numbered = λ r low few. rw z (go (u .1) t r low few (eq-or-ne r (x .group)));
           },
         )
-
-    module _ (q : here ≡ 0 → ⊥) (x : Step)
-        (e : Tabled s gs ids sizes → reachedOf x ≡ stepTo s n gs (ahead s ws (c .at) (c .position) (c .left)) (c .at)) {j m p' l' : ℕ} {f : Framing}
-        (b : x ≡ Record j m f p' l') {p'' : List ℕ} (k : TakesRecord d gs sizes j (c .offset + n) counts p p'') where
-      faced : (i : n ≡ idSize s d) (tb : Tabled s gs ids sizes) (u : Passing s d gs ws counts c)
-          → Faced s (idSize s d) gs ws (c .offset) (u .frames) j m (f .at) p' l'
-      faced i tb u = face-record (u .facing) is q (step-for s n gs ws (c .at) (c .position) (c .left) (idSize s d) x i (e tb)) b
-
-      record-here : (i : n ≡ idSize s d) (tb : Tabled s gs ids sizes) (u : Passing s d gs ws counts c) (gsOf wsOf : ℕ → List ℕ)
-          → gsOf d ≡ gs → wsOf d ≡ ws → j < 512 → (getD sizes j 0 ≡ 0 → ⊥)
-          → RecordAt s d (numberIn (getD gs j 0) (gsOf d)) (gsOf d) (wsOf d) (getD counts j 0) (c .offset + n)
-      record-here i tb u gsOf wsOf a o l z =
-          let y = faced i tb u in
-          let r = number-apart s gs j (tb .apart) (y .listed) in
-          let h = not-storage s (getD gs j 0) (λ h. z (tb .size-of j (y .listed) l ∙ h)) in
-          let v : RecordAt s d j gs ws (getD counts j 0) (c .offset + idSize s d) = own-at (u .numbered j (y .listed) l) y refl h in
-          rw (a, o, r, i) v
-
-      -- it is kept, and those before
-      pub passing-out : Passes s d n gs ws ids sizes p₀ p''
-      passing-out gsOf wsOf a o v i h tb w =
-          let u = g gsOf wsOf a o v i h tb w in k .keeps s gsOf wsOf (record-here i tb (u .1) gsOf wsOf a o) (u .0)
-
-      pub passing-counted : {counts' : List ℕ} → length counts ≡ 512 → counts' ≡ set counts j (getD counts j 0 + 1) → length counts' ≡ 512
-      passing-counted h z = ap length z ∙ length-set counts j (getD counts j 0 + 1) ∙ h
-
-      pub passing-record : {counts' : List ℕ} {y : ℕ} → length counts ≡ 512 → counts' ≡ set counts j (getD counts j 0 + 1)
-          → PassingOn s d n gs ws ids sizes p₀ p'' counts'
-          (record { at = f .at; position = p'; left = l'; offset = c .offset + n + m; number = y })
-      passing-record {counts'} l z gsOf wsOf a o v i h tb w =
-          let u = g gsOf wsOf a o v i h tb w in
-          let t = faced i tb (u .1) in (
-            passing-out gsOf wsOf a o v i h tb w,
-            record {
-              frames = t .later;
-              facing = subst (λ (y : ℕ). Facing s (idSize s d) gs ws (f .at) p' l' (c .offset + y + m) (t .later)) (sym i) (t .facing);
-              numbered = λ r low few. rw z (go (u .1) t r low few (eq-or-ne r j));
-            },
-          )
-        where
-          go : (u : Passing s d gs ws counts c) (t : Faced s (idSize s d) gs ws (c .offset) (u .frames) j m (f .at) p' l') (r : ℕ) → r < length gs
-              → r < 512 → (r ≡ j) ⊎ (r ≡ j → ⊥) → Numbered s d r gs ws (t .later) (getD (set counts j (getD counts j 0 + 1)) r 0)
-          go u t r low few (inl y) =
-              let x : getD (set counts j (getD counts j 0 + 1)) j 0 ≡ getD counts j 0 + 1 = getD-set-same counts j (getD counts j 0 + 1) 0 (omega arith) in
-              rw (y, x) (rw y at (numbered-own (u .numbered r low few) t (sym y)))
-          go u t r low few (inr y) =
-              rw (getD-set-other counts j r (getD counts j 0 + 1) 0 y) (numbered-other (u .numbered r low few) t (λ z. y (sym z)))
+      where
+        go : (u : Passing s d gs ws counts c)
+            (t : Faced s (idSize s d) gs ws (u .frames) (x .group) (x .place) (x .past .at) (x .past .position) (x .past .left) (x .past .offset))
+            (r : ℕ) → r < length gs → r < 512 → (r ≡ x .group) ⊎ (r ≡ x .group → ⊥)
+            → Numbered s d r gs ws (t .later) (getD (set counts (x .group) (getD counts (x .group) 0 + 1)) r 0)
+        go u t r low few (inl y) =
+            let e : getD (set counts (x .group) (getD counts (x .group) 0 + 1)) (x .group) 0 ≡ getD counts (x .group) 0 + 1 =
+            getD-set-same counts (x .group) (getD counts (x .group) 0 + 1) 0 (omega arith) in
+            rw (y, e) (rw y at (numbered-own (u .numbered r low few) t (sym y)))
+        go u t r low few (inr y) =
+            rw (getD-set-other counts (x .group) r (getD counts (x .group) 0 + 1) 0 y) (numbered-other (u .numbered r low few) t (λ z. y (sym z)))
 
 -- ---- the whole
 pub fills-none : (s : List ℕ) (d : ℕ) (gs ws p : List ℕ) → KeepsRight s d gs ws p p

@@ -1,19 +1,17 @@
--- Kept stretches stay right: one is put, one more is kept, one is made longer, fewer are kept, other words change.
-use Prim.Native.Nat.{ℕ, zero, suc, _+_, _*_, _-_, _≤_, _<_}
+-- Kept stretches stay right: one is put, one more is kept, fewer are kept, other words change; and what is sought among them is right.
+use Prim.Native.Nat.{ℕ, zero, suc, _+_, _-_, _≤_, _<_}
 use mathlib.Core.List.{List, [], _∷_}
-use mathlib.Core.Path.{_≡_, refl, sym, ap, _∙_}
+use mathlib.Core.Path.{_≡_, refl, sym, _∙_}
 use mathlib.Core.Logic.{_⊎_, inl, inr, ⊎-elim}
 use native.Mathlib.Nat.{add-zero}
 use native.Mathlib.Omega.{arith}
-use lib.ListN.{length, getD, set, length-set, replicate}
+use lib.ListN.{length, getD, set, replicate}
 use lib.Seq.{getD-set-same, getD-set-other, set-out}
 use Rattle.base.specs.Blit.{blit}
-use Rattle.base.specs.BlitLaws.{length-blit}
 use Rattle.records.specs.FragmentLaws.{lt-or-le, eq-or-ne}
 use Rattle.records.specs.SeveralLaws.{getD-blit}
 use Rattle.places.specs.declared.stretch.Stretch.{Stretch}
-use Rattle.places.specs.declared.pool.Held.{Held}
-use Rattle.places.specs.Pool.{keptIn, entryAt, stretchIn, RightOf, Pooled, KeptIn, EntryFor, HeldFor, HeldIn}
+use Rattle.places.specs.Pool.{keptIn, entryAt, stretchIn, RightOf, Pooled, KeptIn, EntryFor, HeldIn}
 
 -- ---- words
 -- the six words of an entry
@@ -121,37 +119,6 @@ module _ {s : List ℕ} {gsOf wsOf : ℕ → List ℕ} where
   pooled-more {p} i d g t w e h r =
       let k : keptIn (blit (entryAt i) (entryWords d g t) p) ≡ keptIn p = outside (entryWords d g t) (entryAt i) 0 p (inl (omega arith)) in
       pooled-keep i (pooled-put i d g t w h r) (e ∙ sym k) (stands-put s gsOf wsOf p i d g t h r)
-
-  -- entry i with another distance and count
-  pub pooled-longer : {p : List ℕ} (i stride count : ℕ) → Pooled s gsOf wsOf p → entryAt i + 6 ≤ length p
-      → RightOf s gsOf wsOf (getD p (entryAt i) 0) (getD p (entryAt i + 1) 0)
-      (record { number = getD p (entryAt i + 2) 0; first = getD p (entryAt i + 3) 0; stride = stride; count = count })
-      → Pooled s gsOf wsOf (set (set p (entryAt i + 4) stride) (entryAt i + 5) count)
-  pooled-longer {p} i stride count w h r =
-      let k : keptIn q ≡ keptIn p = kept 0 (λ e. omega arith) (λ e. omega arith) in
-      record { right = λ j l. at-place j (eq-or-ne j i) (omega arith) }
-    where
-      q : List ℕ
-      q = set (set p (entryAt i + 4) stride) (entryAt i + 5) count
-
-      kept : (j : ℕ) → (j ≡ entryAt i + 4 → ⊥) → (j ≡ entryAt i + 5 → ⊥) → getD q j 0 ≡ getD p j 0
-      kept j m n = getD-set-other (set p (entryAt i + 4) stride) (entryAt i + 5) j count 0 n ∙ getD-set-other p (entryAt i + 4) j stride 0 m
-
-      here : Stands s gsOf wsOf q i
-      here =
-          let e4 : getD q (entryAt i + 4) 0 ≡ stride = getD-set-other (set p (entryAt i + 4) stride) (entryAt i + 5) (entryAt i + 4) count 0 (λ e. omega arith)
-          ∙ getD-set-same p (entryAt i + 4) stride 0 (omega arith) in
-          let e5 : getD q (entryAt i + 5) 0 ≡ count = getD-set-same (set p (entryAt i + 4) stride) (entryAt i + 5) count 0 (rw length-set (omega arith)) in
-          rw (kept (entryAt i) (λ e. omega arith) (λ e. omega arith), kept (entryAt i + 1) (λ e. omega arith) (λ e. omega arith), kept (entryAt i + 2) (λ e. omega arith) (λ e. omega arith), kept (entryAt i + 3) (λ e. omega arith) (λ e. omega arith), e4, e5)
-          r
-
-      at-place : (j : ℕ) → (j ≡ i) ⊎ (j ≡ i → ⊥) → j < keptIn p → Stands s gsOf wsOf q j
-      at-place j (inl e) l = rw e here
-      at-place j (inr n) l =
-          stands-same s gsOf wsOf p q j (λ a b. kept (entryAt j + a) (far 4 (omega arith) n b) (far 5 (omega arith) n b)) (w .right j l)
-        where
-          far : {a : ℕ} (c : ℕ) → c < 6 → (j ≡ i → ⊥) → a < 6 → entryAt j + a ≡ entryAt i + c → ⊥
-          far {a} c m n b e = ⊎-elim (λ z. omega arith) (λ z. omega arith) (apart i j a n b)
 
 -- ---- one is sought
 abbrev pub nothing : Stretch

@@ -1,5 +1,5 @@
 -- The run of one kind that fragments begin with is the first of their runs; fragments without bytes have no records.
-use Prim.Native.Nat.{ℕ, zero, suc, _+_, _*_, _/_, _%_, _-_, _≤_, _<_}
+use Prim.Native.Nat.{ℕ, _+_, _%_, _-_, _≤_, _<_}
 use mathlib.Core.Bool.{Bool, true, false, not, Bool·beq}
 use mathlib.Core.List.{List, [], _∷_, _++_, append-assoc}
 use mathlib.Core.Path.{_≡_, refl, sym, ap, _∙_, subst}
@@ -7,8 +7,8 @@ use mathlib.Core.Logic.{_⊎_, inl, inr, ⊎-elim}
 use native.Mathlib.Nat.{zero-div, zero-mod, eq-zero-or-pos}
 use native.Mathlib.Omega.{arith}
 use lib.ListN.{length, getD}
-use Rattle.base.specs.Choice.{pick, ifEq}
-use Rattle.base.specs.ChoiceLaws.{lt-back, lt-no, eq-yes, eq-no, eq-first}
+use Rattle.base.specs.Choice.{pick}
+use Rattle.base.specs.ChoiceLaws.{lt-no, eq-yes, eq-no, eq-first}
 use Rattle.base.specs.Blit.{part}
 use Rattle.base.specs.Checked.{refused, andThen, Verdict, fine}
 use Rattle.base.specs.CheckedLaws.{refused≢ok, then-fine}
@@ -19,7 +19,7 @@ use Rattle.work_words.specs.Words.{kindOf}
 use Rattle.payload_laws.specs.Answers.{eq-cases, false≢true}
 use Rattle.records.specs.Straddle.{kindIf}
 use Rattle.records.specs.Ahead.{fragmentAt, fragmentsFrom}
-use Rattle.records.specs.FragmentLaws.{lt-or-le, from-more, from-none, ranges-head, ranges-tail, kind-if}
+use Rattle.records.specs.FragmentLaws.{from-more, from-none, ranges-head, ranges-tail, kind-if}
 use Rattle.places.specs.Run.{ifKind, withBytes, ofKind, pastKind, Begins, never, first, PassedBy}
 
 abbrev run : Kind → List Fragment → Run
@@ -293,14 +293,6 @@ with-any (f ∷ fs) e = ⊎-elim
     (λ q. ap anyDV (q .1) ∙ e)
     (with-cases f fs)
 
-pub with-size : (fs : List Fragment) → sizeOf (withBytes fs) ≡ sizeOf fs
-unfolding withBytes sizeOf
-with-size [] = refl
-with-size (f ∷ fs) = ⊎-elim
-    (λ q. let a = ap sizeOf (q .1) in let b = with-size fs in let c = q .0 in omega arith)
-    (λ q. ap sizeOf (sym (q .1)))
-    (with-cases f fs)
-
 -- ---- by the words
 pub begins-none : (ws : List ℕ) (i : ℕ) → length ws < i + 3 → Begins dt (fragmentsFrom ws i)
 begins-none ws i h = subst (Begins dt) (sym (from-none ws i h)) (never refl)
@@ -401,8 +393,5 @@ module _ {ws : List ℕ} (c : Bool) {at i bytes : ℕ} (p : Passing ws (kindIf c
         record { bytes = λ m. absurd (no m); past = λ m. absurd (no m) }
 
 -- ---- the id of a record
-pub id-none : (s : List ℕ) (d : ℕ) {b : Bool} → b ≡ true → 0 ≡ idBytes s d (kindIf b)
-id-none s d e = rw e
-
 pub id-some : (s : List ℕ) (d : ℕ) {b : Bool} {r : ℕ} → b ≡ false → r ≡ idSize s d → r ≡ idBytes s d (kindIf b)
 id-some s d e q = rw e q

@@ -1,24 +1,22 @@
 -- The place before all records is one up to which records were found.
-use Prim.Native.Nat.{ℕ, _<_, _≤_}
-use mathlib.Core.List.{List, [], _∷_, _++_}
-use mathlib.Core.Path.{_≡_, refl, sym, ap, _∙_}
+use Prim.Native.Nat.{ℕ, _<_}
+use mathlib.Core.List.{List, [], _∷_}
+use mathlib.Core.Path.{_≡_, refl, _∙_}
 use native.Mathlib.Omega.{arith}
 use lib.ListN.{length, getD}
 use Rattle.base.specs.Checked.{ok, fine}
 use Rattle.base.specs.CheckedLaws.{then-ok}
 use Rattle.base.specs.Blit.{part}
-use Rattle.mdf.specs.Walk.{idSize}
-use Rattle.mdf.specs.Records.{joined, Frame, unsortedFrames, unsortedRecords}
+use Rattle.mdf.specs.Records.{joined, Frame, unsortedFrames}
 use Rattle.plan.specs.Data.{recordsIn}
-use Rattle.result.specs.Payload.{framedRecords}
 use Rattle.work_words.specs.Words.{fragmentsOf}
-use Rattle.payload_laws.specs.FramedLaws.{Several, unsorted-several}
-use Rattle.records.specs.Ahead.{ahead, fragmentsFrom}
+use Rattle.payload_laws.specs.FramedLaws.{unsorted-several}
+use Rattle.records.specs.Ahead.{ahead}
 use Rattle.records.specs.AheadLaws.{joined-ahead}
 use Rattle.records.specs.FragmentLaws.{from-start}
 use Rattle.places.specs.Stretch.{Ready}
 use Rattle.places.specs.Sorted.{SortedScan}
-use Rattle.places.specs.Several.{WholeFrames, SeveralScan}
+use Rattle.places.specs.Several.{SeveralScan}
 use Rattle.places.specs.SeveralLaws.{unsorted-whole}
 use Rattle.places.specs.Scan.{start, ScanOf}
 

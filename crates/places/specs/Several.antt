@@ -1,26 +1,15 @@
 -- Bookkeeping: the records of several groups in bytes, one after the other, and a place between two of them.
-use Prim.Native.Nat.{ℕ, zero, suc, _≤_, _<_}
+use Prim.Native.Nat.{ℕ, _≤_, _<_}
 use mathlib.Core.List.{List, [], _∷_}
 use mathlib.Core.Path.{_≡_}
 use lib.ListN.{length, drop}
-use Rattle.base.specs.Choice.{ifEq}
 use Rattle.mdf.specs.Walk.{idSize}
-use Rattle.mdf.specs.Records.{Frame, Framed, framed, broken, frameAt, joined, unsortedFrames, unsortedRecords}
+use Rattle.mdf.specs.Records.{Frame, framed, frameAt, joined, unsortedFrames, unsortedRecords}
 use Rattle.result.specs.Payload.{framedRecords}
 use Rattle.payload_laws.specs.FramedLaws.{AllKnown}
 use Rattle.work_words.specs.Words.{fragmentsOf}
 use Rattle.records.specs.Ahead.{ahead}
 use Rattle.places.specs.declared.stretch.Scan.{Scan}
-
--- ---- the records that bytes begin with, at most so many; ids have n bytes
-abbrev pub withFrame : Framed → (Frame → List Frame) → List Frame
-withFrame broken f = []
-withFrame (framed r) f = f r
-
-unfoldable pub framesIn : ℕ → List ℕ → ℕ → List ℕ → List ℕ → List Frame
-framesIn zero s n gs l = []
-framesIn (suc turns) s n gs l =
-    let all = withFrame (frameAt s n gs l) (λ r. r ∷ framesIn turns s n gs (drop (r .size) l)) in ifEq (length l) 0 [] all
 
 -- the bytes are those of these records
 pub data Read (s : List ℕ) (n : ℕ) (gs : List ℕ) : List ℕ → List Frame → Type 0 where

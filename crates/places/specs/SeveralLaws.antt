@@ -19,8 +19,8 @@ use Rattle.mdf.specs.Records.{most64, rangesIn, joined, placeOf, sizeOf, anyDV,
 use Rattle.mdf.specs.Records.{withId, onKnown, ofBytes, frameOf, frameAt, onFramed, framesFrom, frames, unsortedFrames}
 use Rattle.payload_laws.specs.Answers.{eq-cases}
 use Rattle.payload_laws.specs.Lists.{length-part}
-use Rattle.payload_laws.specs.FramedLaws.{Several, unsorted-several}
-use Rattle.places.specs.Several.{Read, end, more, WholeFrames}
+use Rattle.payload_laws.specs.FramedLaws.{unsorted-several}
+use Rattle.places.specs.Several.{Read, end, more}
 
 -- ---- a frame
 pub broken≢framed : {r : Frame} → broken ≡ framed r → ⊥

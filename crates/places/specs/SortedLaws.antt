@@ -3,10 +3,9 @@ use Prim.Native.Nat.{ℕ, zero, suc, _+_, _*_, _-_, _/_, _%_, _≤_, _<_}
 use mathlib.Core.Bool.{Bool, true, false}
 use mathlib.Core.List.{List, [], _∷_, _++_}
 use mathlib.Core.Path.{_≡_, refl, sym, ap, _∙_, subst}
-use mathlib.Core.Logic.{⊎-elim}
 use native.Mathlib.Nat.{zero-mul, suc-mul, div-add-mod', div-mul-le-self, mul-le-mul-left, mul-one}
 use native.Mathlib.Omega.{arith}
-use lib.ListN.{length, getD, take, drop, length-append, length-drop}
+use lib.ListN.{length, take, drop, length-append, length-drop}
 use lib.Seq.{take-nil, take-at, drop-at, drop-drop, take-append-le, drop-append-le}
 use Rattle.base.specs.Choice.{pick, ifEq}
 use Rattle.base.specs.ChoiceLaws.{eq-yes, eq-first}
@@ -14,24 +13,21 @@ use Rattle.base.specs.Blit.{part}
 use Rattle.base.specs.Checked.{refused, andThen, Verdict, fine}
 use Rattle.base.specs.CheckedLaws.{refused≢ok, then-fine}
 use Rattle.mdf.specs.Chain.{Kind, dt, dv, Fragment}
-use Rattle.mdf.specs.Walk.{idSize}
-use Rattle.mdf.specs.Group.{samples, invalBytes}
-use Rattle.mdf.specs.Records.{most64, rangesIn, joined, anyDV, recordSize, idBytes, Run, runs, sizeOf, runsWhole, pieces, withoutIds, runRecords, sortedRecords, sortedIn}
-use Rattle.work_words.specs.Words.{kindOf, fragmentsOf}
+use Rattle.mdf.specs.Group.{invalBytes}
+use Rattle.mdf.specs.Records.{most64, rangesIn, joined, anyDV, recordSize, idBytes, runs, sizeOf, runsWhole, pieces, withoutIds, runRecords, sortedRecords, sortedIn}
+use Rattle.work_words.specs.Words.{fragmentsOf}
 use Rattle.payload_laws.specs.Answers.{under}
 use Rattle.payload_laws.specs.SortedLaws.{joined-length, sorted-bytes}
 use Rattle.records.specs.Ahead.{fragmentsFrom}
-use Rattle.places.specs.declared.stretch.Stretch.{Stretch}
 use Rattle.places.specs.declared.stretch.Scan.{Scan}
-use Rattle.places.specs.declared.stretch.Next.{Next}
 use Rattle.places.specs.declared.sorted.Passed.{Passed}
 use Rattle.places.specs.Stretch.{spaced, recordsAt, bodyBytes, Ready, StretchOf}
 use Rattle.places.specs.StretchLaws.{length-spaced, length-recordsAt}
 use Rattle.places.specs.Run.{withBytes, ofKind, pastKind, Begins, never, first, PassedBy, SumOf, QuotientOf}
-use Rattle.places.specs.RunLaws.{Sized, none, some, records-first, whole-first, joined-first, size-first, ranges-first, any-here, any-first, of-first}
-use Rattle.places.specs.RunLaws.{with-sized, with-joined, with-records, with-whole, with-ranges, with-any, with-size}
+use Rattle.places.specs.RunLaws.{Sized, some, records-first, whole-first, joined-first, ranges-first, any-here, any-first, of-first}
+use Rattle.places.specs.RunLaws.{with-sized, with-joined, with-records, with-whole, with-ranges, with-any}
 use Rattle.places.specs.Sorted.{SortedScan}
-use Rattle.places.specs.Scan.{ScanOf, NextOf, NextFor}
+use Rattle.places.specs.Scan.{NextOf, NextFor}
 
 -- ---- pieces are records at equal distances
 drop-take : (m k : ℕ) (l : List ℕ) → drop m (take k l) ≡ take (k - m) (drop m l)

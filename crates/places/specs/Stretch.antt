@@ -7,7 +7,6 @@ use lib.ListN.{length, getD, take, drop}
 use Rattle.base.specs.Choice.{ifEq}
 use Rattle.base.specs.Blit.{part}
 use Rattle.base.specs.Checked.{fine}
-use Rattle.mdf.specs.Chain.{Fragment}
 use Rattle.mdf.specs.Group.{samples, invalBytes, isStorage}
 use Rattle.mdf.specs.Records.{most64, joined, sizeOf}
 use Rattle.work_words.specs.Words.{fragmentsOf}

@@ -1,22 +1,20 @@
 -- Stretches: none, one record, one record more; and the number of a group.
 use Prim.Native.Nat.{ℕ, zero, suc, _+_, _*_, _-_, _≤_, _<_}
 use mathlib.Core.List.{List, [], _∷_, _++_}
-use mathlib.Core.Bool.{Bool, true, false}
+use mathlib.Core.Bool.{false}
 use mathlib.Core.Path.{_≡_, refl, sym, ap, _∙_}
-use mathlib.Core.Logic.{_⊎_, inl, inr, ⊎-elim}
-use native.Mathlib.Nat.{add-zero, zero-add, zero-mul, one-mul, add-mul, suc-mul}
-use native.Mathlib.Numerals.{add-one}
+use mathlib.Core.Logic.{_⊎_, inl, inr}
+use native.Mathlib.Nat.{add-zero, zero-add, zero-mul, suc-mul}
 use native.Mathlib.Omega.{arith}
-use lib.ListN.{length, getD, take, drop, length-append, length-drop}
-use lib.Seq.{take-add, drop-drop, take-nil}
+use lib.ListN.{length, getD, take, drop, length-drop}
+use lib.Seq.{take-add, drop-drop}
 use Rattle.base.specs.Blit.{part}
 use Rattle.mdf.specs.Group.{recordId}
-use Rattle.mdf.specs.Records.{joined, Known, known, equalIds}
+use Rattle.mdf.specs.Records.{joined, known, equalIds}
 use Rattle.result.specs.Payload.{groupRecords}
 use Rattle.work_words.specs.Words.{fragmentsOf}
 use Rattle.payload_laws.specs.Answers.{eq-cases}
 use Rattle.records.specs.TableLaws.{with-apart}
-use Rattle.places.specs.declared.stretch.Stretch.{Stretch}
 use Rattle.places.specs.Stretch.{spaced, recordsAt, bodyBytes, numberIn, StretchOf}
 
 -- ---- places at equal distances

@@ -1,12 +1,10 @@
 // The stretches of all groups of a DG, found in one framing of its data and kept in lent words.
+use crate::frame::next_record;
 use crate::pool::kept_in;
 use crate::several::longer;
 use crate::stretch::Scan;
 use crate::stretch::Stretch;
 use records::fragment::word_at;
-use records::framing::Framing;
-use records::framing::Step;
-use records::framing::inside;
 use records::group::id_size;
 use records::table::make_tables;
 ghost use mathlib.Core.Bool.{true};
@@ -168,7 +166,6 @@ fn pass(
     ensures { λ _. ⌜ Passes (now (image .entry)) d n (now (groups .entry)) (now (fragments .entry)) (now (ids .entry)) (now (sizes .entry))
         (now (pool .entry)) (now (pool .exit)) ⌝ }
 {
-    let words = fragments.len() as u64;
     let mut latest = [0u64; 512];
     let mut counts = [0u64; 512];
     let mut c = Scan {
@@ -179,85 +176,26 @@ fn pass(
         number: 0,
     };
     let mut last: u64 = 0;
-    if n == 0 {
-        return false;
-    }
     'records: loop {
-        let at = c.at;
-        let position = c.position;
-        let left = c.left;
-        let offset = c.offset;
-        if inside(image, position, left) == 0 {
-            if words < at {
-                return true;
-            }
-            if words - at < 3 {
-                return true;
-            }
-            let o = word_at(fragments, at);
-            let z = word_at(fragments, at + 1);
-            c = Scan {
-                at: at + 3,
-                position: o,
-                left: z,
-                offset,
-                number: 0,
-            };
-        } else {
-            let f = Framing { at };
-            let step = f.step_by(
-                image,
-                n,
-                groups,
-                fragments,
-                ids,
-                sizes,
-                hints,
-                last,
-                position,
-                left,
-            );
-            match step {
-                Step::Broken => {
-                    return false;
-                }
-                Step::Record {
-                    group,
-                    bytes,
-                    next,
-                    position: p,
-                    left: l,
-                } => {
-                    if 18446744073709551615 - c.offset < n {
-                        return false;
-                    }
-                    if 18446744073709551615 - c.offset - n < bytes {
-                        return false;
-                    }
-                    let kept = take(
-                        pool,
-                        &mut latest,
-                        &mut counts,
-                        sizes,
-                        d,
-                        groups,
-                        group,
-                        offset + n,
-                    );
-                    if !kept {
-                        return false;
-                    }
-                    c = Scan {
-                        at: next.at,
-                        position: p,
-                        left: l,
-                        offset: offset + n + bytes,
-                        number: 0,
-                    };
-                    last = group;
-                }
-            }
+        let r = next_record(image, n, groups, fragments, ids, sizes, hints, last, c);
+        if !r.some {
+            return true;
         }
+        let kept = take(
+            pool,
+            &mut latest,
+            &mut counts,
+            sizes,
+            d,
+            groups,
+            r.group,
+            r.place,
+        );
+        if !kept {
+            return false;
+        }
+        c = r.past;
+        last = r.group;
     }
 }
 

@@ -1,11 +1,8 @@
 // The stretches of one of several groups, by framing with tables of the DG's groups.
+use crate::frame::next_record;
 use crate::stretch::Next;
 use crate::stretch::Scan;
 use crate::stretch::Stretch;
-use records::fragment::word_at;
-use records::framing::Framing;
-use records::framing::Step;
-use records::framing::inside;
 ghost use Rattle.places.specs.Longer.{LongerBy};
 ghost use Rattle.places.specs.Scan.{NextBy};
 
@@ -63,7 +60,6 @@ pub fn several_next(
 ) -> Next
     ensures { λ r. ⌜ NextBy (now (image .entry)) n k (now (groups .entry)) (now (fragments .entry)) (now (ids .entry)) (now (sizes .entry)) scan r ⌝ }
 {
-    let words = fragments.len() as u64;
     let mut stretch = Stretch {
         number: scan.number,
         first: 0,
@@ -72,91 +68,32 @@ pub fn several_next(
     };
     let mut c = scan;
     let mut last = k;
-    if n == 0 {
-        return Next { stretch, scan: c };
-    }
     'records: loop {
-        let at = c.at;
-        let position = c.position;
-        let left = c.left;
-        let offset = c.offset;
-        let number = c.number;
-        if inside(image, position, left) == 0 {
-            if words < at {
+        let r = next_record(image, n, groups, fragments, ids, sizes, hints, last, c);
+        if !r.some {
+            return Next { stretch, scan: c };
+        }
+        if r.group == k {
+            let more = longer(stretch, r.place);
+            if more.count == stretch.count {
                 return Next { stretch, scan: c };
             }
-            if words - at < 3 {
+            if c.number == 18446744073709551615 {
                 return Next { stretch, scan: c };
             }
-            let o = word_at(fragments, at);
-            let z = word_at(fragments, at + 1);
+            let number = c.number + 1;
+            stretch = more;
             c = Scan {
-                at: at + 3,
-                position: o,
-                left: z,
-                offset,
+                at: r.past.at,
+                position: r.past.position,
+                left: r.past.left,
+                offset: r.past.offset,
                 number,
             };
+            last = k;
         } else {
-            let f = Framing { at };
-            let step = f.step_by(
-                image,
-                n,
-                groups,
-                fragments,
-                ids,
-                sizes,
-                hints,
-                last,
-                position,
-                left,
-            );
-            match step {
-                Step::Broken => {
-                    return Next { stretch, scan: c };
-                }
-                Step::Record {
-                    group,
-                    bytes,
-                    next,
-                    position: p,
-                    left: l,
-                } => {
-                    if 18446744073709551615 - c.offset < n {
-                        return Next { stretch, scan: c };
-                    }
-                    if 18446744073709551615 - offset - n < bytes {
-                        return Next { stretch, scan: c };
-                    }
-                    if group == k {
-                        let more = longer(stretch, offset + n);
-                        if more.count == stretch.count {
-                            return Next { stretch, scan: c };
-                        }
-                        if c.number == 18446744073709551615 {
-                            return Next { stretch, scan: c };
-                        }
-                        stretch = more;
-                        c = Scan {
-                            at: next.at,
-                            position: p,
-                            left: l,
-                            offset: offset + n + bytes,
-                            number: number + 1,
-                        };
-                        last = group;
-                    } else {
-                        c = Scan {
-                            at: next.at,
-                            position: p,
-                            left: l,
-                            offset: offset + n + bytes,
-                            number,
-                        };
-                        last = group;
-                    }
-                }
-            }
+            c = r.past;
+            last = r.group;
         }
     }
 }
