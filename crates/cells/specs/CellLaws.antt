@@ -6,7 +6,7 @@ use mathlib.Core.Path.{_≡_, sym, ap, _∙_}
 use native.Mathlib.Nat.{add-zero}
 use native.Mathlib.Omega.{arith}
 use lib.ListN.{length, take, drop, getD, set, length-drop, List·getD-append}
-use lib.Seq.{take-take, drop-drop, length-take-le, getD-drop, getD-take}
+use lib.Seq.{take-take, take-add, drop-drop, length-take-le, getD-drop, getD-take}
 use lib.Dec.{ltb, eqb}
 use borrow.Author.Tests.{ltb-true}
 use Rattle.base.specs.Blit.{part, blit}
@@ -47,6 +47,14 @@ module _ (i from : ℕ) (s l : List ℕ) where
   copy-eight h =
       rw (copy-four (omega arith), copy-more i from 4 s l (omega arith), copy-more i from 5 s l (omega arith), copy-more i from 6 s l (omega arith))
       (copy-more i from 7 s l (omega arith))
+
+-- a part laid, and the part after it
+pub copy-parts : (i from m n k : ℕ) (s d mid last : List ℕ) → m + n ≡ k → from + k ≤ length s → mid ≡ blit i (part from m s) d
+    → last ≡ blit (i + m) (part (from + m) n s) mid → last ≡ blit i (part from k s) d
+unfolding part
+copy-parts i from m n k s d mid last e h p q =
+    let l : length (take m (drop from s)) ≡ m = length-part from m s (omega arith) in
+    q ∙ rw (← e, take-add m n (drop from s), drop-drop m from s, blit-append, l, ← p)
 
 -- the invalidation byte of a kept bit is one of the group's
 pub kept-within : (s : List ℕ) (g c : ℕ) → keepsInval s g c ≡ true → invalPosition s c / 8 < invalBytes s g

@@ -118,6 +118,63 @@ fn copy8(d: &mut [u8], at: usize, s: &[u8], from: usize)
     d[at + 7] = x7;
 }
 
+// 3, 5, 6 and 7 bytes, each by two of these.
+fn copy3(d: &mut [u8], at: usize, s: &[u8], from: usize)
+    requires { ⌜ (at + 3 ≤ length (now d)) × (from + 3 ≤ length (now s)) ⌝ }
+    ensures { λ _. ⌜ now (d .exit) ≡ blit at (part from 3 (now (s .entry))) (now (d .entry)) ⌝ }
+{
+    copy2(d, at, s, from);
+    copy1(d, at + 2, s, from + 2);
+}
+
+fn copy5(d: &mut [u8], at: usize, s: &[u8], from: usize)
+    requires { ⌜ (at + 5 ≤ length (now d)) × (from + 5 ≤ length (now s)) ⌝ }
+    ensures { λ _. ⌜ now (d .exit) ≡ blit at (part from 5 (now (s .entry))) (now (d .entry)) ⌝ }
+{
+    copy4(d, at, s, from);
+    copy1(d, at + 4, s, from + 4);
+}
+
+fn copy6(d: &mut [u8], at: usize, s: &[u8], from: usize)
+    requires { ⌜ (at + 6 ≤ length (now d)) × (from + 6 ≤ length (now s)) ⌝ }
+    ensures { λ _. ⌜ now (d .exit) ≡ blit at (part from 6 (now (s .entry))) (now (d .entry)) ⌝ }
+{
+    copy4(d, at, s, from);
+    copy2(d, at + 4, s, from + 4);
+}
+
+fn copy7(d: &mut [u8], at: usize, s: &[u8], from: usize)
+    requires { ⌜ (at + 7 ≤ length (now d)) × (from + 7 ≤ length (now s)) ⌝ }
+    ensures { λ _. ⌜ now (d .exit) ≡ blit at (part from 7 (now (s .entry))) (now (d .entry)) ⌝ }
+{
+    copy4(d, at, s, from);
+    copy3(d, at + 4, s, from + 4);
+}
+
+// Any other number.
+fn copy_other(d: &mut [u8], at: usize, s: &[u8], from: usize, n: usize)
+    requires { ⌜ (at + n ≤ length (now d)) × (from + n ≤ length (now s)) ⌝ }
+    ensures { λ _. ⌜ now (d .exit) ≡ blit at (part from n (now (s .entry))) (now (d .entry)) ⌝ }
+{
+    if n == 3 {
+        copy3(d, at, s, from);
+        return;
+    }
+    if n == 5 {
+        copy5(d, at, s, from);
+        return;
+    }
+    if n == 6 {
+        copy6(d, at, s, from);
+        return;
+    }
+    if n == 7 {
+        copy7(d, at, s, from);
+        return;
+    }
+    copy(d, at, s, from as u64, n as u64);
+}
+
 // n bytes of s from index from, at index at, all of them inside.
 pub(crate) fn copy_within(d: &mut [u8], at: usize, s: &[u8], from: usize, n: usize)
     requires { ⌜ (at + n ≤ length (now d)) × (from + n ≤ length (now s)) ⌝ }
@@ -139,7 +196,7 @@ pub(crate) fn copy_within(d: &mut [u8], at: usize, s: &[u8], from: usize, n: usi
         copy1(d, at, s, from);
         return;
     }
-    copy(d, at, s, from as u64, n as u64);
+    copy_other(d, at, s, from, n);
 }
 
 // Of a record that lies at q in the image: w bytes, and a kept bit.

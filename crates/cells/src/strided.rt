@@ -41,6 +41,32 @@ fn strided(
     }
 }
 
+// Of 3, 5, 6 and 7 bytes, and of any other number.
+fn put_bare_other(out: &mut [u8], to: usize, image: &[u8], from: usize, stride: usize, n: u64, h: Shape)
+    requires { ⌜ Shaped (now image) h × Lying (length (now image)) (h .length) from stride n × (to + n * h .width ≤ length (now out))
+        × (h .keep ≡ false) ⌝ }
+    ensures { λ _. ⌜ now (out .exit) ≡ blit to (cells (now (image .entry)) (h .group) (h .channel)
+        (recordsAt (now (image .entry)) (h .length) (spaced from stride n))) (now (out .entry)) ⌝ }
+{
+    if h.bytes == 3 {
+        strided(out, to, image, from, stride, n, h, 3, false);
+        return;
+    }
+    if h.bytes == 5 {
+        strided(out, to, image, from, stride, n, h, 5, false);
+        return;
+    }
+    if h.bytes == 6 {
+        strided(out, to, image, from, stride, n, h, 6, false);
+        return;
+    }
+    if h.bytes == 7 {
+        strided(out, to, image, from, stride, n, h, 7, false);
+        return;
+    }
+    strided(out, to, image, from, stride, n, h, h.bytes as usize, false);
+}
+
 // The usual widths are given as constants: then no loop asks for the width at each record.
 fn put_bare(out: &mut [u8], to: usize, image: &[u8], from: usize, stride: usize, n: u64, h: Shape)
     requires { ⌜ Shaped (now image) h × Lying (length (now image)) (h .length) from stride n × (to + n * h .width ≤ length (now out))
@@ -64,7 +90,33 @@ fn put_bare(out: &mut [u8], to: usize, image: &[u8], from: usize, stride: usize,
         strided(out, to, image, from, stride, n, h, 1, false);
         return;
     }
-    strided(out, to, image, from, stride, n, h, h.bytes as usize, false);
+    put_bare_other(out, to, image, from, stride, n, h);
+}
+
+// Of 3, 5, 6 and 7 bytes, and of any other number.
+fn put_kept_other(out: &mut [u8], to: usize, image: &[u8], from: usize, stride: usize, n: u64, h: Shape)
+    requires { ⌜ Shaped (now image) h × Lying (length (now image)) (h .length) from stride n × (to + n * h .width ≤ length (now out))
+        × (h .keep ≡ true) ⌝ }
+    ensures { λ _. ⌜ now (out .exit) ≡ blit to (cells (now (image .entry)) (h .group) (h .channel)
+        (recordsAt (now (image .entry)) (h .length) (spaced from stride n))) (now (out .entry)) ⌝ }
+{
+    if h.bytes == 3 {
+        strided(out, to, image, from, stride, n, h, 3, true);
+        return;
+    }
+    if h.bytes == 5 {
+        strided(out, to, image, from, stride, n, h, 5, true);
+        return;
+    }
+    if h.bytes == 6 {
+        strided(out, to, image, from, stride, n, h, 6, true);
+        return;
+    }
+    if h.bytes == 7 {
+        strided(out, to, image, from, stride, n, h, 7, true);
+        return;
+    }
+    strided(out, to, image, from, stride, n, h, h.bytes as usize, true);
 }
 
 // The same with a kept bit.
@@ -90,7 +142,7 @@ fn put_kept(out: &mut [u8], to: usize, image: &[u8], from: usize, stride: usize,
         strided(out, to, image, from, stride, n, h, 1, true);
         return;
     }
-    strided(out, to, image, from, stride, n, h, h.bytes as usize, true);
+    put_kept_other(out, to, image, from, stride, n, h);
 }
 
 // Of n records of any channel.

@@ -39,8 +39,8 @@ same-length-4 c = search needs
 returns-4 : tie.Need-returns-4
 returns-4 c = cc
 
-copy-requires : tie.Need-copy-requires
-copy-requires c κs = search needs
+copy-other-requires : tie.Need-copy-other-requires
+copy-other-requires c κs = search needs
 
 same-length-5 : tie.Need-same-length-5
 same-length-5 c = search needs
@@ -64,6 +64,6 @@ copy-within-spec =
     copy1-requires
     same-length-4
     returns-4
-    copy-requires
+    copy-other-requires
     same-length-5
     returns-5)
