@@ -1,9 +1,8 @@
 -- What the guarantee says of single blocks, said of all blocks of a column: they lie one after the other.
 use Prim.Native.Nat.{ℕ, _+_}
 use mathlib.Core.List.{List, [], _∷_, _++_, append-nil}
-use mathlib.Core.Path.{_≡_, refl, sym, ap, _∙_}
-use native.Mathlib.Omega.{arith}
-use lib.ListN.{length, take, drop, length-append}
+use mathlib.Core.Path.{_≡_, refl}
+use lib.ListN.{length, length-append}
 use lib.Seq.{take-add, drop-drop}
 use Rattle.base.specs.Blit.{part}
 use Rattle.plan.specs.Columns.{Signal, noSignal, signalData}
@@ -12,7 +11,6 @@ use Rattle.result.specs.Fill.{Block, block, blockOf, payloadBlocks, sdBlocks, d
 use Rattle.result.specs.Result.{Args, Decided}
 use Rattle.result.specs.Guarantee.{Stands, In, here, there, Guaranteed}
 use Rattle.payload_laws.specs.PayloadLaws.{length-framed}
-use Rattle.shown_laws.specs.ColumnShown.{blocksAt}
 use Rattle.shown_laws.specs.AllShown.{in-payload, in-signal, in-data-later, in-data}
 use Rattle.column_guarantee.specs.Final.{bytesOf, ColumnFinal}
 

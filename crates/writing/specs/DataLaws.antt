@@ -24,7 +24,6 @@ use Rattle.payload_laws.specs.Lists.{Long, together}
 use Rattle.payload_laws.specs.GeometryLaws.{split, no-blocks}
 use Rattle.payload_laws.specs.PayloadLaws.{length-framed, length-payloads, payloads-joined}
 use Rattle.payload_laws.specs.CellLaws.{length-cells}
-use Rattle.places.specs.Pool.{Pooled}
 use Rattle.cells.specs.Blocks.{framedAll, blocksFor, BlocksReady, WritesBlocks}
 use Rattle.writing.specs.declared.own.Own.{Own}
 use Rattle.writing.specs.declared.data.Entry.{Entry}

@@ -1,10 +1,10 @@
 -- What is laid for a column of the words is what the final bytes of an accepted call have of it.
 use Prim.Native.Nat.{ℕ, _+_, _<_}
 use mathlib.Core.List.{List, [], _∷_, _++_}
-use mathlib.Core.Path.{_≡_, refl, sym, ap, _∙_, subst}
+use mathlib.Core.Path.{_≡_, refl, ap, _∙_}
 use lib.ListN.{length}
 use Rattle.plan.specs.Layout.{Placed}
-use Rattle.result.specs.Fill.{Block, blockOf, payloadBlocks}
+use Rattle.result.specs.Fill.{blockOf, payloadBlocks}
 use Rattle.result.specs.Result.{Args}
 use Rattle.result.specs.Guarantee.{Guaranteed}
 use Rattle.placing.specs.declared.layout.Numbers as numbers
@@ -12,7 +12,7 @@ use Rattle.column_guarantee.specs.Final.{bytesOf, ColumnFinal}
 use Rattle.column_guarantee.specs.FinalLaws.{column-final}
 use Rattle.cells.specs.Blocks.{framedAll}
 use Rattle.writing.specs.declared.data.Entry.{Entry}
-use Rattle.writing.specs.Data.{entryIn, entryRecords, entryPayloads, entryKind, entryBytes, entryBlocks, entrySignal}
+use Rattle.writing.specs.Data.{entryIn, entryRecords, entryPayloads, entryKind, entryBytes, entryBlocks}
 use Rattle.writing.specs.DataLaws.{bytes-are}
 use Rattle.writing.specs.DataReadyLaws.{SameColumn}
 use Rattle.writing.specs.Finish.{Stands}

@@ -25,8 +25,8 @@ use Rattle.planning.specs.Span.{pastDG}
 use Rattle.writing.specs.declared.own.Own.{Own}
 use Rattle.records.specs.FragmentLaws.{lt-or-le}
 use Rattle.places.specs.Stretch.{numberIn}
+use Rattle.cells.specs.NumberLaws.{number-hit, number-next}
 use Rattle.writing.specs.Own.{ownPast, ownIn, ownWords, ownGroups}
-use Rattle.writing.specs.OwnLaws.{number-hit, number-next}
 
 -- ---- a part of what was laid
 pub laid-part : (i : ℕ) (xs ys zs l : List ℕ) → i + length (xs ++ (ys ++ zs)) ≤ length l

@@ -1,22 +1,17 @@
 -- Laws of what the words of reading hold of a DG.
-use Prim.Native.Nat.{ℕ, zero, suc, _+_, _-_, _≤_, _<_, min}
+use Prim.Native.Nat.{ℕ, zero, suc, _+_, _-_, _≤_, min}
 use mathlib.Core.Bool.{Bool, true, false}
 use mathlib.Core.List.{List, [], _∷_}
-use mathlib.Core.Path.{_≡_, refl, sym, ap, _∙_}
-use native.Mathlib.Nat.{zero-add, min-le-right}
-use native.Mathlib.Numerals.{add-one}
+use mathlib.Core.Path.{_≡_, refl, ap, _∙_}
+use native.Mathlib.Nat.{min-le-right}
 use native.Mathlib.Omega.{arith}
-use lib.ListN.{length, getD, drop, drop-of-length-le}
-use lib.Seq.{drop-cons}
+use lib.ListN.{length, getD}
 use lib.Dec.{eqb}
-use borrow.Author.Tests.{eqb-true, eqb-false}
 use Rattle.base.specs.Choice.{pick, ifEq}
-use Rattle.base.specs.ChoiceLaws.{eq-yes, eq-no}
 use Rattle.mdf.specs.Walk.{Item, dg, cg, cn, levelCG, tally}
 use Rattle.mdf.specs.Group.{groupsOf, upTo}
 use Rattle.planning.specs.Items.{itemsFrom}
 use Rattle.planning.specs.Span.{pastDG}
-use Rattle.places.specs.Stretch.{numberIn}
 use Rattle.writing.specs.Own.{ownPast, ownIn, OwnOf}
 
 -- ---- few
@@ -83,12 +78,3 @@ own-is w n nf d {i} {u} {e} {m} {t} {b} {f} {g} p q x y z v k l =
       before = omega arith;
       few = omega arith;
     }
-
--- ---- the number of a group
-pub number-hit : (g h : ℕ) (gs : List ℕ) → h ≡ g → numberIn g (h ∷ gs) ≡ 0
-unfolding numberIn
-number-hit g h gs e = sym (eq-yes _ _ _ _ e refl)
-
-pub number-next : (g h : ℕ) (gs : List ℕ) → (h ≡ g → ⊥) → numberIn g (h ∷ gs) ≡ suc (numberIn g gs)
-unfolding numberIn
-number-next g h gs e = sym (eq-no _ _ _ _ e refl)

@@ -2,7 +2,6 @@
 use Rattle.base.specs.Blit.{part}
 use Rattle.writing.specs.Own.{ownWords, ownGroups}
 use Rattle.writing.specs.DataLaws.{blocks-put}
-use native.Mathlib.Omega.{arith}
 use borrow.Author.Needs.{needs}
 use Rattle.writing.proofs.data.put_blocks.Statement.{statement}
 use Rattle.writing.proofs.data.put_blocks.Tie as tie
