@@ -78,8 +78,8 @@ bool read_lent(const uint8_t *result, size_t length, char version[VERSION_KEPT],
 
 /* ---- the calls */
 
-/* The conversion fills many columns at a time: reading ahead at each place would bring pages that are overwritten, and in little memory
- * drive out those in use. */
+/* The conversion stores from front to back: reading ahead would bring pages that are overwritten, and in little memory drive out those in
+ * use. */
 uint8_t *map_output(int file, uint64_t size)
 {
     void *bytes = mmap(NULL, (size_t)size, PROT_READ | PROT_WRITE, file < 0 ? MAP_PRIVATE | MAP_ANONYMOUS : MAP_SHARED, file, 0);

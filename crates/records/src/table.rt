@@ -84,6 +84,21 @@ pub(crate) fn fill_hints(ids: &[u64; 512], n: u64, hints: &mut [u64; 1536]) {
     }
 }
 
+// The tables and the hints of these groups; the hints are guesses, and what they are is left free.
+pub fn make_tables(
+    image: &[u8],
+    groups: &[u64],
+    ids: &mut [u64; 512],
+    sizes: &mut [u64; 512],
+    hints: &mut [u64; 1536],
+)
+    ensures { λ _. ⌜ (now (ids .exit) ≡ blit 0 (idsOf (now (image .entry)) (now (groups .entry))) (now (ids .entry)))
+        × (now (sizes .exit) ≡ blit 0 (sizesOf (now (image .entry)) (now (groups .entry))) (now (sizes .entry))) ⌝ }
+{
+    fill_tables(image, groups, ids, sizes);
+    fill_hints(ids, groups.len() as u64, hints);
+}
+
 // A group that may have the id.
 fn look_up(ids: &[u64; 512], hints: &[u64; 1536], id: u64) -> u64 {
     let mut h = (id % 1021) as usize;

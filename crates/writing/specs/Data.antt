@@ -10,17 +10,19 @@ use Rattle.base.specs.Checked.{fine}
 use Rattle.mdf.specs.Block.{kindSD}
 use Rattle.mdf.specs.Group.{samples, invalBytes, isStorage}
 use Rattle.work_words.specs.Words.{fragmentsOf}
-use Rattle.mdf.specs.Records.{joined, runs, sortedRecords, sortedIn, unsortedFrames}
-use Rattle.plan.specs.Channel.{fits, keepsInval, width}
-use Rattle.plan.specs.Geometry.{blockCount, perFull}
+use Rattle.mdf.specs.Records.{most64, joined, sizeOf}
+use Rattle.plan.specs.Channel.{fits, width}
 use Rattle.plan.specs.Data.{recordsIn}
-use Rattle.result.specs.Payload.{framedRecords, groupRecords, payloads}
-use Rattle.result.specs.Fill.{Block, block, blockOf, dataKind, payloadBlocks}
+use Rattle.result.specs.Payload.{payloads}
+use Rattle.result.specs.Fill.{Block, block, blockOf, payloadBlocks}
 use Rattle.result.specs.Ordered.{Ordered}
 use Rattle.payload_laws.specs.Lists.{Long}
-use Rattle.writing.specs.declared.own.Own.{Own}
+use Rattle.places.specs.Stretch.{numberIn}
+use Rattle.places.specs.Pool.{Pooled}
+use Rattle.cells.specs.declared.column.Column.{Column}
+use Rattle.cells.specs.Blocks.{columnRecords, perOf, countOf, kindOf, blocksBytes}
 use Rattle.writing.specs.declared.data.Entry.{Entry}
-use Rattle.writing.specs.Own.{ownIn, ownWords, ownGroups, numberIn}
+use Rattle.writing.specs.Own.{groupsAt, wordsAt}
 
 -- column k
 unfoldable pub entryIn : List ℕ → List ℕ → ℕ → Entry
@@ -36,34 +38,30 @@ entryIn cs m k =
       sd = getD m (6656 + 3 * k + 2) 0;
     }
 
+-- as its blocks are asked for
+abbrev pub entryColumn : Entry → Column
+entryColumn e = record { parent = e .parent; group = e .group; channel = e .channel; records = e .records }
+
 -- ---- its records, in the image s; w holds n items and the addresses of groups, fs the words of fragments, of them nf of the walk
-
--- those of its group, whose DG has the groups and fragments that o says
-unfoldable pub recordsBy : List ℕ → List ℕ → List ℕ → Own → Entry → List (List ℕ)
-recordsBy s w fs o e =
-    groupRecords s (e .parent) (numberIn (e .group) (ownGroups w o)) (ownGroups w o) (fragmentsOf (ownWords fs o))
-
 unfoldable pub entryRecords : List ℕ → List ℕ → ℕ → List ℕ → ℕ → Entry → List (List ℕ)
-entryRecords s w n fs nf e = recordsBy s w fs (ownIn w n nf (e .parent)) e
+entryRecords s w n fs nf e = columnRecords s (groupsAt w n nf (e .parent)) (wordsAt w n fs nf (e .parent)) (entryColumn e)
 
 abbrev pub entryCount : List ℕ → ℕ → Entry → ℕ
-entryCount s size e = blockCount size (width s (e .group) (e .channel)) (e .records)
+entryCount s size e = countOf s size (entryColumn e)
 
 unfoldable pub entryPayloads : List ℕ → ℕ → Entry → List (List ℕ) → List (List ℕ)
-entryPayloads s size e rs =
-    payloads s (e .group) (e .channel) (perFull size (width s (e .group) (e .channel)) (e .records)) (entryCount s size e) rs
+entryPayloads s size e rs = payloads s (e .group) (e .channel) (perOf s size (entryColumn e)) (entryCount s size e) rs
 
 abbrev pub entryKind : List ℕ → Entry → ℕ
-entryKind s e = dataKind (keepsInval s (e .group) (e .channel))
+entryKind s e = kindOf s (entryColumn e)
 
 -- ---- its blocks
 
--- the blocks of payloads, one after the other
-unfoldable pub framedAll : ℕ → List (List ℕ) → List ℕ
-framedAll kind [] = []
-framedAll kind (p ∷ ps) = blockOf kind p ++ framedAll kind ps
+-- those of its records, one after the other
+abbrev pub entryBytes : List ℕ → ℕ → List ℕ → ℕ → List ℕ → ℕ → Entry → List ℕ
+entryBytes s size w n fs nf e = blocksBytes s size (groupsAt w n nf (e .parent)) (wordsAt w n fs nf (e .parent)) (entryColumn e)
 
--- those of its records, with their addresses
+-- with their addresses
 unfoldable pub entryBlocks : List ℕ → ℕ → List ℕ → ℕ → List ℕ → ℕ → Entry → List Block
 entryBlocks s size w n fs nf e = payloadBlocks (entryKind s e) (e .first) (entryPayloads s size e (entryRecords s w n fs nf e))
 
@@ -88,14 +86,15 @@ pub record Tables (w fs : List ℕ) (nf : ℕ) : Type 0 where
   pub fragments : 3 * nf ≤ length fs
 
 -- of a column: its channel fits its group, which is one of its DG's and no VLSD storage; if it has bytes, its DG's records were checked,
--- and its own counted
+-- and its own counted, and its DG's data has a size
 pub record EntryReady (s w : List ℕ) (n : ℕ) (fs : List ℕ) (nf : ℕ) (e : Entry) : Type 0 where
   pub fit : fits s (e .group) (e .channel) ≡ true
   pub kept : isStorage s (e .group) ≡ false
-  pub listed : numberIn (e .group) (ownGroups w (ownIn w n nf (e .parent))) < length (ownGroups w (ownIn w n nf (e .parent)))
+  pub listed : numberIn (e .group) (groupsAt w n nf (e .parent)) < length (groupsAt w n nf (e .parent))
   pub checked : 0 < width s (e .group) (e .channel) → 0 < e .records
-      → recordsIn s (e .parent) (ownGroups w (ownIn w n nf (e .parent))) (fragmentsOf (ownWords fs (ownIn w n nf (e .parent)))) ≡ fine
+      → recordsIn s (e .parent) (groupsAt w n nf (e .parent)) (fragmentsOf (wordsAt w n fs nf (e .parent))) ≡ fine
   pub counted : 0 < width s (e .group) (e .channel) → 0 < e .records → length (entryRecords s w n fs nf e) ≡ e .records
+  pub small : 0 < width s (e .group) (e .channel) → 0 < e .records → sizeOf (fragmentsOf (wordsAt w n fs nf (e .parent))) ≤ most64
   pub long : 0 < width s (e .group) (e .channel) → 0 < e .records
       → Long (samples s (e .group) + invalBytes s (e .group)) (entryRecords s w n fs nf e)
   pub signal : (e .signal ≡ 0 → ⊥) → 3 * (e .signal - 1) + 3 * e .pieces ≤ length fs
@@ -108,18 +107,6 @@ pub record DataReady (s : List ℕ) (size : ℕ) (w : List ℕ) (n : ℕ) (fs : 
   pub entries : (k : ℕ) → k < number → EntryReady s w n fs nf (entryIn cs m k)
   pub ordered : Ordered at (dataFrom s size w n fs nf cs m 0 number) room
 
--- ---- what is asked where a column's records are read
-
--- the channel at c fits the group at g, which is alone in the DG at d; if the column has bytes, the data is as checked and counted
-pub record SortedReady (s ws : List ℕ) (d g c n : ℕ) : Type 0 where
-  pub fit : fits s g c ≡ true
-  pub checked : 0 < width s g c → 0 < n → sortedIn s d g (fragmentsOf ws) ≡ fine
-  pub counted : 0 < width s g c → 0 < n → length (sortedRecords s d g (runs (fragmentsOf ws))) ≡ n
-
--- the channel at c fits the group at g, which is number k of those of the DG at d and no VLSD storage; if the column has bytes, the
--- records are as counted
-pub record SeveralReady (s gs ws : List ℕ) (d k g c n : ℕ) : Type 0 where
-  pub fit : fits s g c ≡ true
-  pub group : getD gs k 0 ≡ g
-  pub plain : isStorage s g ≡ false
-  pub counted : 0 < width s g c → 0 < n → length (framedRecords k (unsortedFrames s d gs (fragmentsOf ws))) ≡ n
+-- the stretches that are kept are right for each DG
+abbrev pub Kept : List ℕ → List ℕ → ℕ → List ℕ → ℕ → List ℕ → Type 0
+Kept s w n fs nf p = Pooled s (groupsAt w n nf) (wordsAt w n fs nf) p

@@ -9,17 +9,14 @@ use lib.ListN.{length, take, replicate, length-append, length-replicate}
 use lib.Seq.{take-all}
 use Rattle.base.specs.ChoiceLaws.{eq-yes, eq-no}
 use Rattle.base.specs.Blit.{blit}
-use Rattle.base.specs.BlitLaws.{length-blit, blit-append, length-part}
-use Rattle.base.specs.Checked.{fine}
+use Rattle.base.specs.BlitLaws.{length-blit, blit-append}
 use Rattle.mdf.specs.Block.{kindSD}
-use Rattle.mdf.specs.Chain.{Fragment}
 use Rattle.mdf.specs.Group.{samples, invalBytes}
 use Rattle.work_words.specs.Words.{fragmentsOf}
-use Rattle.mdf.specs.Records.{joined, runs, sortedRecords, unsortedFrames}
+use Rattle.mdf.specs.Records.{joined}
 use Rattle.plan.specs.Channel.{fits, width}
 use Rattle.plan.specs.Geometry.{blockCount, perFull}
-use Rattle.plan.specs.Data.{recordsIn}
-use Rattle.result.specs.Payload.{framedRecords, groupRecords, payloads}
+use Rattle.result.specs.Payload.{payloads}
 use Rattle.result.specs.Fill.{Block, block, blockOf, payloadBlocks}
 use Rattle.result.specs.Ordered.{Ordered}
 use Rattle.result.specs.Result.{flat}
@@ -27,79 +24,34 @@ use Rattle.payload_laws.specs.Lists.{Long, together}
 use Rattle.payload_laws.specs.GeometryLaws.{split, no-blocks}
 use Rattle.payload_laws.specs.PayloadLaws.{length-framed, length-payloads, payloads-joined}
 use Rattle.payload_laws.specs.CellLaws.{length-cells}
+use Rattle.cells.specs.Blocks.{framedAll, blocksFor, BlocksReady, WritesBlocks}
 use Rattle.writing.specs.declared.own.Own.{Own}
 use Rattle.writing.specs.declared.data.Entry.{Entry}
 use Rattle.writing.specs.Wrote.{endOf, Wrote}
 use Rattle.writing.specs.WroteLaws.{ordered-end, ordered-back, ordered-first, wrote-none, wrote-block, wrote-append}
-use Rattle.writing.specs.Own.{OwnOf, ownWords, ownGroups, numberIn}
-use Rattle.writing.specs.OwnLaws.{number-at, one-group}
-use Rattle.writing.specs.Data.{entryIn, recordsBy, entryRecords, entryCount, entryPayloads, entryKind, framedAll, entryBlocks, signalWords}
-use Rattle.writing.specs.Data.{entrySignal, dataFrom, Tables, EntryReady, DataReady, SortedReady, SeveralReady}
+use Rattle.writing.specs.Own.{OwnOf, ownWords, ownGroups, groupsAt, wordsAt}
+use Rattle.writing.specs.Data.{entryIn, entryColumn, entryRecords, entryCount, entryPayloads, entryKind, entryBytes, entryBlocks, signalWords}
+use Rattle.writing.specs.Data.{entrySignal, dataFrom, EntryReady, DataReady, Kept}
 
--- ---- the records of one of several groups
-module _ (s : List ℕ) (d k : ℕ) where
-  several-records : (gs : List ℕ) (fs : List Fragment) → (length gs ≡ 1 → ⊥) → k < length gs
-      → groupRecords s d k gs fs ≡ framedRecords k (unsortedFrames s d gs fs)
-  several-records [] fs l h = absurd (omega arith)
-  several-records (g ∷ []) fs l h = absurd (l refl)
-  several-records (g ∷ x ∷ gs) fs l h = refl
+-- ---- a column's blocks as they are asked for
+pub bytes-are : (s : List ℕ) (size : ℕ) (w : List ℕ) (n : ℕ) (fs : List ℕ) (nf : ℕ) (e : Entry)
+    → entryBytes s size w n fs nf e ≡ framedAll (entryKind s e) (entryPayloads s size e (entryRecords s w n fs nf e))
+unfolding blocksFor entryPayloads entryRecords
+bytes-are s size w n fs nf e = refl
 
--- ---- a column's records, by its DG's words
-module _ {s w : List ℕ} {n : ℕ} {fs : List ℕ} {nf : ℕ} {e : Entry} {o : Own} (t : Tables w fs nf) (r : EntryReady s w n fs nf e)
-    (q : OwnOf w n nf (e .parent) o) where
-  pub own-length : length (ownGroups w o) ≡ o .groups
-  unfolding ownGroups
-  own-length =
-      let a = t .source in
-      let b = q .before in
-      let c = q .few in
-      length-part (3072 + o .first) (3072 + o .first + o .groups - (3072 + o .first)) w (omega arith) ∙ omega arith
+-- by the words of its DG
+module _ {s w : List ℕ} {n : ℕ} {fs : List ℕ} {nf : ℕ} {e : Entry} {o : Own} (size : ℕ) (q : OwnOf w n nf (e .parent) o) where
+  pub blocks-ready : (room : ℕ) → EntryReady s w n fs nf e → length (entryBytes s size w n fs nf e) ≤ room
+      → BlocksReady s size (ownGroups w o) (ownWords fs o) (entryColumn e) room
+  unfolding entryRecords
+  blocks-ready room r h =
+      rw (q .is) (record { fit = r .fit; kept = r .kept; listed = r .listed; checked = r .checked; counted = r .counted; small = r .small; ends = h })
 
-  pub listed : numberIn (e .group) (ownGroups w o) < length (ownGroups w o)
-  listed = rw (q .is) (r .listed)
-
-  checked-own : 0 < width s (e .group) (e .channel) → 0 < e .records
-      → recordsIn s (e .parent) (ownGroups w o) (fragmentsOf (ownWords fs o)) ≡ fine
-  checked-own a b = rw (q .is) (r .checked a b)
-
-  records-own : entryRecords s w n fs nf e
-      ≡ groupRecords s (e .parent) (numberIn (e .group) (ownGroups w o)) (ownGroups w o) (fragmentsOf (ownWords fs o))
-  unfolding entryRecords recordsBy
-  records-own = rw (← q .is)
-
-  module _ (z : o .groups ≡ 1) where
-    pub alone : ownGroups w o ≡ e .group ∷ []
-    alone = one-group (e .group) (ownGroups w o) (own-length ∙ z) listed
-
-    pub records-alone : entryRecords s w n fs nf e ≡ sortedRecords s (e .parent) (e .group) (runs (fragmentsOf (ownWords fs o)))
-    records-alone = records-own ∙ rw alone
-
-    pub sorted-ready : SortedReady s (ownWords fs o) (e .parent) (e .group) (e .channel) (e .records)
-    sorted-ready =
-        record {
-          fit = r .fit;
-          checked = λ a b. rw alone at (checked-own a b);
-          counted = λ a b. rw (← records-alone) (r .counted a b);
-        }
-
-  module _ (z : o .groups ≡ 1 → ⊥) where
-    pub many : length (ownGroups w o) ≡ 1 → ⊥
-    many h = z (sym own-length ∙ h)
-
-    pub records-several : {k : ℕ} → k ≡ numberIn (e .group) (ownGroups w o)
-        → entryRecords s w n fs nf e ≡ framedRecords k (unsortedFrames s (e .parent) (ownGroups w o) (fragmentsOf (ownWords fs o)))
-    records-several i =
-        records-own ∙ rw i (several-records s (e .parent) (numberIn (e .group) (ownGroups w o)) (ownGroups w o) (fragmentsOf (ownWords fs o)) many listed)
-
-    pub several-ready : {k : ℕ} → k ≡ numberIn (e .group) (ownGroups w o)
-        → SeveralReady s (ownGroups w o) (ownWords fs o) (e .parent) k (e .group) (e .channel) (e .records)
-    several-ready {k} i =
-        record {
-          fit = r .fit;
-          group = rw i (number-at (e .group) (ownGroups w o) listed);
-          plain = r .kept;
-          counted = λ a b. ap length (sym (records-several i)) ∙ r .counted a b;
-        }
+  pub blocks-put : (p last-p out last : List ℕ) → EntryReady s w n fs nf e → length (entryBytes s size w n fs nf e) ≤ length out
+      → Kept s w n fs nf p → WritesBlocks s size (ownGroups w o) (ownWords fs o) (entryColumn e) p last-p out last
+      → Kept s w n fs nf last-p × (last ≡ blit 0 (entryBytes s size w n fs nf e) out)
+  blocks-put p last-p out last r h k v =
+      rw (q .is) at (v (groupsAt w n nf) (wordsAt w n fs nf) (rw (q .is)) (rw (q .is)) k (blocks-ready (length out) r h))
 
 -- ---- blocks one after the other
 framed-size : (kind : ℕ) (ps : List (List ℕ)) → length (framedAll kind ps) ≡ 24 * length ps + length (together ps)
@@ -107,7 +59,7 @@ unfolding framedAll together
 framed-size kind [] = refl
 framed-size kind (p ∷ ps) = rw (length-append, length-append, length-framed, framed-size kind ps) (omega arith)
 
-pub payloads-size : (s : List ℕ) (g c kind size n : ℕ) (rs : List (List ℕ)) → fits s g c ≡ true → 0 < width s g c → 0 < n → length rs ≡ n
+payloads-size : (s : List ℕ) (g c kind size n : ℕ) (rs : List (List ℕ)) → fits s g c ≡ true → 0 < width s g c → 0 < n → length rs ≡ n
     → Long (samples s g + invalBytes s g) rs
     → length (framedAll kind (payloads s g c (perFull size (width s g c) n) (blockCount size (width s g c) n) rs))
     ≡ 24 * blockCount size (width s g c) n + width s g c * n
@@ -121,7 +73,7 @@ payloads-size s g c kind size n rs f wide some many l =
     ap length (payloads-joined s g c m b rs) ∙ rw a (length-cells s g c f l ∙ rw many) in
     rw (framed-size, length-payloads, e)
 
-pub payloads-end : (kind a first : ℕ) (p : List ℕ) (ps : List (List ℕ))
+payloads-end : (kind a first : ℕ) (p : List ℕ) (ps : List (List ℕ))
     → endOf a (payloadBlocks kind first (p ∷ ps)) ≡ first + length (framedAll kind (p ∷ ps))
 unfolding endOf payloadBlocks framedAll
 payloads-end kind a first p [] = rw append-nil
@@ -144,12 +96,12 @@ flat-blocks kind a e (p ∷ ps) bs =
     rw length-append (omega arith) in
     rw (z, n, flat-blocks kind (a + (24 + length p)) e ps bs, m) (sym (append-assoc (blockOf kind p) (framedAll kind ps) _))
 
-pub flat-later : (kind a first r : ℕ) (p : List ℕ) (ps : List (List ℕ))
+flat-later : (kind a first r : ℕ) (p : List ℕ) (ps : List (List ℕ))
     → flat a (payloadBlocks kind first (p ∷ ps)) r ≡ replicate (first - a) 0 ++ flat first (payloadBlocks kind first (p ∷ ps)) r
 unfolding flat payloadBlocks
 flat-later kind a first r p ps = rw (none-left first) (append-assoc (replicate (first - a) 0) (blockOf kind p) _)
 
-pub flat-ended : (kind first r : ℕ) (ps : List (List ℕ)) → r ≡ first + length (framedAll kind ps)
+flat-ended : (kind first r : ℕ) (ps : List (List ℕ)) → r ≡ first + length (framedAll kind ps)
     → flat first (payloadBlocks kind first ps) r ≡ framedAll kind ps
 unfolding flat
 flat-ended kind first r ps e =
@@ -157,7 +109,7 @@ flat-ended kind first r ps e =
     ∙ rw (← e, none-left r, append-nil)
 
 -- zeros up to the first, then the blocks
-pub wrote-payloads : {at : ℕ} (kind first : ℕ) (ps : List (List ℕ)) {out mid last : List ℕ} {r : ℕ} → 0 < length ps → at ≤ first
+wrote-payloads : {at : ℕ} (kind first : ℕ) (ps : List (List ℕ)) {out mid last : List ℕ} {r : ℕ} → 0 < length ps → at ≤ first
     → mid ≡ blit at (replicate (first - at) 0) out → last ≡ blit first (framedAll kind ps) mid → r ≡ first + length (framedAll kind ps)
     → Wrote at (payloadBlocks kind first ps) r out last
 wrote-payloads kind first [] z h m q x = absurd (omega arith)
@@ -169,7 +121,7 @@ wrote-payloads {at} kind first (p ∷ ps) {out} {mid} {last} {r} z h m q x =
           (blit-append (replicate (first - at) 0) at (framedAll kind (p ∷ ps)) out ∙ rw (length-replicate, y))));
     }
 
-pub payloads-room : {at e : ℕ} (kind first : ℕ) (ps : List (List ℕ)) → 0 < length ps → Ordered at (payloadBlocks kind first ps) e
+payloads-room : {at e : ℕ} (kind first : ℕ) (ps : List (List ℕ)) → 0 < length ps → Ordered at (payloadBlocks kind first ps) e
     → (at ≤ first) × (first + length (framedAll kind ps) ≤ e)
 unfolding Ordered payloadBlocks
 payloads-room kind first [] z o = absurd (omega arith)
@@ -180,7 +132,7 @@ payloads-room {at} {e} kind first (p ∷ ps) z o =
 -- ---- a column's blocks
 
 -- with blocks it has width and records
-pub blocks-some : (size w n : ℕ) → 0 < blockCount size w n → (0 < w) × (0 < n)
+blocks-some : (size w n : ℕ) → 0 < blockCount size w n → (0 < w) × (0 < n)
 blocks-some size zero n z = let e = no-blocks size 0 n (zero-mul n) in absurd (omega arith)
 blocks-some size (suc w) zero z = let e = no-blocks size (suc w) 0 (mul-zero (suc w)) in absurd (omega arith)
 blocks-some size (suc w) (suc n) z = (omega arith, omega arith)
@@ -212,15 +164,19 @@ module _ {s w : List ℕ} {n : ℕ} {fs : List ℕ} {nf : ℕ} {e : Entry} (size
     unfolding entryBlocks
     entry-room = rw size-is at (payloads-room (entryKind s e) (e .first) (entryPayloads s size e (entryRecords s w n fs nf e)) some-payloads o)
 
+    pub bytes-room : e .first + length (entryBytes s size w n fs nf e) ≤ room
+    bytes-room = let h = entry-room .1 in let z = ap length (bytes-are s size w n fs nf e) ∙ size-is in omega arith
+
     pub entry-wrote : (out : List ℕ) {mid last : List ℕ} → mid ≡ blit at (replicate (e .first - at) 0) out
-        → last ≡ blit (e .first) (framedAll (entryKind s e) (entryPayloads s size e (entryRecords s w n fs nf e))) mid
+        → last ≡ blit (e .first) (entryBytes s size w n fs nf e) mid
         → Wrote at (entryBlocks s size w n fs nf e) (e .first + (24 * b + x * e .records)) out last
     unfolding entryBlocks
     entry-wrote out m l =
-        wrote-payloads (entryKind s e) (e .first) (entryPayloads s size e (entryRecords s w n fs nf e)) some-payloads (entry-room .0) m l (rw size-is)
+        wrote-payloads (entryKind s e) (e .first) (entryPayloads s size e (entryRecords s w n fs nf e)) some-payloads (entry-room .0) m
+        (rw (bytes-are s size w n fs nf e) at l) (rw size-is)
 
 -- ---- signal data
-pub same-small : (r l : ℕ) → r < 18446744073709551616 → l < 18446744073709551616 → r % 2 ^ 64 ≡ l % 2 ^ 64 → r ≡ l
+same-small : (r l : ℕ) → r < 18446744073709551616 → l < 18446744073709551616 → r % 2 ^ 64 ≡ l % 2 ^ 64 → r ≡ l
 same-small r l a b e = sym (mod-eq-of-lt a) ∙ e ∙ mod-eq-of-lt b
 
 module _ (s ws : List ℕ) (sd size : ℕ) (out : List ℕ) (h : sd + length (blockOf kindSD (joined s (fragmentsOf ws))) ≤ length out)
@@ -305,14 +261,14 @@ module _ {s : List ℕ} {size : ℕ} {w : List ℕ} {n : ℕ} {fs : List ℕ} {n
   writing-end h = t .rest p out (rw (data-none s size w n fs nf cs m k number h) (wrote-none p out))
 
   module _ (h : k < number) {e : Entry} (i : e ≡ entryIn cs m k) where
-    pub opened : Ordered p (entryBlocks s size w n fs nf e ++ (entrySignal s fs e ++ dataFrom s size w n fs nf cs m (k + 1) (number - (k + 1)))) (length out)
+    opened : Ordered p (entryBlocks s size w n fs nf e ++ (entrySignal s fs e ++ dataFrom s size w n fs nf cs m (k + 1) (number - (k + 1)))) (length out)
     opened = rw (i, ← data-open s size w n fs nf cs m k number h) (t .ordered)
 
     pub blocks-ordered : Ordered p (entryBlocks s size w n fs nf e) (length out)
     blocks-ordered = ordered-first p (entryBlocks s size w n fs nf e) _ (length out) opened
 
     module _ {q : ℕ} {mid : List ℕ} (v : Wrote p (entryBlocks s size w n fs nf e) q out mid) where
-      pub after-blocks : Ordered q (entrySignal s fs e ++ dataFrom s size w n fs nf cs m (k + 1) (number - (k + 1))) (length out)
+      after-blocks : Ordered q (entrySignal s fs e ++ dataFrom s size w n fs nf cs m (k + 1) (number - (k + 1))) (length out)
       after-blocks = rw (v .end) (ordered-back p (entryBlocks s size w n fs nf e) _ (length out) opened)
 
       mid-length : length mid ≡ length out
@@ -332,3 +288,7 @@ module _ {s : List ℕ} {size : ℕ} {w : List ℕ} {n : ℕ} {fs : List ℕ} {n
             rest = λ r x y. t .rest r x
                 (rw (data-open s size w n fs nf cs m k number h, ← i) (wrote-append (length out) v (wrote-append (length out) u y after-blocks) opened));
           }
+
+-- nothing is kept at first
+pub kept-none : (s w : List ℕ) (n : ℕ) (fs : List ℕ) (nf : ℕ) → Kept s w n fs nf (replicate 4096 0)
+kept-none s w n fs nf = record { right = λ i h. absurd (omega arith) }

@@ -15,6 +15,7 @@ use Rattle.base.specs.Checked.{fine}
 use Rattle.mdf.specs.Chain.{Fragment}
 use Rattle.mdf.specs.Walk.{Item, dg, levelCG, tally}
 use Rattle.mdf.specs.Group.{addresses, groupsOf, dataGroups}
+use Rattle.mdf.specs.Records.{most64, sizeOf}
 use Rattle.work_words.specs.Words.{fragmentWords, fragmentsOf, laidItems, countsAt}
 use Rattle.plan.specs.Channel.{width, keepsInval}
 use Rattle.plan.specs.Columns.{SrcGroup, Column, Signal, noSignal, signalData, sizeOfSignal}
@@ -29,6 +30,9 @@ use Rattle.result.specs.Result.{Args, Decided}
 use Rattle.result.specs.Guarantee.{In, here, there, columnsPlaced}
 use Rattle.chains.specs.KeptLaws.{length-words, words-append, words-back}
 use Rattle.payload_laws.specs.ColumnLaws.{Ready, ready}
+use Rattle.payload_laws.specs.BoundLaws.{fragments-small}
+use Rattle.shown_laws.specs.ColumnShown.{blocksAt}
+use Rattle.guarantee.specs.Theorem.{sized}
 use Rattle.plan_laws.specs.Lists.{occurs}
 use Rattle.plan_laws.specs.WalkLaws.{itemAddresses, walk-sound}
 use Rattle.plan_laws.specs.SourceLaws.{Origin}
@@ -38,9 +42,10 @@ use Rattle.planning.specs.TimeWordLaws.{stand-rest, laid-stand, blit-among}
 use Rattle.planning.specs.ReadBackLaws.{Words, groups-counted, laid-items, few-items}
 use Rattle.writing.specs.declared.own.Own.{Own}
 use Rattle.writing.specs.declared.data.Entry.{Entry}
-use Rattle.writing.specs.Own.{ownIn, ownWords, ownGroups, numberIn}
+use Rattle.places.specs.Stretch.{numberIn}
+use Rattle.writing.specs.Own.{ownIn, ownWords, ownGroups}
 use Rattle.writing.specs.FoundLaws.{laid-part, ownOf, own-found, groups-found, fragments-found, Found, dg-found, number-same, groups-once}
-use Rattle.writing.specs.Data.{entryIn, recordsBy, entryRecords, entryPayloads, entryBlocks, signalWords, entrySignal, dataFrom, EntryReady, DataReady}
+use Rattle.writing.specs.Data.{entryIn, entryRecords, entryPayloads, entryBlocks, signalWords, entrySignal, dataFrom, EntryReady, DataReady}
 
 -- ---- the words hold a group's DG
 pub record HeldGroup (w : List ℕ) (n : ℕ) (fs : List ℕ) (nf : ℕ) (g : SrcGroup) : Type 0 where
@@ -53,6 +58,7 @@ pub record HeldGroup (w : List ℕ) (n : ℕ) (fs : List ℕ) (nf : ℕ) (g : Sr
 pub record HeldColumn (s w : List ℕ) (n : ℕ) (fs : List ℕ) (nf : ℕ) (c : Column) : Type 0 where
   pub group : HeldGroup w n fs nf (c .group)
   pub ready : Ready s c
+  pub small : isNonempty s c ≡ true → sizeOf (c .group .dataGroup .fragments) ≤ most64
   pub checked : isNonempty s c ≡ true
       → recordsIn s (c .group .dataGroup .at) (addresses (c .group .dataGroup .groups)) (c .group .dataGroup .fragments) ≡ fine
 
@@ -74,7 +80,7 @@ nonempty s c a b = rw (lt-ltb _ _ a, lt-ltb _ _ b)
 module _ {s w : List ℕ} {n : ℕ} {fs : List ℕ} {nf : ℕ} {e : Entry} {before : ℕ} {p : Placed} (v : EntryOf e before p)
     (h : HeldColumn s w n fs nf (p .column)) where
   records-same : entryRecords s w n fs nf e ≡ recordsOf s (p .column .group)
-  unfolding entryRecords recordsBy recordsOf
+  unfolding entryRecords recordsOf
   records-same = rw (v .parent, v .group, h .group .groups, h .group .fragments, h .group .number)
 
   blocks-same : (size : ℕ) → entryBlocks s size w n fs nf e
@@ -93,6 +99,7 @@ module _ {s w : List ℕ} {n : ℕ} {fs : List ℕ} {nf : ℕ} {e : Entry} {befo
         listed = rw (v .parent, v .group, h .group .groups, h .group .number) (h .group .within);
         checked = λ a b. rw (v .parent, h .group .groups, h .group .fragments) (h .checked (some-of a b));
         counted = λ a b. rw (records-same, v .records) (h .ready .read (some-of a b) .many);
+        small = λ a b. rw (v .parent, h .group .fragments) (h .small (some-of a b));
         long = λ a b. rw (records-same, v .group) (h .ready .read (some-of a b) .long (h .ready .kept));
         signal = g;
       }
@@ -185,10 +192,24 @@ entry-of cs m k before p qs ps c h =
       sd = places-sd m k p ps h;
     }
 
+-- a column of the words is one of those placed
+pub record SameColumn (s : List ℕ) (size : ℕ) (w : List ℕ) (n : ℕ) (fs : List ℕ) (nf : ℕ) (e : Entry) (ps : List Placed) : Type 0 where
+  pub placed : Placed
+  pub one : In placed ps
+  pub first : e .first ≡ placed .first
+  pub sd : e .sd ≡ placed .sd
+  pub blocks : entryBlocks s size w n fs nf e ≡ blocksAt s size placed
+  pub signal : entrySignal s fs e ≡ sdBlocks s (placed .column .signalOf) (placed .sd)
+
+same-later : {s : List ℕ} {size : ℕ} {w : List ℕ} {n : ℕ} {fs : List ℕ} {nf : ℕ} {e : Entry} {p : Placed} {ps : List Placed}
+    → SameColumn s size w n fs nf e ps → SameColumn s size w n fs nf e (p ∷ ps)
+same-later c = record { placed = c .placed; one = there (c .one); first = c .first; sd = c .sd; blocks = c .blocks; signal = c .signal }
+
 -- ---- all columns
 record AllSame (s : List ℕ) (size : ℕ) (w : List ℕ) (n : ℕ) (fs : List ℕ) (nf : ℕ) (cs m : List ℕ) (k : ℕ) (ps : List Placed) : Type 0 where
   blocks : dataFrom s size w n fs nf cs m k (length ps) ≡ dataBlocks s size ps
   entries : (i : ℕ) → k ≤ i → i < k + length ps → EntryReady s w n fs nf (entryIn cs m i)
+  columns : (i : ℕ) → k ≤ i → i < k + length ps → SameColumn s size w n fs nf (entryIn cs m i) ps
 
 module _ (s : List ℕ) (size : ℕ) (w : List ℕ) (n nf : ℕ) (cs m l : List ℕ) where
   all-same : (k : ℕ) (before : List Fragment) (ps : List Placed) (fs : List ℕ)
@@ -198,7 +219,7 @@ module _ (s : List ℕ) (size : ℕ) (w : List ℕ) (n nf : ℕ) (cs m l : List 
       → ((c : Column) → In c (columnsPlaced ps) → HeldColumn s w n fs nf c)
       → AllSame s size w n fs nf cs m k ps
   unfolding dataFrom dataBlocks columnsPlaced signalFragments
-  all-same k before [] fs e h c q g = record { blocks = refl; entries = λ i a b. absurd (omega arith) }
+  all-same k before [] fs e h c q g = record { blocks = refl; entries = λ i a b. absurd (omega arith); columns = λ i a b. absurd (omega arith) }
   all-same k before (p ∷ ps) fs e h c q g =
       let sig : Signal = p .column .signalOf in
       let after : List Fragment = signalFragments (columnsPlaced ps) in
@@ -218,6 +239,10 @@ module _ (s : List ℕ) (size : ℕ) (w : List ℕ) (n nf : ℕ) (cs m l : List 
         entries = λ i a b. ⊎-elim
             (λ (x : k ≡ i). rw (← x) (entry-held v u fi))
             (λ (x : k < i). r .entries i (omega arith) (omega arith))
+            (eq-or-lt-of-le a);
+        columns = λ i a b. ⊎-elim
+            (λ (x : k ≡ i). rw (← x) (record { placed = p; one = here; first = v .first; sd = v .sd; blocks = blocks-same v u size; signal = si }))
+            (λ (x : k < i). same-later (r .columns i (omega arith) (omega arith)))
             (eq-or-lt-of-le a);
       }
 
@@ -302,6 +327,9 @@ module _ (x : Args) (d : Decided) (k : Known x d) (src₀ f₀ w₀ m₀ : List 
         group = held-group (c .group) (k .source c i .0);
         ready = ready (x .image) (dataGroups (k .steps .source)) (d .planned .columns) (k .steps .counted) (k .steps .dataFine) c i
             (subst (In (c .group)) (k .steps .groups) (k .source c i .0)) (k .fitting c i) (k .source c i .1);
+        small = λ q.
+            let z = sized x d k c i in
+            omega (arith, fragments-small (x .image) (c .group .dataGroup .fragments) (z .ready .read q .ranges) (k .steps .imageLength) (z .few));
         checked = k .recordsFine c i;
       }
 
@@ -342,3 +370,8 @@ module _ (x : Args) (d : Decided) (k : Known x d) (src₀ f₀ w₀ m₀ : List 
         entries = λ i h. all .entries i (omega arith) (omega arith);
         ordered = rw data-blocks o;
       }
+
+  pub data-columns : (i : ℕ) → i < length (d .planned .columns)
+      → SameColumn (x .image) (x .blockSize) sourceWords (length (k .steps .source .items)) fragmentsAll (length (k .steps .source .fragments))
+      (entryIn columnsAll memoAll i) (d .laidOut .placed)
+  data-columns i h = let am = as-many in all .columns i (omega arith) (omega arith)

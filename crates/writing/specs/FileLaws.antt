@@ -1,5 +1,5 @@
 -- What was decided and stands in the words gives each part of the file its blocks and its room.
-use Prim.Native.Nat.{ℕ, zero, suc, _+_, _*_, _-_, _≤_}
+use Prim.Native.Nat.{ℕ, zero, suc, _+_, _*_, _-_, _≤_, _<_}
 use mathlib.Core.List.{List, [], _∷_, _++_, append-nil, append-assoc}
 use mathlib.Core.Path.{_≡_, refl, sym, ap, subst, _∙_}
 use native.Mathlib.Omega.{arith}
@@ -21,12 +21,12 @@ use Rattle.work_words.specs.PlanWords.{signalFragments, laidPlan}
 use Rattle.base.specs.CheckedLaws.{ok-same}
 use Rattle.plan_laws.specs.ColumnLaws.{signalsOf}
 use Rattle.planning.specs.HeldLaws.{size-is}
-use Rattle.writing.specs.Data.{dataFrom, DataReady}
-use Rattle.writing.specs.DataReadyLaws.{data-blocks, data-ready}
+use Rattle.writing.specs.Data.{entryIn, dataFrom, DataReady}
+use Rattle.writing.specs.DataReadyLaws.{SameColumn, data-blocks, data-ready, data-columns}
 use Rattle.writing.specs.Answer.{fileFor}
 use Rattle.plan.specs.Copies.{Copy, Attachment}
 use Rattle.work_words.specs.CopyWords.{historyAt, laidCopies}
-use Rattle.plan.specs.Layout.{Layout, pastCopies}
+use Rattle.plan.specs.Layout.{Layout, Placed, pastCopies}
 use Rattle.placing.specs.Standing.{copiesIn}
 use Rattle.result.specs.Fill.{Block, block, newLink, copiedBlocks, mdBytes, fhBytes, hdBytes, nextDG, structureBlocks, dataBlocks, nextAttachment, attachmentBlocks}
 use Rattle.result.specs.Ordered.{Ordered}
@@ -128,6 +128,10 @@ data-eq s size a b c d e f g = rw (a, b, c, d, e, f, g)
 ready-eq : (s : List ℕ) (size at room : ℕ) {v v' f f' w w' m m' : List ℕ} {i i' p p' k k' : ℕ} → v ≡ v' → i ≡ i' → f ≡ f' → p ≡ p' → w ≡ w' → m ≡ m' → k ≡ k'
     → DataReady s size v' i' f' p' w' m' k' at room → DataReady s size v i f p w m k at room
 ready-eq s size at room a b c d e f g h = rw (a, b, c, d, e, f, g) h
+
+column-eq : (s : List ℕ) (size j : ℕ) (ps : List Placed) {v v' f f' w w' m m' : List ℕ} {i i' p p' : ℕ} → v ≡ v' → i ≡ i' → f ≡ f' → p ≡ p' → w ≡ w' → m ≡ m'
+    → SameColumn s size v' i' f' p' (entryIn w' m' j) ps → SameColumn s size v i f p (entryIn w m j) ps
+column-eq s size j ps a b c d e f h = rw (a, b, c, d, e, f) h
 
 signals-length : (cs : List Column) → length (signalFragments cs) ≡ signalsOf cs
 unfolding signalFragments signalsOf
@@ -283,6 +287,13 @@ module _ {x : Args} {items pieces columns omitted : ℕ} {n : numbers.Numbers} {
   data-same =
       data-eq s (x .blockSize) words-source number-items words-fragments number-pieces words-columns (st .by .numbered .words) (st .by .columns)
       ∙ data-blocks x d known (st .a) (st .b) (st .c) (st .d) (st .by .longA) (st .by .longC) (st .by .longD) few-pieces (columns-placed laid)
+
+  pub column-same : (k : ℕ) → k < columns → SameColumn s (x .blockSize) v items f pieces (entryIn w m k) (l .placed)
+  column-same k h =
+      let e = st .by .columns in
+      column-eq s (x .blockSize) k (l .placed) words-source number-items words-fragments number-pieces words-columns (st .by .numbered .words)
+      (data-columns x d known (st .a) (st .b) (st .c) (st .d) (st .by .longA) (st .by .longC) (st .by .longD) few-pieces (columns-placed laid) k
+      (omega (arith, h, e)))
 
   -- ---- each part's room and what was written, where the file is begun
   module _ (ys : List Block) {before : List Block} {a : ℕ} {out last : List ℕ} where

@@ -1,9 +1,8 @@
 -- What the words of reading hold of a DG: its fragments and its groups.
-use Prim.Native.Nat.{ℕ, suc, _+_, _*_, _-_, _≤_, min}
-use mathlib.Core.List.{List, [], _∷_}
+use Prim.Native.Nat.{ℕ, _+_, _*_, _-_, _≤_, min}
+use mathlib.Core.List.{List}
 use mathlib.Core.Path.{_≡_}
 use lib.ListN.{length, getD}
-use Rattle.base.specs.Choice.{ifEq}
 use Rattle.base.specs.Blit.{part}
 use Rattle.mdf.specs.Walk.{levelCG, tally}
 use Rattle.mdf.specs.Group.{groupsOf, upTo}
@@ -40,7 +39,9 @@ ownWords fs o = part (3 * o .begin) (3 * o .end - 3 * o .begin) fs
 unfoldable pub ownGroups : List ℕ → Own → List ℕ
 ownGroups w o = part (3072 + o .first) (3072 + o .first + o .groups - (3072 + o .first)) w
 
--- the number of the group at g among groups, or how many they are
-unfoldable pub numberIn : ℕ → List ℕ → ℕ
-numberIn g [] = 0
-numberIn g (h ∷ gs) = let later = suc (numberIn g gs) in ifEq h g 0 later
+-- the groups and the words of the fragments of the DG at d
+abbrev pub groupsAt : List ℕ → ℕ → ℕ → ℕ → List ℕ
+groupsAt w n nf d = ownGroups w (ownIn w n nf d)
+
+abbrev pub wordsAt : List ℕ → ℕ → List ℕ → ℕ → ℕ → List ℕ
+wordsAt w n fs nf d = ownWords fs (ownIn w n nf d)

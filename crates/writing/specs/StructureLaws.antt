@@ -46,7 +46,7 @@ use Rattle.placing.specs.Answer.{linkOf}
 use Rattle.placing.specs.Standing.{copiesIn}
 use Rattle.puts.specs.PutLaws.{lent-is}
 use Rattle.writing.specs.declared.placed.PlacedColumn.{PlacedColumn}
-use Rattle.writing.specs.AheadLaws.{lt-or-le}
+use Rattle.records.specs.FragmentLaws.{lt-or-le}
 use Rattle.writing.specs.PlacedIn.{masterIn, signalIn, columnIn, placedOne, placedIn}
 use Rattle.writing.specs.Structure.{
   masterPlace,

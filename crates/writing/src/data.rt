@@ -1,24 +1,24 @@
-// The data blocks and signal data of columns: the data blocks first, then zeros between them and the signal data.
-use crate::fill::fill_data;
+// The data blocks and signal data of columns, in address order: of each column zeros and its data blocks, zeros and its SD.
 use crate::gap::gap;
+use crate::own::own_of;
 use crate::signal::joined_size;
 use crate::signal::write_signal;
+use cells::column::Column;
+use cells::column::write_blocks;
 use channels::block_count;
 use channels::width_of;
 ghost use mathlib.Core.Path.{_≡_};
 ghost use mathlib.Core.List.{[], _∷_};
 ghost use Prim.Native.Nat.{_+_, _*_, _-_, _≤_};
 ghost use lib.ListN.{length};
-ghost use Rattle.base.specs.Blit.{part};
+ghost use Rattle.base.specs.Blit.{blit};
 ghost use Rattle.mdf.specs.Block.{kindSD};
 ghost use Rattle.work_words.specs.Words.{fragmentsOf};
 ghost use Rattle.mdf.specs.Records.{joined};
 ghost use Rattle.result.specs.Fill.{block, blockOf};
 ghost use Rattle.result.specs.Ordered.{Ordered};
 ghost use Rattle.writing.specs.Wrote.{Wrote};
-ghost use Rattle.writing.specs.Data.{entryIn, entryBlocks, entrySignal, dataFrom, EntryReady, DataReady};
-ghost use Rattle.writing.specs.Region.{entryRegion};
-ghost use Rattle.writing.specs.Between.{Standing};
+ghost use Rattle.writing.specs.Data.{entryIn, entryBytes, entryBlocks, entrySignal, dataFrom, Tables, EntryReady, DataReady, Kept};
 
 // A column: its CN, CG and DG, its number of records; the number of fragments before its signal data's and 1, or 0 for none, and how many
 // those are; the places of its first data block and of its SD.
@@ -52,8 +52,48 @@ pub(crate) fn entry_at(columns: &[u64], memo: &[u64], k: u64) -> Entry
     }
 }
 
-// Zeros from at up to its data blocks, which stand already; the answer is past them.
-fn pass_blocks(
+// The data blocks of column e, at the front of out.
+fn put_blocks(
+    out: &mut [u8],
+    image: &[u8],
+    size: u64,
+    source: &[u64],
+    n: u64,
+    fragments: &[u64],
+    nf: u64,
+    pool: &mut [u64],
+    e: Entry,
+)
+    requires { ⌜ Tables (now source) (now fragments) nf × EntryReady (now image) (now source) n (now fragments) nf e
+        × (length (entryBytes (now image) size (now source) n (now fragments) nf e) ≤ length (now out))
+        × Kept (now image) (now source) n (now fragments) nf (now pool) ⌝ }
+    ensures { λ _. ⌜ Kept (now (image .entry)) (now (source .entry)) n (now (fragments .entry)) nf (now (pool .exit))
+        × (now (out .exit) ≡ blit 0 (entryBytes (now (image .entry)) size (now (source .entry)) n (now (fragments .entry)) nf e)
+        (now (out .entry))) ⌝ }
+{
+    let o = own_of(source, n, nf, e.parent);
+    let p = (3 * o.begin) as usize;
+    let q = (3 * o.end) as usize;
+    let f = (3072 + o.first) as usize;
+    let l = f + o.groups as usize;
+    write_blocks(
+        out,
+        image,
+        size,
+        &source[f..l],
+        &fragments[p..q],
+        pool,
+        Column {
+            parent: e.parent,
+            group: e.group,
+            channel: e.channel,
+            records: e.records,
+        },
+    );
+}
+
+// Zeros from at up to its data blocks, then these; the answer is past them.
+fn write_column(
     out: &mut [u8],
     at: usize,
     image: &[u8],
@@ -62,13 +102,14 @@ fn pass_blocks(
     n: u64,
     fragments: &[u64],
     nf: u64,
+    pool: &mut [u64],
     e: Entry,
 ) -> usize
-    requires { ⌜ EntryReady (now image) (now source) n (now fragments) nf e
+    requires { ⌜ Tables (now source) (now fragments) nf × EntryReady (now image) (now source) n (now fragments) nf e
         × Ordered at (entryBlocks (now image) size (now source) n (now fragments) nf e) (length (now out))
-        × (part (e .first) (length (entryRegion (now image) size (now source) n (now fragments) nf e)) (now out)
-        ≡ entryRegion (now image) size (now source) n (now fragments) nf e) ⌝ }
-    ensures { λ r. ⌜ Wrote at (entryBlocks (now (image .entry)) size (now (source .entry)) n (now (fragments .entry)) nf e) r
+        × Kept (now image) (now source) n (now fragments) nf (now pool) ⌝ }
+    ensures { λ r. ⌜ Kept (now (image .entry)) (now (source .entry)) n (now (fragments .entry)) nf (now (pool .exit))
+        × Wrote at (entryBlocks (now (image .entry)) size (now (source .entry)) n (now (fragments .entry)) nf e) r
         (now (out .entry)) (now (out .exit)) ⌝ }
 {
     let w = width_of(image, e.group, e.channel);
@@ -78,6 +119,17 @@ fn pass_blocks(
     }
     let first = e.first as usize;
     gap(out, at, first);
+    put_blocks(
+        &mut out[first..],
+        image,
+        size,
+        source,
+        n,
+        fragments,
+        nf,
+        pool,
+        e,
+    );
     first + (24 * count + w * e.records) as usize
 }
 
@@ -107,37 +159,7 @@ fn write_signal_of(out: &mut [u8], at: usize, image: &[u8], fragments: &[u64], e
     write_sd(out, at, e.sd as usize, image, &fragments[a..b])
 }
 
-// Of so many columns, whose data blocks stand already: zeros between them, and the SD.
-fn write_between(
-    out: &mut [u8],
-    at: usize,
-    image: &[u8],
-    size: u64,
-    source: &[u64],
-    n: u64,
-    fragments: &[u64],
-    nf: u64,
-    columns: &[u64],
-    memo: &[u64],
-    number: u64,
-) -> usize
-    requires { ⌜ DataReady (now image) size (now source) n (now fragments) nf (now columns) (now memo) number at (length (now out))
-        × Standing (now image) size (now source) n (now fragments) nf (now columns) (now memo) 0 number (now out) ⌝ }
-    ensures { λ r. ⌜ Wrote at (dataFrom (now (image .entry)) size (now (source .entry)) n (now (fragments .entry)) nf (now (columns .entry))
-        (now (memo .entry)) 0 number) r (now (out .entry)) (now (out .exit)) ⌝ }
-{
-    let mut k = 0;
-    let mut p = at;
-    while k < number {
-        let e = entry_at(columns, memo, k);
-        p = pass_blocks(out, p, image, size, source, n, fragments, nf, e);
-        p = write_signal_of(out, p, image, fragments, e);
-        k += 1;
-    }
-    p
-}
-
-// Of so many columns, from at on; the answer is past them.
+// Of so many columns, from at on, one after the other; the answer is past them.
 pub(crate) fn write_data(
     out: &mut [u8],
     at: usize,
@@ -155,30 +177,14 @@ pub(crate) fn write_data(
     ensures { λ r. ⌜ Wrote at (dataFrom (now (image .entry)) size (now (source .entry)) n (now (fragments .entry)) nf (now (columns .entry))
         (now (memo .entry)) 0 number) r (now (out .entry)) (now (out .exit)) ⌝ }
 {
-    fill_data(
-        out,
-        at,
-        image,
-        size,
-        source,
-        n,
-        fragments,
-        nf,
-        columns,
-        memo,
-        number,
-    );
-    write_between(
-        out,
-        at,
-        image,
-        size,
-        source,
-        n,
-        fragments,
-        nf,
-        columns,
-        memo,
-        number,
-    )
+    let mut pool = [0u64; 4096];
+    let mut k = 0;
+    let mut p = at;
+    while k < number {
+        let e = entry_at(columns, memo, k);
+        p = write_column(out, p, image, size, source, n, fragments, nf, &mut pool, e);
+        p = write_signal_of(out, p, image, fragments, e);
+        k += 1;
+    }
+    p
 }

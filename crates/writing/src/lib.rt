@@ -1,20 +1,14 @@
 // The result written: identification, HD, MD and FH; copied blocks and attachments; the DG, CG, CN and DL of every column; data and signal data.
 mod attached;
-mod cell;
-mod column;
 pub mod convert;
 mod copies;
 mod counts;
-mod cursor;
 mod data;
 mod file;
-mod fill;
 mod front;
 mod gap;
-mod kinds;
 mod omissions;
 mod own;
 mod placed;
-mod rows;
 mod signal;
 mod structure;

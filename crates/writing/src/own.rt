@@ -7,7 +7,7 @@ use planning::words::word;
 use puts::least;
 ghost use mathlib.Core.Path.{_≡_};
 ghost use Prim.Native.Nat.{_-_};
-ghost use Rattle.writing.specs.Own.{OwnOf, numberIn};
+ghost use Rattle.writing.specs.Own.{OwnOf};
 
 // Its fragments from number begin up to number end; before its groups, groups in number, are others, first in number.
 pub struct Own {
@@ -42,19 +42,4 @@ pub(crate) fn own_of(source: &[u64], n: u64, nf: u64, d: u64) -> Own
         first,
         groups,
     }
-}
-
-// The number of the group at g among groups, or how many they are.
-pub(crate) fn number_in(groups: &[u64], g: u64) -> u64
-    ensures { λ r. ⌜ r ≡ numberIn g (now (groups .entry)) ⌝ }
-{
-    let n = groups.len();
-    let mut i = 0;
-    while i < n {
-        if groups[i] == g {
-            return i as u64;
-        }
-        i += 1;
-    }
-    n as u64
 }

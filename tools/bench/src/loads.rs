@@ -36,22 +36,29 @@ impl Image {
     }
 }
 
-// A group: how many channels, the bits of each, whether each has an invalidation bit, and the id of its records.
-#[derive(Clone, Copy)]
+// A group: the bytes of each channel, whether the first is its master, whether each has an invalidation bit, the id of its records, and the
+// bytes of signal data of its last channel.
+#[derive(Clone, Default)]
 pub struct Group {
-    pub channels: u32,
-    pub bits: u32,
+    pub widths: Vec<u32>,
+    pub master: bool,
     pub inval: bool,
     pub id: u64,
+    pub signal: usize,
 }
 
 impl Group {
+    // So many channels of so many bits.
+    pub fn of(channels: usize, bits: u32, id: u64) -> Group {
+        Group { widths: vec![bits / 8; channels], master: true, id, ..Default::default() }
+    }
+
     fn samples(&self) -> u32 {
-        self.channels * self.bits / 8
+        self.widths.iter().sum()
     }
 
     fn inval_bytes(&self) -> u32 {
-        if self.inval { self.channels.div_ceil(8) } else { 0 }
+        if self.inval { (self.widths.len() as u32).div_ceil(8) } else { 0 }
     }
 
     fn record(&self) -> usize {
@@ -59,22 +66,23 @@ impl Group {
     }
 }
 
-// A CN: the first is the master (type 2, sync 1), the others signals.
-fn channel_data(g: &Group, i: u32) -> Vec<u8> {
-    let master = (i == 0) as u8;
-    let mut d = vec![2 * master, master, 0, 0];
-    d.extend((i * g.bits / 8).to_le_bytes());
-    d.extend(g.bits.to_le_bytes());
+// A CN: the first may be the master (type 2, sync 1), the last may have signal data (type 1), the others are plain.
+fn channel_data(g: &Group, i: usize) -> Vec<u8> {
+    let master = (g.master && i == 0) as u8;
+    let signal = (g.signal > 0 && i + 1 == g.widths.len()) as u8;
+    let mut d = vec![2 * master + signal, master, 0, 0];
+    d.extend(g.widths[..i].iter().sum::<u32>().to_le_bytes());
+    d.extend((8 * g.widths[i]).to_le_bytes());
     d.extend((if g.inval { 2u32 } else { 0 }).to_le_bytes());
-    d.extend(i.to_le_bytes());
+    d.extend((i as u32).to_le_bytes());
     d.extend([0; 52]);
     d
 }
 
-fn group_data(g: &Group, cycles: u64) -> Vec<u8> {
+fn group_data(g: &Group, cycles: u64, remote: bool) -> Vec<u8> {
     let mut d = g.id.to_le_bytes().to_vec();
     d.extend(cycles.to_le_bytes());
-    d.extend([0; 8]);
+    d.extend([8 * remote as u8, 0, 0, 0, 0, 0, 0, 0]);
     d.extend(g.samples().to_le_bytes());
     d.extend(g.inval_bytes().to_le_bytes());
     d
@@ -102,50 +110,98 @@ pub fn recording(groups: &[Group], cycles: u64, piece: usize) -> Vec<u8> {
 
 // The same with records in that order, so many times.
 pub fn mixed(groups: &[Group], order: &Order, cycles: u64, piece: usize) -> Vec<u8> {
+    let (mut image, hd) = begun();
+    let dg = image.data_group(groups, order, cycles, piece, &[]).0;
+    image.link(hd, 0, dg);
+    image.0
+}
+
+// Two DG of so many groups, records of each in turn: those of the first have a signal each, whose time is the master of a group of the second.
+pub fn by_turns(groups: usize, cycles: u64) -> Vec<u8> {
+    let (mut image, hd) = begun();
+    let order = Order { id_size: 2, turn: (0..groups).collect() };
+    let times = bus(groups as u64, 64, 1);
+    let signals: Vec<Group> = times.iter().map(|g| Group { master: false, ..g.clone() }).collect();
+    let (second, masters) = image.data_group(&times, &order, cycles, 4 << 20, &[]);
+    let (first, _) = image.data_group(&signals, &order, cycles, 4 << 20, &masters);
+    image.link(hd, 0, first);
+    image.link(first, 0, second);
+    image.0
+}
+
+fn begun() -> (Image, u64) {
     let mut image = Image(vec![0; 64]);
     image.0[..16].copy_from_slice(b"MDF     4.10    ");
-    let id_size = order.id_size;
     let hd = image.put(b"HD", vec![0; 6], vec![0; 32]);
-    let dg = image.put(b"DG", vec![0; 4], vec![id_size as u8, 0, 0, 0, 0, 0, 0, 0]);
-    image.link(hd, 0, dg);
-    let mut last_group = 0;
-    for (k, g) in groups.iter().enumerate() {
-        let own = order.turn.iter().filter(|&&j| j == k).count() as u64;
-        let cg = image.put(b"CG", vec![0; 6], group_data(g, cycles * own));
-        if last_group == 0 { image.link(dg, 1, cg) } else { image.link(last_group, 0, cg) }
-        last_group = cg;
+    (image, hd)
+}
+
+impl Image {
+    // Data in blocks of at most `piece` bytes that a DL lists.
+    fn listed(&mut self, kind: &[u8; 2], data: &[u8], piece: usize) -> u64 {
+        let pieces: Vec<&[u8]> = data.chunks(piece).collect();
+        let flags = [&[1, 0, 0, 0][..], &(pieces.len() as u32).to_le_bytes(), &(piece as u64).to_le_bytes()].concat();
+        let dl = self.put(b"DL", vec![0; pieces.len() + 1], flags);
+        for (i, p) in pieces.iter().enumerate() {
+            let at = self.put(kind, vec![], p.to_vec());
+            self.link(dl, i as u64 + 1, at);
+        }
+        dl
+    }
+
+    // A CG and its channels.
+    fn group(&mut self, g: &Group, cycles: u64, remote: Option<&u64>) -> u64 {
+        let links = [vec![0; 6], remote.map_or(vec![], |&r| vec![r])].concat();
+        let cg = self.put(b"CG", links, group_data(g, cycles, remote.is_some()));
         let mut last = 0;
-        for i in 0..g.channels {
-            let name = image.put(b"TX", vec![], format!("channel {} {i:03}\0", g.id).into_bytes());
-            let cn = image.put(b"CN", vec![0, 0, name, 0, 0, 0, 0, 0], channel_data(g, i));
-            if last == 0 { image.link(cg, 1, cn) } else { image.link(last, 0, cn) }
+        for i in 0..g.widths.len() {
+            let name = self.put(b"TX", vec![], format!("channel {} {i:03}\0", g.id).into_bytes());
+            let cn = self.put(b"CN", vec![0, 0, name, 0, 0, 0, 0, 0], channel_data(g, i));
+            if last == 0 { self.link(cg, 1, cn) } else { self.link(last, 0, cn) }
             last = cn;
         }
-    }
-    let mut rows = Vec::with_capacity((cycles as usize) * order.turn.iter().map(|&k| groups[k].record() + id_size).sum::<usize>());
-    let mut state = 7;
-    for _ in 0..cycles {
-        for &k in &order.turn {
-            let g = &groups[k];
-            rows.extend(&g.id.to_le_bytes()[..id_size]);
-            let at = rows.len();
-            rows.resize(at + g.record(), 0);
-            fill(&mut rows[at..], &mut state);
+        if g.signal > 0 {
+            let mut bytes = vec![0; g.signal];
+            fill(&mut bytes, &mut 5);
+            let sd = self.listed(b"SD", &bytes, 4 << 20);
+            self.link(last, 5, sd);
         }
+        cg
     }
-    let pieces: Vec<&[u8]> = rows.chunks(piece).collect();
-    let dl = image.put(b"DL", vec![0; pieces.len() + 1], [&[1, 0, 0, 0][..], &(pieces.len() as u32).to_le_bytes(), &(piece as u64).to_le_bytes()].concat());
-    image.link(dg, 2, dl);
-    for (i, p) in pieces.iter().enumerate() {
-        let dt = image.put(b"DT", vec![], p.to_vec());
-        image.link(dl, i as u64 + 1, dt);
+
+    // A DG with its groups, each with the group that its remote link leads to if there are such, and its data; its groups' addresses.
+    fn data_group(&mut self, groups: &[Group], order: &Order, cycles: u64, piece: usize, remote: &[u64]) -> (u64, Vec<u64>) {
+        let id_size = order.id_size;
+        let dg = self.put(b"DG", vec![0; 4], vec![id_size as u8, 0, 0, 0, 0, 0, 0, 0]);
+        let mut made: Vec<u64> = vec![];
+        for (k, g) in groups.iter().enumerate() {
+            let own = order.turn.iter().filter(|&&j| j == k).count() as u64;
+            let cg = self.group(g, cycles * own, remote.get(k));
+            match made.last() {
+                None => self.link(dg, 1, cg),
+                Some(&before) => self.link(before, 0, cg),
+            }
+            made.push(cg);
+        }
+        let mut rows = Vec::with_capacity((cycles as usize) * order.turn.iter().map(|&k| groups[k].record() + id_size).sum::<usize>());
+        let mut state = 7;
+        for _ in 0..cycles {
+            for &k in &order.turn {
+                rows.extend(&groups[k].id.to_le_bytes()[..id_size]);
+                let at = rows.len();
+                rows.resize(at + groups[k].record(), 0);
+                fill(&mut rows[at..], &mut state);
+            }
+        }
+        let dl = self.listed(b"DT", &rows, piece);
+        self.link(dg, 2, dl);
+        (dg, made)
     }
-    image.0
 }
 
 // Groups of a bus logger, with one channel of so many bits each.
 pub fn bus(count: u64, bits: u32, step: u64) -> Vec<Group> {
-    (1..=count).map(|i| Group { channels: 1, bits, inval: false, id: i * step }).collect()
+    (1..=count).map(|i| Group::of(1, bits, i * step)).collect()
 }
 
 // A million records or so of groups in an order that looks random.
@@ -162,8 +218,7 @@ pub fn shuffled(groups: usize, records: usize) -> Vec<usize> {
 // One channel of one record whose conversion is a block with this many links, all to blocks that are copied: first to 2,000 of them, then to
 // the last one over and over.
 pub fn many_links(links: usize) -> Vec<u8> {
-    let g = Group { channels: 1, bits: 32, inval: false, id: 0 };
-    let mut image = Image(recording(&[g], 1, 4 << 20));
+    let mut image = Image(recording(&[Group::of(1, 32, 0)], 1, 4 << 20));
     let texts: Vec<u64> = (0..2000).map(|_| image.put(b"TX", vec![], b"text\0\0\0\0".to_vec())).collect();
     let to = (0..links).map(|i| texts[i.min(1999)]).collect();
     let cc = image.put(b"CC", to, vec![0; 24]);

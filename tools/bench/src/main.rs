@@ -2,7 +2,7 @@
 //! bench read TURNS: times reading ranges of column files.
 mod loads;
 mod reading;
-use loads::{bus, many_links, mixed, recording, shuffled, Group, Order};
+use loads::{bus, by_turns, many_links, mixed, recording, shuffled, Group, Order};
 use mf4_rs::column::{to_column_oriented_bytes, to_column_oriented_with, ColumnOptions, ColumnSink};
 use mf4_rs::error::MdfError;
 use mf4_rs::index::ByteRangeReader;
@@ -183,7 +183,7 @@ fn framed() -> Vec<(&'static str, Vec<u8>)> {
     let no_bytes = || {
         let mut groups = bus(512, 32, 1);
         for g in groups.iter_mut() {
-            g.channels = 0;
+            g.widths.clear();
         }
         mixed(&groups, &Order { id_size: 2, turn: vec![511; 1000] }, 1000, 4 << 20)
     };
@@ -199,15 +199,46 @@ fn framed() -> Vec<(&'static str, Vec<u8>)> {
     ]
 }
 
+// Ten groups of 30 channels.
+fn ten() -> Vec<Group> {
+    (1..=10).map(|id| Group::of(30, 32, id)).collect()
+}
+
+type Load = fn(u64) -> Vec<u8>;
+
+// Further loads, each so many times its length.
+fn further() -> Vec<(&'static str, Load)> {
+    // at every tick a record of the first group, at each tenth one of the second, at each hundredth one of the third
+    fn rates() -> Vec<usize> {
+        (0..100).flat_map(|t| [vec![0], vec![1; (t % 10 == 0) as usize], vec![2; (t == 0) as usize]].concat()).collect()
+    }
+    vec![
+        ("2 DG of 127 groups by turns, then of 254", |n| by_turns(127 * n as usize, 2)),
+        ("2 DG of 255 groups by turns", |n| by_turns(255, 2 * n)),
+        ("3 groups of 30 channels, rates 100, 10 and 1", |n| mixed(&ten()[..3], &Order { id_size: 1, turn: rates() }, 5_000 * n, 4 << 20)),
+        ("10 groups of 30 channels in random order", |n| {
+            mixed(&ten(), &Order { id_size: 1, turn: shuffled(10, 600_000 * n as usize) }, 1, 4 << 20)
+        }),
+        ("500 groups of one channel", |n| mixed(&bus(500, 32, 1), &Order { id_size: 2, turn: (0..500).collect() }, 2_000 * n, 4 << 20)),
+        ("10 million records of 8 bits", |n| recording(&[Group::of(1, 8, 0)], 10_000_000 * n, 4 << 20)),
+        ("300 channels of 32 bits in 1,000 DT", |n| recording(&[Group::of(300, 32, 0)], 60_000 * n, 72_001 * n as usize)),
+        ("300 channels of 1, 2, 3, 5 and 8 bytes", |n| {
+            let widths = (0..300).map(|i| [1, 2, 3, 5, 8][i % 5]).collect();
+            recording(&[Group { widths, ..Group::of(0, 8, 0) }], 60_000 * n, 4 << 20)
+        }),
+        ("100 MB of signal data", |n| recording(&[Group { signal: 100_000_000 * n as usize, ..Group::of(2, 64, 0) }], 1_000, 4 << 20)),
+    ]
+}
+
 fn main() {
     if std::env::args().nth(1).as_deref() == Some("read") {
         return reading::run(std::env::args().nth(2).map_or(5, |t| t.parse().unwrap()));
     }
     let turns: usize = std::env::args().nth(1).map_or(5, |t| t.parse().unwrap());
     let only = std::env::args().nth(2).unwrap_or_default();
-    let sorted = [Group { channels: 300, bits: 32, inval: false, id: 0 }];
-    let inval = [Group { channels: 300, bits: 16, inval: true, id: 0 }];
-    let unsorted: Vec<Group> = (1..=10).map(|id| Group { channels: 30, bits: 32, inval: false, id }).collect();
+    let sorted = [Group::of(300, 32, 0)];
+    let inval = [Group { inval: true, ..Group::of(300, 16, 0) }];
+    let unsorted = ten();
     let loads = [
         ("300 channels of 32 bits", &sorted[..]),
         ("300 channels of 16 bits with invalidation bits", &inval[..]),
@@ -223,6 +254,10 @@ fn main() {
     if name.contains(&only) {
         let once = line(name, "", &many_links(1 << 19), turns, None);
         line(name, "", &many_links(1 << 20), turns, Some(once));
+    }
+    for (name, make) in further().iter().filter(|l| l.0.contains(&only)) {
+        let once = line(name, "", &make(1), turns, None);
+        line(name, "", &make(2), turns, Some(once));
     }
     println!();
     println!("| load | MB | port before output | port best | median | Rust best | median | port / Rust |");

@@ -154,7 +154,7 @@ pub fn run(turns: usize) {
     let data = alone.len() - all as usize;
     alone[data..].fill(7);
     line("a column of 240 kB, the only one, whole", alone, 200 * turns, Ranges { column: 0, ranges: 1, records: all, all, width: 1 });
-    let rack = convert(&recording(&[Group { channels: 300, bits: 32, inval: false, id: 0 }], 60_000, 4 << 20));
+    let rack = convert(&recording(&[Group::of(300, 32, 0)], 60_000, 4 << 20));
     assert_eq!(&rack[word(&rack, 88) as usize..][..4], b"##DG");
     line("a column of 240 kB of 300, whole", &rack, 200 * turns, Ranges { column: 150, ranges: 1, records: 60_000, all: 60_000, width: 4 });
     line("1,000 ranges of 100 records of it", &rack, turns, Ranges { column: 150, ranges: 1000, records: 100, all: 60_000, width: 4 });

@@ -4,8 +4,9 @@ use mathlib.Core.Path.{_≡_, refl}
 use Rattle.base.specs.Blit.{blit}
 use Rattle.work_words.specs.Words.{fragmentsOf}
 use Rattle.mdf.specs.Records.{joined}
-use Rattle.writing.specs.Ahead.{later}
-use Rattle.writing.specs.SignalLaws.{later-all, copy-lost, copy-turn, copy-full, copy-end}
+use Rattle.records.specs.Ahead.{fragmentsFrom}
+use Rattle.records.specs.FragmentLaws.{from-start}
+use Rattle.writing.specs.SignalLaws.{copy-lost, copy-turn, copy-full, copy-end}
 use native.Mathlib.Omega.{arith}
 use lib.ListN.{length}
 use borrow.Author.Needs.{needs}
@@ -14,14 +15,14 @@ use Rattle.writing.proofs.signal.copy_all.Tie as tie
 
 abbrev Inv-loop : tie.InvT-loop
 Inv-loop out₀ at image fragments n room i₀ to₀ out i to =
-    (blit to (joined image (later fragments i)) out ≡ blit at (joined image (fragmentsOf fragments)) out₀)
+    (blit to (joined image (fragmentsFrom fragments i)) out ≡ blit at (joined image (fragmentsOf fragments)) out₀)
     × (i ≤ n) × (n ≡ length fragments) × (length out ≡ length out₀) × (room ≡ length out₀)
 
 abbrev μ-loop : tie.MeasureT-loop
 μ-loop out₀ at image fragments n room i₀ to₀ out i to = n - i
 
 loop-holds : tie.Need-loop-holds Inv-loop μ-loop
-loop-holds c = (rw (later-all (c .before .before .before .args .fragments .now)), search needs, refl, refl, refl)
+loop-holds c = (rw (from-start (c .before .before .before .args .fragments .now)), search needs, refl, refl, refl)
 
 sub-loop : tie.Need-sub-loop Inv-loop μ-loop
 sub-loop c = search needs
@@ -63,7 +64,7 @@ returns-2 : tie.Need-returns-2 Inv-loop μ-loop
 returns-2 c = copy-full _ _ _ _ _ _
     (c .before .before .before .before .before .before .before .before .before .before .loop .inv .0)
     (omega arith) (c .before .before .before .before .before .inside .ensures) (c .before .before .before .copy .ensures) (omega
-        arith)
+    arith)
 
 add-to : tie.Need-add-to Inv-loop μ-loop
 add-to c = search needs

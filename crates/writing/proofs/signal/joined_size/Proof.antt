@@ -4,8 +4,9 @@ use mathlib.Core.Path.{_≡_, refl, ap}
 use native.Mathlib.Nat.{zero-add}
 use Rattle.work_words.specs.Words.{fragmentsOf}
 use Rattle.mdf.specs.Records.{joined}
-use Rattle.writing.specs.Ahead.{later}
-use Rattle.writing.specs.SignalLaws.{later-all, sum-turn, sum-end}
+use Rattle.records.specs.Ahead.{fragmentsFrom}
+use Rattle.records.specs.FragmentLaws.{from-start}
+use Rattle.writing.specs.SignalLaws.{sum-turn, sum-end}
 use native.Mathlib.Omega.{arith}
 use lib.ListN.{length}
 use borrow.Author.Needs.{needs}
@@ -14,16 +15,19 @@ use Rattle.writing.proofs.signal.joined_size.Tie as tie
 
 abbrev Inv-loop : tie.InvT-loop
 Inv-loop image fragments n i₀ sum₀ i sum =
-    ((sum + length (joined image (later fragments i))) % 2 ^ 64 ≡ length (joined image (fragmentsOf fragments)) % 2 ^ 64) × (i ≤
-        n) ×
+    ((sum + length (joined image (fragmentsFrom fragments i))) % 2 ^ 64 ≡ length (joined image (fragmentsOf fragments)) % 2 ^ 64) × (i ≤
+    n) ×
     (n ≡ length fragments)
 
 abbrev μ-loop : tie.MeasureT-loop
 μ-loop image fragments n i₀ sum₀ i sum = n - i
 
 loop-holds : tie.Need-loop-holds Inv-loop μ-loop
-loop-holds c = (rw (later-all (c .before .before .args .fragments .now)) (ap (λ (x : ℕ). x % 2 ^ 64) (zero-add _)), search needs,
-    refl)
+loop-holds c = (
+  rw (from-start (c .before .before .args .fragments .now)) (ap (λ (x : ℕ). x % 2 ^ 64) (zero-add _)),
+  search needs,
+  refl,
+)
 
 sub-loop : tie.Need-sub-loop Inv-loop μ-loop
 sub-loop c = search needs

@@ -1,0 +1,16 @@
+pub mod Ahead
+pub mod AheadLaws
+pub mod Shape
+pub mod CellLaws
+pub mod Strided
+pub mod StridedLaws
+pub mod Spot
+pub mod SpotLaws
+pub mod Blocks
+pub mod Region
+pub mod RegionLaws
+pub mod Filled
+pub mod FilledLaws
+pub mod NumberLaws
+pub mod Written
+pub mod WrittenLaws
