@@ -1,6 +1,7 @@
-/* Mapped files of the module for Python: a fault in one of them doesn't end the interpreter.
+/* Mapped files of the module for Python: neither a fault in one of them nor another's writing ends the interpreter or keeps it.
  *
- * Where a mapped file was cut off, or its disk fails, touching its bytes raises SIGBUS, in the library as in any view that was handed out. For a
+ * The library counts on bytes that stay the same during a call. Pages with blocks that it follows by links are held: the mapping gets a copy of its
+ * own in their place, so that only sample bytes can change under it. Where a mapped file was cut off, or its disk fails, touching its bytes raises SIGBUS, in the library as in any view that was handed out. For a
  * fault inside a watched mapping the handler lays zeros over the mapping from there on, marks it as lost and goes on; the module asks for the mark
  * after every call. Any other fault goes to the handler that was there before. */
 #define _GNU_SOURCE
@@ -9,8 +10,8 @@
 #include <stdbool.h>
 #include <stddef.h>
 #include <stdint.h>
+#include <string.h>
 #include <sys/mman.h>
-#include <unistd.h>
 
 enum { MAPPINGS = 4096 };
 
@@ -87,6 +88,15 @@ bool sitaungo_lost(int mapping)
 {
     (void)catch_faults();
     return atomic_load(&mappings[mapping].lost);
+}
+
+/* Lays a copy over pages of a mapping; false where there can be none. */
+bool sitaungo_hold(void *pages, const void *copy, size_t length)
+{
+    if (mmap(pages, length, PROT_READ | PROT_WRITE, MAP_PRIVATE | MAP_ANONYMOUS | MAP_FIXED, -1, 0) == MAP_FAILED)
+        return false;
+    memcpy(pages, copy, length);
+    return mprotect(pages, length, PROT_READ) == 0;
 }
 
 void sitaungo_forget(int mapping)

@@ -160,6 +160,7 @@ def _load():
         ("sitaungo_range_part", _Part, _SLICE + _RANGE),
         ("sitaungo_watch", ctypes.c_int, _SLICE),
         ("sitaungo_lost", ctypes.c_bool, [ctypes.c_int]),
+        ("sitaungo_hold", ctypes.c_bool, [ctypes.c_void_p, ctypes.c_char_p, ctypes.c_size_t]),
         ("sitaungo_forget", None, [ctypes.c_int]),
     ):
         function = getattr(library, name)
@@ -203,6 +204,10 @@ class _Mapping(mmap.mmap):
             forget(self.watched)
 
 
+_HELD = 16384  # bytes that are held at a time, whole pages
+_FOLLOWED = {b"HD": [0], b"DG": [0, 1, 2], b"CG": [0, 1, 2], b"CN": [0, 2], b"DL": [0], b"HL": [0, 1], b"TX": [], b"MD": []}  # kinds, and their links
+
+
 class _Image:
     """A mapped file, and calls of the library over it. The mapping goes with its last view."""
 
@@ -223,6 +228,33 @@ class _Image:
         except ValueError:  # it is shorter by now
             raise self.changed() from None
         self.address, self.view = self.mapping.watch(), memoryview(self.mapping)
+        self.held = set()
+        self.hold_blocks()
+
+    def hold(self, at, length):
+        """What stands there now stays, whoever writes to the file."""
+        for k in range(at // _HELD, (min(at + length, self.length) + _HELD - 1) // _HELD):
+            if k not in self.held:
+                size = min(_HELD, (self.length + 4095) // 4096 * 4096 - k * _HELD)
+                copy = os.pread(self.descriptor, size, k * _HELD).ljust(size, b"\0")
+                if not _library.sitaungo_hold(self.address + k * _HELD, copy, size):
+                    raise MemoryError("no memory for the blocks of %s" % _shown(self.path))
+                self.held.add(k)
+
+    def hold_blocks(self):
+        """Holds the blocks by which the library goes on: it counts on bytes that stay. Sample bytes don't lead it anywhere."""
+        self.hold(0, 64)
+        ahead, seen = [64], {0}
+        while ahead:
+            at = ahead.pop()
+            if at in seen or len(seen) > 8192:  # more blocks than the library takes
+                continue
+            seen.add(at)
+            self.hold(at, 24)
+            block = _block(self.view, at, *_FOLLOWED)
+            if block:
+                self.hold(at, min(block.end, block.front + 128) - at)
+                ahead += map(block.link, _FOLLOWED[block.kind])
 
     def changed(self):
         return Changed("%s was written to or cut off since it was opened, or its disk failed" % _shown(self.path))
