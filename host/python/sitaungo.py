@@ -143,6 +143,15 @@ class _Part(ctypes.Structure):
     ]
 
 
+class _Request(ctypes.Structure):
+    _fields_ = [("column", ctypes.c_uint64), ("first", ctypes.c_uint64), ("count", ctypes.c_uint64), ("place", ctypes.c_uint64)]
+
+
+class _Plotting(ctypes.Structure):
+    _fields_ = [("accepted", ctypes.c_bool), ("number", ctypes.c_uint64), ("place", ctypes.c_uint64), ("position", ctypes.c_uint64)]
+
+
+_TABLE = 256  # entries of one plot
 _HERE = os.path.dirname(os.path.abspath(__file__))
 _SLICE = [ctypes.c_void_p, ctypes.c_size_t]
 _RANGE = [ctypes.c_uint64] * 3
@@ -158,6 +167,7 @@ def _load():
     for name, answer, words in (
         ("sitaungo_read_range", _Read, _SLICE + _RANGE + _SLICE),
         ("sitaungo_range_part", _Part, _SLICE + _RANGE),
+        ("sitaungo_plot", _Plotting, _SLICE + _SLICE + _SLICE),
         ("sitaungo_watch", ctypes.c_int, _SLICE),
         ("sitaungo_lost", ctypes.c_bool, [ctypes.c_int]),
         ("sitaungo_hold", ctypes.c_bool, [ctypes.c_void_p, ctypes.c_char_p, ctypes.c_size_t]),
@@ -202,6 +212,10 @@ class _Mapping(mmap.mmap):
     def __del__(self, forget=_library.sitaungo_forget):
         if self.watched >= 0:
             forget(self.watched)
+
+
+def _slice(buffer):
+    return (ctypes.c_char * len(buffer)).from_buffer(buffer) if len(buffer) else None, len(buffer)
 
 
 _HELD = 16384  # bytes that are held at a time, whole pages
@@ -286,12 +300,17 @@ class _Image:
             raise self.changed()
         return found
 
-    def read(self, column, first, count, buffer, position=None):
+    def read(self, column, first, count, buffer):
         """Records into a buffer that has just their length."""
-        into = (ctypes.c_char * len(buffer)).from_buffer(buffer) if len(buffer) else None
-        answer = self.call(_library.sitaungo_read_range, column, first, count, into, len(buffer))
+        answer = self.call(_library.sitaungo_read_range, column, first, count, *_slice(buffer))
         if not answer.accepted:
-            raise self.refused(answer, position)
+            raise self.refused(answer)
+
+    def plot(self, table, buffer, position):
+        """The entries of a table (column, first, count, place) into a buffer; they stand from `position` on."""
+        answer = self.call(_library.sitaungo_plot, (_Request * len(table))(*table), len(table), *_slice(buffer))
+        if not answer.accepted:
+            raise self.refused(answer, position + answer.position)
 
     def has_columns(self, count):
         """Whether they are so many; where the file itself is refused, that is raised."""
@@ -519,20 +538,11 @@ class ColumnFile:
             first, count = _u64(first, "first"), _u64(count, "count")
             table.append((number, first, count, place))
             place += self._bytes(number, first, count)
-        buffer, ends = bytearray(place), [entry[3] for entry in table[1:]] + [place]
-        found = [memoryview(buffer)[entry[3] : end] for entry, end in zip(table, ends)]
+        buffer = bytearray(place)
         for k in range(0, len(table), _TABLE):
-            _plot(self._image, table[k : k + _TABLE], found[k : k + _TABLE], k)
-        return found
-
-
-_TABLE = 256  # entries that one call takes
-
-
-def _plot(image, table, buffers, position):
-    """Reads each (column, first, count, place) of a table; its entries stand from `position` on."""
-    for k, ((number, first, count, _), buffer) in enumerate(zip(table, buffers)):
-        image.read(number, first, count, buffer, position + k)
+            self._image.plot(table[k : k + _TABLE], buffer, k)
+        ends = [entry[3] for entry in table[1:]] + [place]
+        return [memoryview(buffer)[entry[3] : end] for entry, end in zip(table, ends)]
 
 
 class Column:

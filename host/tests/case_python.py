@@ -1,4 +1,5 @@
 """The module for Python: its cases (desk.py) each in an interpreter of its own, under -X dev, where a warning is an error."""
+import functools
 import glob
 import os
 import random
@@ -17,20 +18,25 @@ MODULE = os.path.join(ROOT, "host", "python")
 RESULT = os.path.join(BUILT, "sample-columns.mf4")
 
 
-def with_modules(*modules):
-    """An interpreter that has them: this one, or Debian's."""
+@functools.lru_cache(maxsize=None)
+def found_with(*modules):
+    """An interpreter that has them: this one, or Debian's; None where neither does."""
     for python in (sys.executable, "/usr/bin/python3"):
-        if os.path.exists(python) and subprocess.run([python, "-c", "import " + ", ".join(("sys", *modules))], stderr=subprocess.DEVNULL).returncode == 0:
+        if os.path.exists(python) and subprocess.run([python, "-c", "import " + ", ".join(modules)], stderr=subprocess.DEVNULL).returncode == 0:
             return python
-    raise NotTried("there is no Python with " + " and ".join(modules))
+    return None
+
+
+def with_modules(*modules):
+    python = found_with(*modules)
+    if not python:
+        raise NotTried("there is no Python with " + " and ".join(modules))
+    return python
 
 
 def some_python():
     """One with numpy, where there is one."""
-    try:
-        return with_modules("numpy")
-    except NotTried:
-        return sys.executable
+    return found_with("numpy") or sys.executable
 
 
 def desk(*words, python=None, status=0, **environment):

@@ -565,7 +565,7 @@ def converting(recording, sample, refused, folder):
 
 
 def speed(path, turns):
-    """All columns whole, beside a plain copy of as many bytes; the best of some turns, in seconds."""
+    """All columns whole, beside a plain copy of as many bytes: the thread's processor time, the best of some turns, in milliseconds."""
     numpy = numpy_or_none()
     with sitaungo.ColumnFile(path) as file:
         ranges = [(c.number, 0, c.records) for c in file.columns]
@@ -575,13 +575,14 @@ def speed(path, turns):
         def timed(f):
             best = None
             for _ in range(int(turns)):
-                begun = time.perf_counter()
+                begun = time.thread_time()
                 kept = f()
-                best = min(best or 1e9, time.perf_counter() - begun)
+                best = min(best or 1e9, 1000 * (time.thread_time() - begun))
                 del kept
             return best
 
-        told = {"MB": len(source) / 1e6, "columns": len(ranges), "plain copy": timed(lambda: bytearray(source)), "read_many": timed(lambda: file.read_many(ranges))}
+        told = {"MB": len(source) / 1e6, "columns": len(ranges), "plain copy": timed(lambda: bytearray(source))}
+        told["read_many"] = timed(lambda: file.read_many(ranges))
         told["records, one by one"] = timed(lambda: [file.column(k).records() for k, _, _ in ranges])
         if numpy:
             told["values, not copied"] = timed(lambda: [file.column(k).values() for k, _, _ in ranges])
