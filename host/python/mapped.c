@@ -1,7 +1,9 @@
 /* Mapped files of the module for Python: neither a fault in one of them nor another's writing ends the interpreter or keeps it.
  *
- * The library counts on bytes that stay the same during a call. Pages with blocks that it follows by links are held: the mapping gets a copy of its
- * own in their place, so that only sample bytes can change under it. Where a mapped file was cut off, or its disk fails, touching its bytes raises SIGBUS, in the library as in any view that was handed out. For a
+ * The library counts on bytes that stay the same during a call. Pages with blocks that it follows by links are held: the mapping gets a copy of
+ * its own in their place, so that only sample bytes and headers of data blocks can change under it.
+ *
+ * Where a mapped file was cut off, or its disk fails, touching its bytes raises SIGBUS, in the library as in any view that was handed out. For a
  * fault inside a watched mapping the handler lays zeros over the mapping from there on, marks it as lost and goes on; the module asks for the mark
  * after every call. Any other fault goes to the handler that was there before. */
 #define _GNU_SOURCE
@@ -67,7 +69,7 @@ static bool catch_faults(void)
 }
 
 /* Watches a mapping that begins at a page; its number, -1 where there are too many. */
-int sitaungo_watch(const void *bytes, size_t length)
+int mapped_watch(const void *bytes, size_t length)
 {
     if (!catch_faults())
         return -1;
@@ -84,14 +86,14 @@ int sitaungo_watch(const void *bytes, size_t length)
 }
 
 /* Whether bytes of it were lost. */
-bool sitaungo_lost(int mapping)
+bool mapped_lost(int mapping)
 {
     (void)catch_faults();
     return atomic_load(&mappings[mapping].lost);
 }
 
 /* Lays a copy over pages of a mapping; false where there can be none. */
-bool sitaungo_hold(void *pages, const void *copy, size_t length)
+bool mapped_hold(void *pages, const void *copy, size_t length)
 {
     if (mmap(pages, length, PROT_READ | PROT_WRITE, MAP_PRIVATE | MAP_ANONYMOUS | MAP_FIXED, -1, 0) == MAP_FAILED)
         return false;
@@ -99,7 +101,7 @@ bool sitaungo_hold(void *pages, const void *copy, size_t length)
     return mprotect(pages, length, PROT_READ) == 0;
 }
 
-void sitaungo_forget(int mapping)
+void mapped_forget(int mapping)
 {
     atomic_store(&mappings[mapping].to, 0);
     atomic_store(&mappings[mapping].from, 0);

@@ -168,10 +168,10 @@ def _load():
         ("sitaungo_read_range", _Read, _SLICE + _RANGE + _SLICE),
         ("sitaungo_range_part", _Part, _SLICE + _RANGE),
         ("sitaungo_plot", _Plotting, _SLICE + _SLICE + _SLICE),
-        ("sitaungo_watch", ctypes.c_int, _SLICE),
-        ("sitaungo_lost", ctypes.c_bool, [ctypes.c_int]),
-        ("sitaungo_hold", ctypes.c_bool, [ctypes.c_void_p, ctypes.c_char_p, ctypes.c_size_t]),
-        ("sitaungo_forget", None, [ctypes.c_int]),
+        ("mapped_watch", ctypes.c_int, _SLICE),
+        ("mapped_lost", ctypes.c_bool, [ctypes.c_int]),
+        ("mapped_hold", ctypes.c_bool, [ctypes.c_void_p, ctypes.c_char_p, ctypes.c_size_t]),
+        ("mapped_forget", None, [ctypes.c_int]),
     ):
         function = getattr(library, name)
         function.restype, function.argtypes = answer, words
@@ -201,15 +201,15 @@ class _Mapping(mmap.mmap):
         ctypes.pythonapi.PyObject_GetBuffer(ctypes.py_object(self), ctypes.byref(buffer), 0)
         address = buffer.buf
         ctypes.pythonapi.PyBuffer_Release(ctypes.byref(buffer))
-        self.watched = _library.sitaungo_watch(address, len(self))
+        self.watched = _library.mapped_watch(address, len(self))
         if self.watched < 0:
             raise OSError(errno.EMFILE, "too many mapped files")
         return address
 
     def lost(self):
-        return _library.sitaungo_lost(self.watched)
+        return _library.mapped_lost(self.watched)
 
-    def __del__(self, forget=_library.sitaungo_forget):
+    def __del__(self, forget=_library.mapped_forget):
         if self.watched >= 0:
             forget(self.watched)
 
@@ -251,7 +251,7 @@ class _Image:
             if k not in self.held:
                 size = min(_HELD, (self.length + 4095) // 4096 * 4096 - k * _HELD)
                 copy = os.pread(self.descriptor, size, k * _HELD).ljust(size, b"\0")
-                if not _library.sitaungo_hold(self.address + k * _HELD, copy, size):
+                if not _library.mapped_hold(self.address + k * _HELD, copy, size):
                     raise MemoryError("no memory for the blocks of %s" % _shown(self.path))
                 self.held.add(k)
 
@@ -261,7 +261,7 @@ class _Image:
         ahead, seen = [64], {0}
         while ahead:
             at = ahead.pop()
-            if at in seen or len(seen) > 8192:  # more blocks than the library takes
+            if at in seen or len(seen) > 1 << 18:  # more blocks than the library takes
                 continue
             seen.add(at)
             self.hold(at, 24)

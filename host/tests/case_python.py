@@ -207,8 +207,11 @@ def python_files_written_to_while_read():
 def damaged_results(here, count):
     """Results damaged by one to three edits, in a folder."""
     os.mkdir(os.path.join(here, "damaged"))
-    recordings = [read(EXAMPLE), rows_of_one_channel(), *(rows.recording(Run.random, 9) for _ in range(2))]
-    results = [read(converted(write(os.path.join(here, "a.mf4"), image), os.path.join(here, "r.mf4"), "--block-size", size)) for image in recordings for size in (64, 4194304)]
+    bases = [(image, size) for image in (read(EXAMPLE), rows_of_one_channel()) for size in (64, 4194304)] + [(rows.recording(Run.random, 9), 64)]
+    results = []
+    for image, size in bases:
+        recording = write(os.path.join(here, "a.mf4"), image)
+        results.append(read(converted(recording, os.path.join(here, "r.mf4"), "--block-size", size)))
     for k in range(count):
         write(os.path.join(here, "damaged", "%d.mf4" % k), damaged(Run.random.choice(results)))
     return os.path.join(here, "damaged")
@@ -262,9 +265,8 @@ def python_examples_of_readme():
     python, found = with_modules("numpy"), examples_of_readme()
     expect(len(found) >= 3, len(found), "examples")
     for script in found:
-        r = subprocess.run(
-            [python, "-B", "-X", "dev", "-W", "error", "-c", script], cwd=ROOT, env={**os.environ, "PYTHONPATH": MODULE}, stdout=subprocess.PIPE, stderr=subprocess.PIPE
-        )
+        words, environment = [python, "-B", "-X", "dev", "-W", "error", "-c", script], {**os.environ, "PYTHONPATH": MODULE}
+        r = subprocess.run(words, cwd=ROOT, env=environment, stdout=subprocess.PIPE, stderr=subprocess.PIPE)
         expect(r.returncode == 0 and r.stdout and r.stderr == b"", script, r.stdout.decode(), r.stderr.decode())
     return "%d examples" % len(found)
 
@@ -280,7 +282,8 @@ def python_example_that_draws():
     example, result, columns = words[2], words[3], words[5:]
 
     def draw(*more):
-        return subprocess.run([python, "-B", example, *more], cwd=ROOT, env={**os.environ, "PYTHONPATH": MODULE, "MPLCONFIGDIR": place()}, stderr=subprocess.PIPE)
+        environment = {**os.environ, "PYTHONPATH": MODULE, "MPLCONFIGDIR": place()}
+        return subprocess.run([python, "-B", example, *more], cwd=ROOT, env=environment, stderr=subprocess.PIPE)
 
     with folder() as here:
         picture = os.path.join(here, "p.png")
@@ -289,7 +292,10 @@ def python_example_that_draws():
         data = read(picture)
         width, height = struct.unpack_from(">II", data, 16)
         expect(data[:8] == b"\x89PNG\r\n\x1a\n" and width > 500 and height > 300, width, height)
-        for more, said in (((result, picture, "missing"), "no column 'missing'"), ((SAMPLE, picture, "0"), "refused 24"), ((result, picture, "rack.2.99"), "no numbers"), ((), "usage")):
+        for more, said in (
+            ((result, picture, "missing"), "no column 'missing'"), ((SAMPLE, picture, "0"), "refused 24"), ((result, picture, "rack.2.99"), "no numbers"),
+            ((), "usage"),
+        ):
             r = draw(*more)
             expect(r.returncode == 1 and said in r.stderr.decode() and "Traceback" not in r.stderr.decode(), more, r.stderr.decode())
         expect(draw(result, picture, "1", "rack.0.00").returncode == 0, "by number")

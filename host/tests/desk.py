@@ -85,12 +85,11 @@ def split(path):
     with sitaungo.ColumnFile(path) as file:
         for number, w in enumerate(wanted):
             column, width = file.column(number), w.bytes + w.inval
-            each = len(w.payload) // width and max(1, [len(w.payload), 64 // width][len(w.kinds) > 1])
             expect((column.part() is None) == (len(w.kinds) > 1), "the whole of", number)
             for first in range(w.records):
                 for count in range(1, w.records - first + 1):
                     part, bytes_ = column.part(first, count), w.payload[first * width : (first + count) * width]
-                    expect(column.records(first, count) == bytes_ and part in (None, bytes_), first, count, each)
+                    expect(column.records(first, count) == bytes_ and part in (None, bytes_), first, count)
     print("%d columns" % len(wanted))
 
 
@@ -447,11 +446,12 @@ def replaced(path, other, folder):
         file = sitaungo.ColumnFile(here)
         column = file.column(len(file.columns) - 1)
         part, array = column.part(), numpy_or_none() and column.values()
+        before = bytes(part)
         time.sleep(0.02)  # the clock of the file system ticks
         with open(here, "r+b") as f:
             change(f)
         now = bytes(part)
-        expect(now in (data[part_place(file, part) :][: len(now)], bytes(len(now))), "the view")
+        expect(now in (before, bytes(len(before))), "the view")
         if array is not None:
             array.sum() if array.dtype != object else None
         for f in (column.records, column.part, lambda: file.read_many([(0, 0, 1)]), *([column.values] if array is not None else [])):
@@ -461,22 +461,6 @@ def replaced(path, other, folder):
         del part, array, column, file
         gc.collect()
     print("replaced and changed")
-
-
-def part_place(file, part):
-    import mmap  # noqa: F401
-
-    whole, length = file._open.view, len(part)
-    address = lambda view: ctypes_address(view)  # noqa: E731
-    return address(part) - address(whole) if length else 0
-
-
-def ctypes_address(view):
-    buffer = sitaungo._Buffer()
-    ctypes.pythonapi.PyObject_GetBuffer(ctypes.py_object(view), ctypes.byref(buffer), 0)
-    at = buffer.buf
-    ctypes.pythonapi.PyBuffer_Release(ctypes.byref(buffer))
-    return at
 
 
 def lost_elsewhere(path, folder):
