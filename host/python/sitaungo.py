@@ -173,7 +173,9 @@ def _load():
         ("mapped_hold", ctypes.c_bool, [ctypes.c_void_p, ctypes.c_char_p, ctypes.c_size_t]),
         ("mapped_forget", None, [ctypes.c_int]),
     ):
-        function = getattr(library, name)
+        function = getattr(library, name, None)
+        if function is None:
+            raise ImportError("%s lacks %s: it is of another version than this module" % (chosen, name))
         function.restype, function.argtypes = answer, words
     return library
 

@@ -10,7 +10,7 @@ import sys
 
 import rows
 from case_damaged import damaged
-from common import BIG, BUILT, EXAMPLE, LIBRARY, ROOT, SAMPLE, NotTried, Run, any_user, cc, compiler, converts, expect, folder, place, read, run, test, write
+from common import BIG, BUILT, EXAMPLE, LIBRARY, ROOT, SAMPLE, NotTried, Run, cc, compiler, converts, expect, folder, place, read, run, test, write
 from mdf import block
 
 DESK = os.path.join(ROOT, "host", "tests", "desk.py")
@@ -59,7 +59,7 @@ def converted(recording, name, *words):
 # ---- columns and records
 
 
-@any_user
+@test
 def python_columns_and_records():
     return desk("columns", RESULT)
 

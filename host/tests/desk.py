@@ -193,7 +193,7 @@ def check_physical(numpy, column, channel):
         expect(why.conversion == sitaungo.CONVERSIONS[channel.conversion[0]] == column.about.conversion and why.conversion in str(why), why)
 
 
-def values(recording, result, block_size):
+def values(recording, result):
     """Each value of a result is that of the row recording."""
     import numpy
 
@@ -571,6 +571,7 @@ def speed(path, turns):
         if numpy:
             told["values, not copied"] = timed(lambda: [file.column(k).values() for k, _, _ in ranges])
     told["opening"] = timed(lambda: sitaungo.ColumnFile(path).close())
+    expect(told["read_many"] < 3 * told["plain copy"], told)
     print(", ".join("%s %.4g" % (name, value) for name, value in told.items()))
 
 
