@@ -458,6 +458,11 @@ def _u64(value, what):
     return value
 
 
+def _room(length):
+    """Bytes to be written; where they are many, ones that aren't cleared first."""
+    return mmap.mmap(-1, length, flags=mmap.MAP_PRIVATE | mmap.MAP_ANONYMOUS) if length > 1 << 20 else bytearray(length)
+
+
 class ColumnFile:
     """A column file, mapped. `columns` has a Description of each column.
 
@@ -540,7 +545,7 @@ class ColumnFile:
             first, count = _u64(first, "first"), _u64(count, "count")
             table.append((number, first, count, place))
             place += self._bytes(number, first, count)
-        buffer = bytearray(place)
+        buffer = _room(place)
         for k in range(0, len(table), _TABLE):
             self._image.plot(table[k : k + _TABLE], buffer, k)
         ends = [entry[3] for entry in table[1:]] + [place]
