@@ -45,7 +45,7 @@ def installed():
         expect(subprocess.run([install, "relative"], stderr=subprocess.DEVNULL).returncode == 1, "a relative prefix")
         for top in ("p", os.path.join("d", "usr")):
             found = sorted(os.path.relpath(os.path.join(path, f), os.path.join(here, top)) for path, _, files in os.walk(os.path.join(here, top)) for f in files)
-            wanted = ["bin/mdf-columns", "include/sitaungo.h", "lib/libsitaungo.a", "lib/pkgconfig/sitaungo.pc", "share/man/man1/mdf-columns.1"]
+            wanted = ["bin/mdf-columns", "include/sitaungo.h", "lib/libsitaungo.a", "lib/pkgconfig/sitaungo.pc", "lib/sitaungo/libsitaungo.so", "lib/sitaungo/sitaungo.py", "share/man/man1/mdf-columns.1"]
             expect(found == wanted, found)
         program = os.path.join(here, "p", "bin", "mdf-columns")
         version = subprocess.run([program, "--version"], stdout=subprocess.PIPE, check=True).stdout.decode().split()[1]

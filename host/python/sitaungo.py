@@ -1,0 +1,800 @@
+"""Column files for analysis desks: columns by name or number, their records, with numpy their values.
+
+    import sitaungo
+    with sitaungo.ColumnFile("result.mf4") as file:
+        speed = file.column("speed")
+        time, values = speed.time(), speed.values(physical=True)
+
+A layer over libsitaungo.so (host/build). Whether a file is a column file, and what a range of records holds, is answered by the proved reader alone,
+see include/sitaungo.h; this module follows links to names, units and types, and decodes records. `convert` runs the command mdf-columns.
+
+Python 3.9 or later on x86-64 Linux. Only `values` and `time` need numpy.
+"""
+import ctypes
+import errno
+import json
+import mmap
+import operator
+import os
+import re
+import shutil
+import stat
+import struct
+import subprocess
+import typing
+import weakref
+
+__all__ = [
+    "CONVERSIONS", "Changed", "Column", "ColumnFile", "CommandFailed", "DATA_TYPES", "Description", "Error", "NameMissing", "NameRepeated", "NotApplied",
+    "Refused", "Undecoded", "convert",
+]
+
+# What the refusals of reading say, by number.
+WORDS = {
+    4: "the file ends too early: a block, a name or data runs past its end",
+    5: 'this is not an MDF file: it does not begin with "MDF" and five blanks',
+    6: "the MDF version can't be read",
+    7: "the MDF version is not supported: 4.10 is the lowest",
+    8: "a block is damaged: its links don't fit into its length",
+    9: "a block is longer than 256 MiB (268435456 bytes)",
+    10: "a link leads to a block that is not the HD, DG, CG or CN it should be, or that lacks links or data",
+    11: "a chain of blocks comes back to a block it has passed",
+    12: "a data chain holds a block of another kind; compressed data (DZ) is not supported",
+    13: "a data group's record ids have a size other than 0, 1, 2, 4 or 8 bytes",
+    19: "the file passes a limit: 512 data groups, groups or channels, 256 lists in a chain",
+    22: "the file has no such column",
+    23: "the column has fewer records",
+    24: "the file lacks the form of a column file",
+    25: "an entry leaves the destination, or the table has over 256 entries",
+}
+
+# ASAM MDF 4.2: data types of a channel, kinds of a conversion, by number.
+DATA_TYPES = (
+    "unsigned, little-endian", "unsigned, big-endian", "signed, little-endian", "signed, big-endian", "float, little-endian", "float, big-endian",
+    "string, Latin-1", "string, UTF-8", "string, UTF-16 little-endian", "string, UTF-16 big-endian", "bytes", "MIME sample", "MIME stream",
+    "CANopen date", "CANopen time", "complex, little-endian", "complex, big-endian",
+)
+CONVERSIONS = (
+    "identity", "linear", "rational", "algebraic", "table with interpolation", "table", "table of ranges", "texts", "texts of ranges",
+    "numbers of texts", "texts of texts", "texts of bits",
+)
+
+
+# ---- errors
+
+
+class Error(Exception):
+    """What this module raises, but for wrong arguments and files that can't be opened."""
+
+
+class Refused(Error):
+    """A refusal of the library or the command: `number`, `place` (an offset in the file, or 0) and `words`; of read_many also `position`, the entry's
+    number from 0."""
+
+    def __init__(self, path, number, place, words, position=None):
+        super().__init__(path, number, place, words, position)
+        self.path, self.number, self.place, self.words, self.position = path, number, place, words, position
+
+    def __str__(self):
+        entry = "" if self.position is None else "entry %d: " % self.position
+        return "%s: %srefused %d place %d: %s" % (_shown(self.path), entry, self.number, self.place, self.words)
+
+
+class Changed(Error):
+    """The file was written to or cut off since it was opened, or its disk failed: what was read from it may be wrong."""
+
+
+class NameMissing(Error):
+    """No column has this name."""
+
+
+class NameRepeated(Error):
+    """Several columns have this name: their `numbers`."""
+
+    def __init__(self, message, numbers):
+        super().__init__(message, numbers)
+        self.numbers = numbers
+
+    def __str__(self):
+        return self.args[0]
+
+
+class Undecoded(Error):
+    """Values that can't be decoded; `records` has their bytes."""
+
+
+class NotApplied(Undecoded):
+    """A conversion that isn't applied: its `conversion` by name."""
+
+    def __init__(self, message, conversion):
+        super().__init__(message, conversion)
+        self.conversion = conversion
+
+    def __str__(self):
+        return self.args[0]
+
+
+class CommandFailed(Error):
+    """The command mdf-columns failed: its `status` (README), what it `said`, and its `report`, if it wrote one."""
+
+    def __init__(self, status, said, report):
+        super().__init__(status, said, report)
+        self.status, self.said, self.report = status, said, report
+
+    def __str__(self):
+        return "mdf-columns ended with status %d: %s" % (self.status, self.said.strip())
+
+
+def _shown(path):
+    return os.fsdecode(path).encode("utf-8", "replace").decode()
+
+
+# ---- the library
+
+
+class _Read(ctypes.Structure):
+    _fields_ = [("accepted", ctypes.c_bool), ("number", ctypes.c_uint64), ("place", ctypes.c_uint64)]
+
+
+class _Part(ctypes.Structure):
+    _fields_ = [
+        ("accepted", ctypes.c_bool), ("split", ctypes.c_bool), ("number", ctypes.c_uint64), ("place", ctypes.c_uint64),
+        ("offset", ctypes.c_uint64), ("length", ctypes.c_uint64),
+    ]
+
+
+class _Request(ctypes.Structure):
+    _fields_ = [("column", ctypes.c_uint64), ("first", ctypes.c_uint64), ("count", ctypes.c_uint64), ("place", ctypes.c_uint64)]
+
+
+class _Plotting(ctypes.Structure):
+    _fields_ = [("accepted", ctypes.c_bool), ("number", ctypes.c_uint64), ("place", ctypes.c_uint64), ("position", ctypes.c_uint64)]
+
+
+_TABLE = 256  # entries of one plot
+_HERE = os.path.dirname(os.path.abspath(__file__))
+_SLICE = [ctypes.c_void_p, ctypes.c_size_t]
+_RANGE = [ctypes.c_uint64] * 3
+
+
+def _load():
+    """$SITAUNGO_LIBRARY; beside this file, as installed; where host/build puts it."""
+    places = [os.path.join(_HERE, "libsitaungo.so"), os.path.join(_HERE, "..", "..", "target", "host", "libsitaungo.so")]
+    chosen = os.environ.get("SITAUNGO_LIBRARY") or next(filter(os.path.exists, places), None)
+    if chosen is None:
+        raise ImportError("there is no libsitaungo.so in %s: run host/build, or set SITAUNGO_LIBRARY" % _HERE)
+    library = ctypes.CDLL(os.path.abspath(chosen))
+    for name, answer, words in (
+        ("sitaungo_read_range", _Read, _SLICE + _RANGE + _SLICE),
+        ("sitaungo_range_part", _Part, _SLICE + _RANGE),
+        ("sitaungo_plot", _Plotting, _SLICE + _SLICE + _SLICE),
+        ("mapped_watch", ctypes.c_int, _SLICE),
+        ("mapped_lost", ctypes.c_bool, [ctypes.c_int]),
+        ("mapped_hold", ctypes.c_bool, [ctypes.c_void_p, ctypes.c_char_p, ctypes.c_size_t]),
+        ("mapped_forget", None, [ctypes.c_int]),
+    ):
+        function = getattr(library, name, None)
+        if function is None:
+            raise ImportError("%s lacks %s: it is of another version than this module" % (chosen, name))
+        function.restype, function.argtypes = answer, words
+    return library
+
+
+_library = _load()
+
+
+class _Buffer(ctypes.Structure):
+    """CPython's Py_buffer, by which a mapping tells its address."""
+
+    _fields_ = [
+        ("buf", ctypes.c_void_p), ("obj", ctypes.py_object), ("len", ctypes.c_ssize_t), ("itemsize", ctypes.c_ssize_t), ("readonly", ctypes.c_int),
+        ("ndim", ctypes.c_int), ("format", ctypes.c_void_p), ("shape", ctypes.c_void_p), ("strides", ctypes.c_void_p),
+        ("suboffsets", ctypes.c_void_p), ("internal", ctypes.c_void_p),
+    ]
+
+
+class _Mapping(mmap.mmap):
+    """A file's bytes. While they are mapped, a fault in them doesn't end the interpreter (mapped.c)."""
+
+    watched = -1
+
+    def watch(self):
+        buffer = _Buffer()
+        ctypes.pythonapi.PyObject_GetBuffer(ctypes.py_object(self), ctypes.byref(buffer), 0)
+        address = buffer.buf
+        ctypes.pythonapi.PyBuffer_Release(ctypes.byref(buffer))
+        self.watched = _library.mapped_watch(address, len(self))
+        if self.watched < 0:
+            raise OSError(errno.EMFILE, "too many mapped files")
+        return address
+
+    def lost(self):
+        return _library.mapped_lost(self.watched)
+
+    def __del__(self, forget=_library.mapped_forget):
+        if self.watched >= 0:
+            forget(self.watched)
+
+
+def _slice(buffer):
+    return (ctypes.c_char * len(buffer)).from_buffer(buffer) if len(buffer) else None, len(buffer)
+
+
+_HELD = 16384  # bytes that are held at a time, whole pages
+_FOLLOWED = {b"HD": [0], b"DG": [0, 1, 2], b"CG": [0, 1, 2], b"CN": [0, 2], b"DL": [0], b"HL": [0, 1], b"TX": [], b"MD": []}  # kinds, and their links
+
+
+class _Image:
+    """A mapped file, and calls of the library over it. The mapping goes with its last view."""
+
+    def __init__(self, path):
+        self.path = path
+        self.descriptor = os.open(path, os.O_RDONLY | os.O_CLOEXEC | os.O_NONBLOCK)
+        weakref.finalize(self, os.close, self.descriptor)
+        self.found = os.fstat(self.descriptor)
+        if not stat.S_ISREG(self.found.st_mode):
+            raise OSError(errno.EINVAL, "this is no regular file", path)
+        self.length, self.address, self.mapping, self.view = self.found.st_size, None, None, memoryview(b"")
+        if self.length:
+            self.map()
+
+    def map(self):
+        try:
+            self.mapping = _Mapping(self.descriptor, self.length, access=mmap.ACCESS_READ)
+        except ValueError:  # it is shorter by now
+            raise self.changed() from None
+        self.address, self.view = self.mapping.watch(), memoryview(self.mapping)
+        self.held = set()
+        self.hold_blocks()
+
+    def hold(self, at, length):
+        """What stands there now stays, whoever writes to the file."""
+        for k in range(at // _HELD, (min(at + length, self.length) + _HELD - 1) // _HELD):
+            if k not in self.held:
+                size = min(_HELD, (self.length + 4095) // 4096 * 4096 - k * _HELD)
+                copy = os.pread(self.descriptor, size, k * _HELD).ljust(size, b"\0")
+                if not _library.mapped_hold(self.address + k * _HELD, copy, size):
+                    raise MemoryError("no memory for the blocks of %s" % _shown(self.path))
+                self.held.add(k)
+
+    def hold_blocks(self):
+        """Holds the blocks by which the library goes on: it counts on bytes that stay. Sample bytes don't lead it anywhere."""
+        self.hold(0, 64)
+        ahead, seen = [64], {0}
+        while ahead:
+            at = ahead.pop()
+            if at in seen or len(seen) > 1 << 18:  # more blocks than the library takes
+                continue
+            seen.add(at)
+            self.hold(at, 24)
+            block = _block(self.view, at, *_FOLLOWED)
+            if block:
+                self.hold(at, min(block.end, block.front + 128) - at)
+                ahead += map(block.link, _FOLLOWED[block.kind])
+
+    def changed(self):
+        return Changed("%s was written to or cut off since it was opened, or its disk failed" % _shown(self.path))
+
+    def check(self):
+        now = os.fstat(self.descriptor)
+        if (now.st_size, now.st_mtime_ns) != (self.found.st_size, self.found.st_mtime_ns) or (self.mapping and self.mapping.lost()):
+            raise self.changed()
+
+    def call(self, function, *words):
+        """An answer of the library over a file that stayed the same."""
+        self.check()
+        answer = function(self.address, self.length, *words)
+        self.check()
+        return answer
+
+    def refused(self, answer, position=None):
+        return Refused(self.path, answer.number, answer.place, WORDS.get(answer.number, "unknown refusal"), position)
+
+    def part(self, column, first, count):
+        """Records as a part of the file's own bytes, None where they are split."""
+        at = self.call(_library.sitaungo_range_part, column, first, count)
+        if not at.accepted:
+            raise self.refused(at)
+        if at.split:
+            return None
+        found = self.view[at.offset : at.offset + at.length]
+        if len(found) != at.length:
+            raise self.changed()
+        return found
+
+    def read(self, column, first, count, buffer):
+        """Records into a buffer that has just their length."""
+        answer = self.call(_library.sitaungo_read_range, column, first, count, *_slice(buffer))
+        if not answer.accepted:
+            raise self.refused(answer)
+
+    def plot(self, table, buffer, position):
+        """The entries of a table (column, first, count, place) into a buffer; they stand from `position` on."""
+        answer = self.call(_library.sitaungo_plot, (_Request * len(table))(*table), len(table), *_slice(buffer))
+        if not answer.accepted:
+            raise self.refused(answer, position + answer.position)
+
+    def has_columns(self, count):
+        """Whether they are so many; where the file itself is refused, that is raised."""
+        past = self.call(_library.sitaungo_range_part, count, 0, 0)
+        if not past.accepted and past.number != 22:
+            raise self.refused(past)
+        return not past.accepted and (count == 0 or self.call(_library.sitaungo_range_part, count - 1, 0, 0).accepted)
+
+
+# ---- blocks by links: whatever the bytes are, none outside the file is read
+
+
+class _Block:
+    """A block that lies whole in the file. A link that it lacks is 0, and so are bytes past its end."""
+
+    def __init__(self, view, at, kind, length, links):
+        self.view, self.at, self.kind, self.links = view, at, kind, links
+        self.front, self.end = at + 24 + 8 * links, at + length
+
+    def link(self, number):
+        return struct.unpack_from("<Q", self.view, self.at + 24 + 8 * number)[0] if number < self.links else 0
+
+    def fields(self, form, byte=0):
+        size = struct.calcsize(form)
+        return struct.unpack(form, bytes(self.view[self.front + byte : min(self.front + byte + size, self.end)]).ljust(size, b"\0"))
+
+    def body(self):
+        return self.view[self.front : self.end]
+
+
+def _block(view, at, *kinds):
+    """The block of one of these kinds at an offset, None where there is none."""
+    if at == 0 or at + 24 > len(view):
+        return None
+    mark, kind, length, links = struct.unpack_from("<2s2s4xQQ", view, at)
+    if mark != b"##" or kind not in kinds or not 24 <= length <= len(view) - at or links > (length - 24) // 8:
+        return None
+    return _Block(view, at, kind, length, links)
+
+
+def _text(view, at):
+    """The text of the TX or MD at an offset, None where there is none. An MD's is XML."""
+    block = _block(view, at, b"TX", b"MD")
+    return bytes(block.body()).split(b"\0", 1)[0].decode("utf-8", "replace") if block else None
+
+
+def _plain(text):
+    """What XML has in its TX; other texts as they are."""
+    found = re.search(r"<TX(?:\s[^>]*)?>(.*?)</TX>", text, re.DOTALL) if text and text.startswith("<") else None
+    if not found:
+        return text
+    text = found[1]
+    for entity, letter in (("&lt;", "<"), ("&gt;", ">"), ("&quot;", '"'), ("&apos;", "'"), ("&amp;", "&")):
+        text = text.replace(entity, letter)
+    return text
+
+
+def _signal_data(view, at):
+    """The signal data at an offset: of one SD, or of those that lists have, joined. None where there is none, or another kind among it."""
+    block, parts, seen = _block(view, at, b"SD", b"DL", b"HL"), [], set()
+    if block and block.kind == b"HL":
+        block = _block(view, block.link(0), b"DL")
+    if block and block.kind == b"SD":
+        return block.body()
+    while block and block.at not in seen:
+        seen.add(block.at)
+        found = [_block(view, link, b"SD") for link in map(block.link, range(1, block.links)) if link]
+        parts += (None if part is None else part.body() for part in found)
+        following = block.link(0)
+        if None in parts or sum(map(len, parts)) > len(view):
+            return None
+        if following == 0:
+            return b"".join(parts)
+        block = _block(view, following, b"DL")
+    return None
+
+
+# ---- columns
+
+
+class Description(typing.NamedTuple):
+    """What a file says of a column."""
+
+    number: int
+    name: typing.Optional[str]
+    unit: typing.Optional[str]  # of its physical values
+    comment: typing.Optional[str]  # XML, where the file has that
+    kind: str  # "time" or "signal"
+    records: int
+    data_bytes: int  # of a record
+    invalidation_bytes: int
+    data_type: int  # see DATA_TYPES
+    bit_count: int
+    master: typing.Optional[int]  # the number of its time column
+    group: typing.Optional[str]
+    conversion: typing.Optional[str]  # one of CONVERSIONS, or "unknown"
+    channel_type: int
+    byte_offset: int  # of its value in a record
+    bit_offset: int
+    channel_at: int  # offset of its CN
+
+
+def _conversion(view, channel):
+    """The CC of a channel, None without one, and its name."""
+    at = channel.link(4)
+    block = _block(view, at, b"CC")
+    kind = block.fields("<B")[0] if block else len(CONVERSIONS)
+    return block, None if at == 0 else CONVERSIONS[kind] if kind < len(CONVERSIONS) else "unknown"
+
+
+def _described(view, number, group, channel, masters):
+    conversion, named = _conversion(view, channel)
+    kind, _, data_type, bit_offset, byte_offset, bit_count = channel.fields("<BBBBII")
+    _, records, flags, _, _, data_bytes, invalidation_bytes = group.fields("<QQHHIII")
+    unit = _text(view, channel.link(6)) or (conversion and _text(view, conversion.link(1)))
+    return Description(
+        number, _text(view, channel.link(2)), _plain(unit), _text(view, channel.link(7)), "time" if kind in (2, 3) else "signal", records, data_bytes,
+        invalidation_bytes, data_type, bit_count, masters.get(group.link(6)) if flags & 8 else None, _text(view, group.link(2)), named, kind,
+        byte_offset, bit_offset, channel.at,
+    )
+
+
+def _describe(view):
+    """The columns of a file that the library takes: DG by DG the one CG and its one CN."""
+    header, found = _block(view, 64, b"HD"), []
+    at = header.link(0) if header else 0
+    while at and len(found) <= 512:
+        data_group = _block(view, at, b"DG")
+        group = data_group and _block(view, data_group.link(1), b"CG")
+        channel = group and _block(view, group.link(1), b"CN")
+        if not channel:
+            return None
+        found.append((group, channel))
+        at = data_group.link(0)
+    masters = {group.at: number for number, (group, _) in reversed(list(enumerate(found)))}
+    return tuple(_described(view, number, *blocks, masters) for number, blocks in enumerate(found))
+
+
+def _u64(value, what):
+    value = operator.index(value)
+    if not 0 <= value < 1 << 64:
+        raise ValueError("%s is a number from 0 to 2^64 - 1, not %d" % (what, value))
+    return value
+
+
+def _room(length):
+    """Bytes to be written; where they are many, ones that aren't cleared first."""
+    return mmap.mmap(-1, length, flags=mmap.MAP_PRIVATE | mmap.MAP_ANONYMOUS) if length > 1 << 20 else bytearray(length)
+
+
+class ColumnFile:
+    """A column file, mapped. `columns` has a Description of each column.
+
+    A file that lacks the form is Refused. Views and arrays that were handed out stay good after `close`. A file that is renamed or replaced by another
+    of its name stays the one that was opened; one that is written to or cut off is Changed from the next call on, and bytes past a new end are 0.
+    """
+
+    def __init__(self, path):
+        self.path = os.fspath(path)
+        self._open = _Image(self.path)
+        try:
+            self._open_columns()
+        except BaseException:
+            self.close()
+            raise
+
+    def _open_columns(self):
+        self._open.has_columns(0)
+        self.columns = _describe(self._open.view)
+        if self.columns is None or not self._open.has_columns(len(self.columns)):
+            raise self._open.changed()
+        self._numbers = {}
+        for column in self.columns:
+            self._numbers.setdefault(column.name, []).append(column.number)
+
+    def close(self):
+        self._open = None
+
+    def __enter__(self):
+        return self
+
+    def __exit__(self, *_):
+        self.close()
+
+    def __repr__(self):
+        return "<ColumnFile %r%s>" % (self.path, "" if self._open else ", closed")
+
+    @property
+    def _image(self):
+        if self._open is None:
+            raise ValueError("%s is closed" % _shown(self.path))
+        return self._open
+
+    def numbers(self, name):
+        """Numbers of the columns that have this name, in order."""
+        return tuple(self._numbers.get(name, ()))
+
+    def column(self, key):
+        """The column of a name, or of a number."""
+        return Column(self, self._number(key))
+
+    def _number(self, key):
+        if isinstance(key, Column):
+            key = key.number
+        if not isinstance(key, str):
+            number = _u64(key, "a column")
+            if number >= len(self.columns):
+                self._image.part(number, 0, 0)  # refused with 22
+            return number
+        numbers = self.numbers(key)
+        if not numbers:
+            raise NameMissing("%s has no column %r" % (_shown(self.path), key))
+        if len(numbers) > 1:
+            raise NameRepeated("%s has %d columns %r: numbers %s" % (_shown(self.path), len(numbers), key, ", ".join(map(str, numbers))), numbers)
+        return numbers[0]
+
+    def _bytes(self, number, first, count):
+        """Bytes of a range of records; 0 where the library refuses it, and no room is needed."""
+        if number >= len(self.columns) or first + count > self.columns[number].records:
+            return 0
+        return count * (self.columns[number].data_bytes + self.columns[number].invalidation_bytes)
+
+    def read_many(self, requests):
+        """Ranges of records in one call: of each (column, first, count) the records' bytes, all in one buffer. A column is a name, a number or a Column.
+
+        The first range that can't be read is Refused, with its position."""
+        table, place = [], 0
+        for column, first, count in requests:
+            number = self._number(column) if isinstance(column, (str, Column)) else _u64(column, "a column")
+            first, count = _u64(first, "first"), _u64(count, "count")
+            table.append((number, first, count, place))
+            place += self._bytes(number, first, count)
+        buffer = _room(place)
+        for k in range(0, len(table), _TABLE):
+            self._image.plot(table[k : k + _TABLE], buffer, k)
+        ends = [entry[3] for entry in table[1:]] + [place]
+        return [memoryview(buffer)[entry[3] : end] for entry, end in zip(table, ends)]
+
+
+class Column:
+    """A column of a file; what the file says of it is `about`."""
+
+    def __init__(self, file, number):
+        self.file, self.number, self.about = file, number, file.columns[number]
+
+    def __repr__(self):
+        return "<Column %d %r of %r>" % (self.number, self.about.name, self.file.path)
+
+    def __len__(self):
+        return self.about.records
+
+    @property
+    def name(self):
+        return self.about.name
+
+    @property
+    def unit(self):
+        return self.about.unit
+
+    @property
+    def master(self):
+        """Its time column, None where it has none."""
+        return None if self.about.master is None else self.file.column(self.about.master)
+
+    def _range(self, first, count):
+        first = _u64(first, "first")
+        return first, max(self.about.records - first, 0) if count is None else _u64(count, "count")
+
+    def part(self, first=0, count=None):
+        """Records as a view of the file's own bytes; None where they lie in several blocks. Without count, all from first on."""
+        return self.file._image.part(self.number, *self._range(first, count))
+
+    def records(self, first=0, count=None):
+        """Records as bytes: of each its data bytes, then its invalidation bytes."""
+        first, count = self._range(first, count)
+        found = self.file._image.part(self.number, first, count)
+        return bytes(self._copied(first, count, bytearray) if found is None else found)
+
+    def _copied(self, first, count, make):
+        buffer = make(self.file._bytes(self.number, first, count))
+        self.file._image.read(self.number, first, count, buffer)
+        return buffer
+
+    # ---- values
+
+    def values(self, first=0, count=None, physical=False):
+        """Values as a numpy array; a masked one where the column has invalidation bits. With `physical` its conversion is applied.
+
+        Integers and floats have the type of the file where that is whole bytes, of either byte order, and are a view of the file's own bytes where these
+        lie in one block; other integers have the smallest type that holds them. Strings, byte arrays and values of variable length are bytes, as they
+        stand in the file."""
+        import numpy
+
+        first, count = self._range(first, count)
+        rows = self._rows(numpy, first, count)
+        invalid = self._invalid(numpy, rows)
+        values = self._decoded(numpy, rows, first, invalid)
+        if physical:
+            values = self._converted(numpy, values)
+        return values if invalid is None else numpy.ma.array(values, mask=invalid, copy=False)
+
+    def time(self, first=0, count=None, physical=True):
+        """Values of its time column, its own if it is one, by their conversion; None where it has none."""
+        column = self if self.about.kind == "time" else self.master
+        return None if column is None else column.values(*self._range(first, count), physical=physical)
+
+    def _undecoded(self, words):
+        return Undecoded("column %d %r of %s: %s" % (self.number, self.about.name, _shown(self.file.path), words))
+
+    def _rows(self, numpy, first, count):
+        """The records' bytes, a row for each."""
+        found = self.file._image.part(self.number, first, count)
+        if found is None:
+            found = self._copied(first, count, lambda length: numpy.empty(length, numpy.uint8))
+        width = self.about.data_bytes + self.about.invalidation_bytes
+        if count * max(width, 1) > 1 << 62:
+            raise MemoryError("%d records" % count)
+        return numpy.frombuffer(found, numpy.uint8).reshape(count, width) if len(found) else numpy.empty((count, width), numpy.uint8)
+
+    def _channel(self):
+        block = _block(self.file._image.view, self.about.channel_at, b"CN")
+        if block is None:
+            raise self.file._image.changed()
+        return block
+
+    def _invalid(self, numpy, rows):
+        """Which records are invalid: flag bit 0 all, bit 1 those with their invalidation bit set. None where none can be."""
+        flags, bit = self._channel().fields("<II", 12)
+        if flags & 1:
+            return numpy.ones(len(rows), bool)
+        if not flags & 2 or bit // 8 >= self.about.invalidation_bytes:
+            return None
+        return rows[:, self.about.data_bytes + bit // 8] >> bit % 8 & 1 == 1
+
+    def _decoded(self, numpy, rows, first, invalid):
+        about = self.about
+        if about.channel_type in (3, 6):  # virtual: the record's number
+            return numpy.arange(len(rows), dtype=numpy.uint64) + numpy.uint64(first)
+        size = (about.bit_offset + about.bit_count + 7) // 8
+        if about.byte_offset + size > about.data_bytes:
+            raise self._undecoded("it doesn't fit into its record")
+        if about.channel_type == 1:
+            return self._variable(numpy, self._bits(numpy, rows, size, False), invalid)
+        if about.data_type <= 3:
+            return self._integers(numpy, rows, size)
+        if about.data_type <= 5:
+            return self._floats(numpy, rows, size)
+        if about.data_type in (15, 16):
+            return self._complex(numpy, rows)
+        return self._strings(numpy, rows, size)
+
+    def _seen(self, numpy, rows, kind):
+        """The rows' cells as values of a type, not copied."""
+        if len(rows) == 0:
+            return numpy.empty(0, kind)
+        return numpy.ndarray((len(rows),), kind, rows, self.about.byte_offset, (rows.shape[1],))
+
+    def _cells(self, rows, size):
+        return rows[:, self.about.byte_offset : self.about.byte_offset + size]
+
+    def _bits(self, numpy, rows, size, big):
+        """Unsigned integers of up to 64 bits from any bit on. Of big-endian ones the bytes are turned round first."""
+        about, cells = self.about, self._cells(rows, size)
+        if about.bit_count > 64 or about.bit_offset > 7:
+            raise self._undecoded("an integer of %d bits from bit %d on" % (about.bit_count, about.bit_offset))
+        if big:
+            cells = cells[:, ::-1]
+        value = numpy.zeros(len(rows), numpy.uint64)
+        for k in range(min(size, 8)):
+            value |= cells[:, k].astype(numpy.uint64) << numpy.uint64(8 * k)
+        value >>= numpy.uint64(about.bit_offset)
+        if size == 9:
+            value |= cells[:, 8].astype(numpy.uint64) << numpy.uint64(64 - about.bit_offset)
+        return value & numpy.uint64((1 << about.bit_count) - 1)
+
+    def _integers(self, numpy, rows, size):
+        about, signed = self.about, self.about.data_type >= 2
+        order, letter = "<>"[self.about.data_type % 2], "ui"[signed]
+        if about.bit_offset == 0 and about.bit_count in (8, 16, 32, 64):
+            return self._seen(numpy, rows, "%s%s%d" % (order, letter, size))
+        value = self._bits(numpy, rows, size, order == ">")
+        if signed and about.bit_count:
+            sign = numpy.uint64(1 << about.bit_count - 1)
+            value = ((value ^ sign) - sign).view(numpy.int64)
+        return value.astype("%s%d" % (letter, next(n for n in (1, 2, 4, 8) if about.bit_count <= 8 * n)))
+
+    def _floats(self, numpy, rows, size):
+        about, order = self.about, "<>"[self.about.data_type % 2]
+        if about.bit_count not in (16, 32, 64):
+            raise self._undecoded("a float of %d bits" % about.bit_count)
+        if about.bit_offset == 0:
+            return self._seen(numpy, rows, "%sf%d" % (order, size))
+        wide = about.bit_count // 8
+        return self._bits(numpy, rows, size, order == ">").astype("u%d" % wide).view("f%d" % wide)
+
+    def _complex(self, numpy, rows):
+        about, order = self.about, "<>"[self.about.data_type == 16]
+        if about.bit_offset or about.bit_count not in (64, 128):
+            raise self._undecoded("a complex number of %d bits from bit %d on" % (about.bit_count, about.bit_offset))
+        return self._seen(numpy, rows, "%sc%d" % (order, about.bit_count // 8))
+
+    def _strings(self, numpy, rows, size):
+        if self.about.bit_offset:
+            raise self._undecoded("bytes from bit %d on" % self.about.bit_offset)
+        joined = self._cells(rows, size).tobytes()
+        return self._objects(numpy, (joined[size * k : size * (k + 1)] for k in range(len(rows))), len(rows))
+
+    def _variable(self, numpy, places, invalid):
+        """Each value by its place in the signal data: a 32-bit length, then its bytes. One that is invalid may lie nowhere."""
+        data = _signal_data(self.file._image.view, self._channel().link(5)) if len(places) else b""
+        if data is None:
+            raise self._undecoded("its signal data can't be read")
+
+        def value(record, place):
+            if place + 4 <= len(data):
+                end = place + 4 + struct.unpack_from("<I", data, place)[0]
+                if end <= len(data):
+                    return bytes(data[place + 4 : end])
+            if invalid is not None and invalid[record]:
+                return b""
+            raise self._undecoded("record %d of those asked for lies outside its signal data" % record)
+
+        values = self._objects(numpy, (value(record, place) for record, place in enumerate(places.tolist())), len(places))
+        self.file._image.check()
+        return values
+
+    @staticmethod
+    def _objects(numpy, values, count):
+        array = numpy.empty(count, object)
+        for k, value in enumerate(values):
+            array[k] = value
+        return array
+
+    def _converted(self, numpy, values):
+        conversion, name = _conversion(self.file._image.view, self._channel())
+        if name in (None, "identity"):
+            return values
+        if name != "linear" or values.dtype == object or conversion.fields("<6xH")[0] < 2:
+            raise NotApplied("column %d %r of %s: its conversion (%s) is not applied" % (self.number, self.about.name, _shown(self.file.path), name), name)
+        constant, factor = conversion.fields("<dd", 24)
+        return values.astype(complex if values.dtype.kind == "c" else float) * factor + constant
+
+
+# ---- converting
+
+
+def _command():
+    """$SITAUNGO_COMMAND; as installed beside this module; where host/build puts it; on the path."""
+    places = [os.path.join(_HERE, "..", "..", *names) for names in (("bin", "mdf-columns"), ("target", "host", "mdf-columns"))]
+    chosen = os.environ.get("SITAUNGO_COMMAND") or next(filter(os.path.exists, places), None) or shutil.which("mdf-columns")
+    if chosen is None:
+        raise FileNotFoundError(errno.ENOENT, "no such command, and none in $SITAUNGO_COMMAND", "mdf-columns")
+    return chosen
+
+
+def _option(name, value):
+    """The words of one choice: block_size=1000 is --block-size=1000, force=True is --force."""
+    if name in ("check", "d", "folder", "help", "json", "listing", "quiet", "version"):
+        raise TypeError("convert takes no choice %r" % name)
+    option = "--" + name.replace("_", "-")
+    if value is None or value is False:
+        return []
+    return [option if value is True else "%s=%s" % (option, os.fsdecode(value) if isinstance(value, (bytes, os.PathLike)) else value)]
+
+
+def convert(recording, result, **choices):
+    """Converts a recording into a column file by the command mdf-columns, and gives its report (README, --json). Choices are the command's options:
+    block_size, complete, force, resume, sha256, verify and what else it has.
+
+    A recording that is not accepted is Refused; any other end but status 0 is CommandFailed, with the status."""
+    words = [word for name, value in choices.items() for word in _option(name, value)]
+    run = subprocess.run(
+        [_command(), *words, "--quiet", "--json", "-", "--", os.fspath(recording), os.fspath(result)],
+        stdin=subprocess.DEVNULL, stdout=subprocess.PIPE, stderr=subprocess.PIPE,
+    )
+    said = run.stderr.decode("utf-8", "replace")
+    try:
+        report = json.loads(run.stdout.decode("utf-8", "replace").splitlines()[-1])
+    except (IndexError, ValueError):
+        report = None
+    if run.returncode == 0 and report:
+        return report
+    if run.returncode == 2 and report and "refusal" in report:
+        raise Refused(os.fspath(recording), report["refusal"]["number"], report["refusal"]["place"], report["refusal"]["words"])
+    raise CommandFailed(run.returncode, said, report)
