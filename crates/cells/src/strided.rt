@@ -42,7 +42,15 @@ fn strided(
 }
 
 // Of 3, 5, 6 and 7 bytes, and of any other number.
-fn put_bare_other(out: &mut [u8], to: usize, image: &[u8], from: usize, stride: usize, n: u64, h: Shape)
+fn put_bare_other(
+    out: &mut [u8],
+    to: usize,
+    image: &[u8],
+    from: usize,
+    stride: usize,
+    n: u64,
+    h: Shape,
+)
     requires { ⌜ Shaped (now image) h × Lying (length (now image)) (h .length) from stride n × (to + n * h .width ≤ length (now out))
         × (h .keep ≡ false) ⌝ }
     ensures { λ _. ⌜ now (out .exit) ≡ blit to (cells (now (image .entry)) (h .group) (h .channel)
@@ -94,7 +102,15 @@ fn put_bare(out: &mut [u8], to: usize, image: &[u8], from: usize, stride: usize,
 }
 
 // Of 3, 5, 6 and 7 bytes, and of any other number.
-fn put_kept_other(out: &mut [u8], to: usize, image: &[u8], from: usize, stride: usize, n: u64, h: Shape)
+fn put_kept_other(
+    out: &mut [u8],
+    to: usize,
+    image: &[u8],
+    from: usize,
+    stride: usize,
+    n: u64,
+    h: Shape,
+)
     requires { ⌜ Shaped (now image) h × Lying (length (now image)) (h .length) from stride n × (to + n * h .width ≤ length (now out))
         × (h .keep ≡ true) ⌝ }
     ensures { λ _. ⌜ now (out .exit) ≡ blit to (cells (now (image .entry)) (h .group) (h .channel)
