@@ -101,7 +101,9 @@ enum {
     /* The file lacks the form of a column file, or the buffer has another length than the records; 0. */
     SITAUNGO_REFUSED_FORM = 24,
     /* A plot has over 256 entries, or an entry's bytes leave the destination; 0. */
-    SITAUNGO_REFUSED_PLOT = 25
+    SITAUNGO_REFUSED_PLOT = 25,
+    /* The unit is no power of two from 8 to 4096; 0. Of a conversion, after 2 and before 3. */
+    SITAUNGO_REFUSED_UNIT = 26
 };
 
 /* ---- why a channel is left out */
@@ -119,7 +121,7 @@ enum {
 /* What a conversion answers: where accepted, the report's seven counts, number and place 0; else number and place, the counts 0. */
 struct sitaungo_outcome {
     bool accepted;
-    uint64_t number;             /* the refusal, 1 to 21 */
+    uint64_t number;             /* the refusal: 1 to 21, 26 */
     uint64_t place;              /* its place */
     uint64_t source_groups;      /* groups of the recording, those of VLSD storage not counted */
     uint64_t time_groups;        /* time columns */
@@ -144,13 +146,37 @@ struct sitaungo_outcome sitaungo_convert(
     uint64_t *columns, size_t columns_length, uint64_t *copies, size_t copies_length,
     uint8_t *out, size_t out_length, uint64_t *list, size_t list_length);
 
-/* Lays the listing of that conversion, with an output of `out` bytes and a list of `list_words` words, over `lines`, and answers its length;
+/* What a call chooses. */
+struct sitaungo_options {
+    uint64_t unit; /* each column's first data block and each SD start on the next multiple of it: a power of two from 8 to 4096 (26); built in is 8 */
+};
+
+/* The same by what is chosen: sitaungo_convert is this call with unit 8. Payloads, signal data, omissions and the report but for `file_size` don't depend on
+ * the unit. Blocks of one column stay 24 bytes plus payload apart, metadata and what follows the last block stay at multiples of 8, a column without
+ * blocks and SD moves nothing; gaps have under `unit` bytes and are zero. */
+struct sitaungo_outcome sitaungo_convert_with(
+    const uint8_t *image, size_t image_length, uint64_t size,
+    const uint8_t *ident, size_t ident_length, const uint8_t *text, size_t text_length, uint64_t time, struct sitaungo_options options,
+    uint64_t *source, size_t source_length, uint64_t *fragments, size_t fragments_length,
+    uint64_t *columns, size_t columns_length, uint64_t *copies, size_t copies_length,
+    uint8_t *out, size_t out_length, uint64_t *list, size_t list_length);
+
+/* Lays the listing of the conversion by sitaungo_convert, with an output of `out` bytes and a list of `list_words` words, over `lines`, and answers its length;
  * what passes the end of `lines` is lost. The listing is `columns N`, a line for each column (number, t time or s signal, data bytes,
  * invalidation byte, records, blocks, payload bytes plus the bytes of its joined signal data, master column or `-`), `omitted N`, a line
  * `address reason` for each omission; or only `refused N place P`. The work slices are left as by sitaungo_convert. */
 size_t sitaungo_list(
     const uint8_t *image, size_t image_length, uint64_t size,
     const uint8_t *ident, size_t ident_length, const uint8_t *text, size_t text_length, uint64_t out, uint64_t list_words,
+    uint64_t *source, size_t source_length, uint64_t *fragments, size_t fragments_length,
+    uint64_t *columns, size_t columns_length, uint64_t *copies, size_t copies_length,
+    uint8_t *lines, size_t lines_length);
+
+/* The same of the conversion by what is chosen: sitaungo_list is this call with unit 8. */
+size_t sitaungo_list_with(
+    const uint8_t *image, size_t image_length, uint64_t size,
+    const uint8_t *ident, size_t ident_length, const uint8_t *text, size_t text_length, struct sitaungo_options options,
+    uint64_t out, uint64_t list_words,
     uint64_t *source, size_t source_length, uint64_t *fragments, size_t fragments_length,
     uint64_t *columns, size_t columns_length, uint64_t *copies, size_t copies_length,
     uint8_t *lines, size_t lines_length);

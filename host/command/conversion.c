@@ -42,9 +42,9 @@ uint64_t present_time(void)
     return (uint64_t)now.tv_sec * 1000000000u + (uint64_t)now.tv_nsec;
 }
 
-struct lent lend(uint64_t block_size, const char *version, uint64_t time)
+struct lent lend(uint64_t block_size, uint64_t unit, const char *version, uint64_t time)
 {
-    struct lent l = {.block_size = block_size, .time = time};
+    struct lent l = {.block_size = block_size, .unit = unit, .time = time};
     char when[WHEN];
     write_time(when, time);
     l.text_length = (size_t)snprintf(l.text, sizeof l.text, history, version, when, version);
@@ -89,10 +89,15 @@ uint8_t *map_output(int file, uint64_t size)
     return bytes;
 }
 
+static struct sitaungo_options choices_of(const struct lent *l)
+{
+    return (struct sitaungo_options){.unit = l->unit};
+}
+
 struct sitaungo_outcome convert(const struct recording *r, const struct lent *l, uint8_t *out, size_t length)
 {
-    return sitaungo_convert(
-        r->bytes, r->length, l->block_size, ident, sizeof ident, (const uint8_t *)l->text, l->text_length, l->time,
+    return sitaungo_convert_with(
+        r->bytes, r->length, l->block_size, ident, sizeof ident, (const uint8_t *)l->text, l->text_length, l->time, choices_of(l),
         work[0], SITAUNGO_WORK_WORDS, work[1], SITAUNGO_WORK_WORDS, work[2], SITAUNGO_WORK_WORDS, work[3], SITAUNGO_WORK_WORDS,
         out, length, omissions, SITAUNGO_LIST_WORDS);
 }
@@ -117,8 +122,8 @@ static void take_omissions(const char *listing)
 
 const char *list_columns(const struct recording *r, const struct lent *l, uint64_t size)
 {
-    size_t length = sitaungo_list(
-        r->bytes, r->length, l->block_size, ident, sizeof ident, (const uint8_t *)l->text, l->text_length, size, SITAUNGO_LIST_WORDS,
+    size_t length = sitaungo_list_with(
+        r->bytes, r->length, l->block_size, ident, sizeof ident, (const uint8_t *)l->text, l->text_length, choices_of(l), size, SITAUNGO_LIST_WORDS,
         work[0], SITAUNGO_WORK_WORDS, work[1], SITAUNGO_WORK_WORDS, work[2], SITAUNGO_WORK_WORDS, work[3], SITAUNGO_WORK_WORDS,
         lines, sizeof lines - 1);
     lines[length < sizeof lines ? length : sizeof lines - 1] = '\0';

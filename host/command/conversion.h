@@ -11,17 +11,17 @@
 
 /* What a result depends on besides the recording. */
 struct lent {
-    uint64_t block_size;
+    uint64_t block_size, unit;
     uint64_t time; /* of the history entry, nanoseconds since 1970 */
     char text[SITAUNGO_TEXT_BYTES];
     size_t text_length;
 };
 
-enum { UNIT = 8, WHEN = 40, VERSION_KEPT = 32 };
+enum { WHEN = 40, VERSION_KEPT = 32 };
 
 /* The history text of a conversion by this version of the command (or another) at this time. The text has version and time a second time, so
  * that damage to either shows. */
-struct lent lend(uint64_t block_size, const char *version, uint64_t time);
+struct lent lend(uint64_t block_size, uint64_t unit, const char *version, uint64_t time);
 
 /* A time as 2026-11-16T01:35:00.123456789Z. */
 void write_time(char to[WHEN], uint64_t time);

@@ -45,6 +45,8 @@ static const char *const refusals[] = {
     [SITAUNGO_REFUSED_COLUMN] = "the file has no such column",
     [SITAUNGO_REFUSED_RECORDS] = "the column has fewer records",
     [SITAUNGO_REFUSED_FORM] = "the file lacks the form of a column file, or the buffer has another length",
+    [SITAUNGO_REFUSED_PLOT] = "a plot has over 256 entries, or an entry's bytes leave the destination",
+    [SITAUNGO_REFUSED_UNIT] = "the unit is no power of two from 8 to 4096",
 };
 
 static const char *const reasons[] = {

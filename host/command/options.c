@@ -11,6 +11,7 @@
 #include "sitaungo.h"
 
 #define DEFAULT_BLOCK_SIZE 4194304
+#define DEFAULT_UNIT 8
 
 static const char usage[] =
     "usage: mdf-columns RECORDING RESULT [OPTION]...\n"
@@ -30,6 +31,7 @@ static const char usage[] =
     "  --quiet             print neither phases nor the line of success\n"
     "  --resume            pass over a RESULT that is there and is the conversion of RECORDING\n"
     "  --sha256            print the digest of the stored bytes, read back, as sha256sum does\n"
+    "  --unit BYTES        columns and signal data start on multiples of it, a power of two from 8 to 4096; 8 if not given\n"
     "  --verify            check before RESULT gets its name\n"
     "  --help, --version   print this, or the version\n"
     "\n"
@@ -44,29 +46,31 @@ __attribute__((noreturn)) static void misused(const char *why)
     exit(STATUS_FAILED);
 }
 
-/* Decimal digits only. 0 is left to the conversion, which refuses it. */
-static uint64_t parse_block_size(const char *text)
+/* Decimal digits only. A number that can't be a block size or a unit is left to the conversion, which refuses it. */
+static uint64_t parse_bytes(const char *option, const char *text)
 {
-    uint64_t size = 0;
-    if (*text == '\0')
-        misused("--block-size needs a number of bytes");
-    for (; *text; text++) {
+    uint64_t bytes = 0;
+    bool good = *text != '\0';
+    for (; *text && good; text++) {
         uint64_t digit = (uint64_t)(*text - '0');
-        if (*text < '0' || *text > '9' || size > (UINT64_MAX - digit) / 10)
-            misused("--block-size needs a number of bytes, in digits, below 2^64");
-        size = 10 * size + digit;
+        good = *text >= '0' && *text <= '9' && bytes <= (UINT64_MAX - digit) / 10;
+        bytes = 10 * bytes + digit;
     }
-    return size;
+    if (!good) {
+        (void)say("%s needs a number of bytes, in digits, below 2^64", option);
+        misused(NULL);
+    }
+    return bytes;
 }
 
-enum { WORD = 1, BLOCK_SIZE = 256, CHECK, COMPLETE, FORCE, JSON, LISTING, QUIET, RESUME, SHA256, VERIFY, HELP, VERSION };
+enum { WORD = 1, BLOCK_SIZE = 256, CHECK, COMPLETE, FORCE, JSON, LISTING, QUIET, RESUME, SHA256, UNIT, VERIFY, HELP, VERSION };
 
 static const struct option known[] = {
     {"block-size", required_argument, NULL, BLOCK_SIZE}, {"check", no_argument, NULL, CHECK}, {"complete", no_argument, NULL, COMPLETE},
     {"folder", required_argument, NULL, 'd'}, {"force", no_argument, NULL, FORCE}, {"json", required_argument, NULL, JSON},
     {"listing", no_argument, NULL, LISTING}, {"quiet", no_argument, NULL, QUIET}, {"resume", no_argument, NULL, RESUME},
-    {"sha256", no_argument, NULL, SHA256}, {"verify", no_argument, NULL, VERIFY}, {"help", no_argument, NULL, HELP},
-    {"version", no_argument, NULL, VERSION}, {NULL, 0, NULL, 0},
+    {"sha256", no_argument, NULL, SHA256}, {"unit", required_argument, NULL, UNIT}, {"verify", no_argument, NULL, VERIFY},
+    {"help", no_argument, NULL, HELP}, {"version", no_argument, NULL, VERSION}, {NULL, 0, NULL, 0},
 };
 
 static void take(struct options *o, int option)
@@ -74,7 +78,7 @@ static void take(struct options *o, int option)
     switch (option) {
     case WORD: o->recordings[o->count++] = optarg; break;
     case 'd': o->folder = optarg; break;
-    case BLOCK_SIZE: o->block_size = parse_block_size(optarg); break;
+    case BLOCK_SIZE: o->block_size = parse_bytes("--block-size", optarg); break;
     case CHECK: o->check = true; break;
     case COMPLETE: o->complete = true; break;
     case FORCE: o->force = true; break;
@@ -83,6 +87,7 @@ static void take(struct options *o, int option)
     case QUIET: o->quiet = true; break;
     case RESUME: o->resume = true; break;
     case SHA256: o->digest = true; break;
+    case UNIT: o->unit = parse_bytes("--unit", optarg); break;
     case VERIFY: o->verify = true; break;
     case HELP: print(usage, sizeof usage - 1); exit(0);
     case VERSION: print_line("mdf-columns %s", SITAUNGO_VERSION); exit(0);
@@ -105,7 +110,7 @@ static void check_options(const struct options *o)
 /* A leading - takes the words in their order, whether or not POSIXLY_CORRECT is set. */
 struct options parse(int count, char **words)
 {
-    struct options o = {.block_size = DEFAULT_BLOCK_SIZE, .recordings = calloc((size_t)count + 1, sizeof *words)};
+    struct options o = {.block_size = DEFAULT_BLOCK_SIZE, .unit = DEFAULT_UNIT, .recordings = calloc((size_t)count + 1, sizeof *words)};
     if (!o.recordings)
         fail("no memory for the words");
     for (int c; (c = getopt_long(count, words, "-d:", known, NULL)) != -1;)

@@ -11,7 +11,7 @@ struct options {
     const char *result; /* NULL: each goes into the folder under its own name */
     const char *folder;
     const char *json;
-    uint64_t block_size;
+    uint64_t block_size, unit;
     bool force, resume, check, verify, complete, digest, listing, quiet;
 };
 

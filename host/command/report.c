@@ -179,7 +179,7 @@ static void put_report(FILE *to, const struct done *d)
     json_number(to, "recording_bytes", (uint64_t)d->recording->found.st_size);
     json_text(to, "result", d->result);
     json_number(to, "block_size", d->lent->block_size);
-    json_number(to, "unit", UNIT);
+    json_number(to, "unit", d->lent->unit);
     json_text(to, "time", when);
     if (d->answer.accepted)
         put_counts(to, &d->answer);

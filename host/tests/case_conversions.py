@@ -183,8 +183,25 @@ def over_4_gib():
         os.truncate(path, size)
         with folder() as here:
             refuses(run(path, os.path.join(here, "r.mf4")), 3, 0)
+            refuses(run(path, os.path.join(here, "r.mf4"), "--unit", 4096), 3, 0)
+            refuses(run(path, os.path.join(here, "r.mf4"), "--unit", 12), 26, 0)
             holds(here)
     os.remove(path)
+
+
+@any_user
+def units_that_are_refused():
+    """After the block size and before all that is read, also by --check and --listing."""
+    with folder() as here:
+        result = os.path.join(here, "r.mf4")
+        empty = write(os.path.join(here, "empty"), b"")
+        for unit in (0, 1, 4, 12, 24, 4095, 8192, 2**63, 2**64 - 1):
+            for recording in (EXAMPLE, empty):
+                refuses(run(recording, result, "--unit", unit), 26, 0)
+                refuses(run(recording, result, "--unit", unit, "--listing"), 26, 0)
+                refuses(run(recording, result, "--unit", unit, "--block-size", 0), 2, 0)
+            refuses(run("--check", EXAMPLE, empty, "--unit", unit), 26, 0)
+        holds(here, "empty")
 
 
 @any_user
@@ -196,6 +213,6 @@ def refusal_keeps_an_old_result():
 
 @test
 def every_refusal_was_met():
-    expect(MET == set(range(1, 25)), "not met:", sorted(set(range(1, 25)) - MET))
+    expect(MET == set(range(1, 27)), "not met:", sorted(set(range(1, 27)) - MET))
 
 

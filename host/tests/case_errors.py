@@ -15,11 +15,12 @@ from mdf import without_time
 def misuse():
     with folder() as here:
         result = os.path.join(here, "r.mf4")
-        for words in ((), (SAMPLE,), (SAMPLE, result, "third"), (SAMPLE, result, "--what"), (SAMPLE, result, "--block-size"),
+        for words in ((), (SAMPLE,), (SAMPLE, result, "third"), (SAMPLE, result, "--what"), (SAMPLE, result, "--block-size"), (SAMPLE, result, "--unit"),
             ("-d", here), ("--check", SAMPLE), ("--check", "--force", SAMPLE, result), ("--listing", "--json", "-", SAMPLE, result), (SAMPLE, result, "--json")):
             fails(run(*words), "usage: mdf-columns RECORDING RESULT")
         for size in ("", "abc", "-1", "4k", " 1", "0x10", str(2**64)):
-            fails(run(SAMPLE, result, "--block-size", size), "--block-size needs", "usage:")
+            for option in ("--block-size", "--unit"):
+                fails(run(SAMPLE, result, option, size), option + " needs a number of bytes", "usage:")
         holds(here)
     r = run("--help")
     expect(r.returncode == 0 and r.printed.startswith("usage:") and r.said == "", r.said)

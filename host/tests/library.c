@@ -1,6 +1,7 @@
 /* The library against its header: library RECORDING, the worked example. Tries the refusals that the command can't meet, each length of
  * include/sitaungo.h from both sides, and what a call leaves alone. Prints what is wrong, and at the end the number of checks. */
 #include <inttypes.h>
+#include <stdbool.h>
 #include <stdio.h>
 #include <stdlib.h>
 #include <string.h>
@@ -8,18 +9,20 @@
 #include "sitaungo.h"
 
 _Static_assert(sizeof(struct sitaungo_outcome) == 80, "the struct's size");
+_Static_assert(sizeof(struct sitaungo_options) == 8, "the choices' size");
 _Static_assert(sizeof(struct sitaungo_request) == 32 && sizeof(struct sitaungo_plotting) == 32, "a plot's structs");
 
-enum { ROOM = 4096, GUARD = 0xA5 };
+enum { ROOM = 4096, WIDE = 16384, GUARD = 0xA5 };
 
-static uint8_t image[65536], out[ROOM], lines[SITAUNGO_LISTING_BYTES], ident[SITAUNGO_IDENT_BYTES + 1], text[SITAUNGO_TEXT_BYTES + 1];
+static uint8_t image[65536], out[WIDE], lines[SITAUNGO_LISTING_BYTES], ident[SITAUNGO_IDENT_BYTES + 1], text[SITAUNGO_TEXT_BYTES + 1];
 static uint64_t work[4][SITAUNGO_WORK_WORDS + 1], list[SITAUNGO_LIST_WORDS];
 static int checks, wrong;
 
-/* What one call is lent. */
+/* What one call is lent, and what it chooses where it does. */
 struct call {
     size_t image, ident, text, work[4], out, list;
-    uint64_t size;
+    uint64_t size, unit;
+    bool chooses;
 };
 
 static size_t image_length;
@@ -55,6 +58,9 @@ static struct sitaungo_outcome run(struct call c)
     memset(out, GUARD, sizeof out);
     memset(list, GUARD, sizeof list);
     memset(work, GUARD, sizeof work);
+    if (c.chooses)
+        return sitaungo_convert_with(image, c.image, c.size, ident, c.ident, text, c.text, 0, (struct sitaungo_options){c.unit}, work[0], c.work[0],
+            work[1], c.work[1], work[2], c.work[2], work[3], c.work[3], out, c.out, list, c.list);
     return sitaungo_convert(image, c.image, c.size, ident, c.ident, text, c.text, 0, work[0], c.work[0], work[1], c.work[1], work[2], c.work[2],
         work[3], c.work[3], out, c.out, list, c.list);
 }
@@ -129,7 +135,7 @@ static void try_report(void)
     check(a.source_groups == 1 && a.time_groups == 1 && a.signal_groups == 1 && a.shared_time_groups == 0, "its groups");
     check(a.data_blocks == 4 && a.metadata_size == 1048 && a.file_size == 1288, "its blocks and sizes");
     check(memcmp(out + 1048, "##DV", 4) == 0 && memcmp(out + 1176, "##DT", 4) == 0, "its columns' data");
-    check(all(out + 1288, ROOM - 1288, GUARD), "bytes past the result");
+    check(all(out + 1288, sizeof out - 1288, GUARD), "bytes past the result");
     check(list[0] == 0 && all(list + 1, sizeof list - 8, GUARD), "words past the list");
     for (int i = 0; i < 4; i++)
         check(all(work[i], 8 * SITAUNGO_WORK_WORDS, 0), "work words after a conversion");
@@ -150,6 +156,92 @@ static void lists(uint64_t room, uint64_t words, const char *expected)
     check(list_into(10, room, words) == n && memcmp(lines, expected, 10) == 0, "a listing that is cut");
     check(all(lines + 10, sizeof lines - 10, GUARD), "bytes past the lines lent");
 }
+
+/* ---- units */
+
+static struct call with_unit(uint64_t unit)
+{
+    struct call c = usual();
+    c.chooses = true;
+    c.unit = unit;
+    c.out = WIDE;
+    return c;
+}
+
+static size_t next_multiple(size_t at, size_t unit)
+{
+    return (at + unit - 1) / unit * unit;
+}
+
+/* A column's two blocks, which lie there as with unit 8, but for their place. */
+static int same_blocks(const uint8_t *usual_bytes, size_t at, size_t length)
+{
+    return memcmp(out + at, usual_bytes, length) == 0;
+}
+
+/* Each of the ten: the worked example's metadata end at 1048, its columns have 128 and 112 bytes of blocks. */
+static void try_units(void)
+{
+    static uint8_t usual_bytes[WIDE];
+    struct sitaungo_outcome built_in = run(usual());
+    memcpy(usual_bytes, out, sizeof out);
+    for (size_t unit = 8; unit <= 4096; unit *= 2) {
+        size_t first = next_multiple(1048, unit), second = next_multiple(first + 128, unit), end = second + 112;
+        struct call c = with_unit(unit);
+        struct sitaungo_outcome a = run(c);
+        check(a.accepted && a.file_size == end, "the size with a unit");
+        a.file_size = built_in.file_size;
+        check(memcmp(&a.source_groups, &built_in.source_groups, 7 * sizeof(uint64_t)) == 0, "the report but for the size");
+        check(same_blocks(usual_bytes + 1048, first, 128) && same_blocks(usual_bytes + 1176, second, 108), "blocks on their unit");
+        check(all(out + 1048, first - 1048, 0) && all(out + first + 128, second - first - 128, 0) && all(out + second + 108, 4, 0), "gaps");
+        check(all(out + end, sizeof out - end, GUARD), "bytes past the result");
+        check(unit != 8 || memcmp(out, usual_bytes, sizeof out) == 0, "unit 8 is built in");
+        for (int i = 0; i < 4; i++)
+            check(all(work[i], 8 * SITAUNGO_WORK_WORDS, 0), "work words after a conversion");
+        c.out = end - 1;
+        refuses(c, SITAUNGO_REFUSED_OUTPUT, end, "an output one byte short for the unit");
+    }
+    check(next_multiple(1048, 16) == 1056 && next_multiple(1048, 64) == 1088 && run(with_unit(16)).file_size == 1296, "unit 16");
+    check(run(with_unit(64)).file_size == 1328 && run(with_unit(4096)).file_size == 8304, "units 64 and 4096");
+}
+
+/* 26, after 1 and 2 and before 3. */
+static void try_bad_units(void)
+{
+    static const uint64_t bad[] = {0, 1, 2, 4, 7, 9, 12, 24, 48, 4088, 4095, 4097, 8192, UINT64_C(1) << 32, (UINT64_C(1) << 32) + 8, UINT64_C(1) << 63, UINT64_MAX};
+    for (size_t i = 0; i < sizeof bad / sizeof *bad; i++) {
+        struct call c = with_unit(bad[i]);
+        refuses(c, SITAUNGO_REFUSED_UNIT, 0, "a bad unit");
+        c.out = c.list = c.image = 0;
+        refuses(c, SITAUNGO_REFUSED_UNIT, 0, "a bad unit with nothing lent");
+        c.size = 0;
+        refuses(c, SITAUNGO_REFUSED_BLOCK_SIZE, 0, "block size 0 before the unit");
+        c.work[i % 4]--;
+        refuses(c, SITAUNGO_REFUSED_LENT, 0, "a short slice before the unit");
+    }
+}
+
+static void lists_with(uint64_t unit, uint64_t room, const char *expected)
+{
+    size_t n = strlen(expected);
+    memset(lines, GUARD, sizeof lines);
+    size_t length = sitaungo_list_with(image, image_length, 64, ident, SITAUNGO_IDENT_BYTES, text, 7, (struct sitaungo_options){unit}, room, 2049, work[0],
+        SITAUNGO_WORK_WORDS, work[1], SITAUNGO_WORK_WORDS, work[2], SITAUNGO_WORK_WORDS, work[3], SITAUNGO_WORK_WORDS, lines, sizeof lines);
+    check(length == n && memcmp(lines, expected, n) == 0 && all(lines + n, sizeof lines - n, GUARD), expected);
+    for (int i = 0; i < 4; i++)
+        check(all(work[i], 8 * SITAUNGO_WORK_WORDS, 0), "work words after a listing");
+}
+
+static void try_listed_units(const char *listing)
+{
+    lists_with(8, 1288, listing);
+    lists_with(4096, 8304, listing);
+    lists_with(4096, 8303, "refused 20 place 8304\n");
+    lists_with(12, 8304, "refused 26 place 0\n");
+    lists_with(0, 0, "refused 26 place 0\n");
+}
+
+/* ---- plots */
 
 /* A plot of the worked example's result: so many entries into so many bytes. */
 static uint8_t drawn[256];
@@ -225,9 +317,13 @@ int main(int count, char **arguments)
     try_lent();
     try_output();
     try_report();
-    lists(1288, 2049, "columns 2\n0 t 4 0 20 2 80 -\n1 s 2 1 20 2 60 0\nomitted 0\n");
+    const char *listing = "columns 2\n0 t 4 0 20 2 80 -\n1 s 2 1 20 2 60 0\nomitted 0\n";
+    lists(1288, 2049, listing);
     lists(1287, 2049, "refused 20 place 1288\n");
     lists(1288, 0, "refused 21 place 1\n");
+    try_units();
+    try_bad_units();
+    try_listed_units(listing);
     try_plot();
     printf("%d checks, %d wrong\n", checks, wrong);
     return wrong != 0;

@@ -48,15 +48,18 @@ class File:
     def text(self, at):
         return self.body(at).rstrip(b"\0").decode() if at else None
 
-    def joined(self, at):
-        """The data behind a data link, and its kinds of block."""
-        if at == 0:
-            return b"", []
-        if self.kind(at) != b"DL":
-            return self.body(at), [self.kind(at)]
+    def blocks(self, at):
+        """The blocks behind a data link."""
+        if at == 0 or self.kind(at) != b"DL":
+            return [at] if at else []
         links = self.links(at)
         assert links[0] == 0
-        return b"".join(self.body(x) for x in links[1:]), [self.kind(x) for x in links[1:]]
+        return links[1:]
+
+    def joined(self, at):
+        """The data behind a data link, and its kinds of block."""
+        blocks = self.blocks(at)
+        return b"".join(self.body(x) for x in blocks), [self.kind(x) for x in blocks]
 
     def chain(self, at, link=0):
         while at:
@@ -78,6 +81,7 @@ class Column:
         self.type = f.body(cn)[0]
         self.payload, self.kinds = f.joined(f.links(dg)[2])
         self.signal = f.joined(f.links(cn)[5])[0]
+        self.blocks, self.signals = f.blocks(f.links(dg)[2]), f.blocks(f.links(cn)[5])
         self.master_cg = f.links(cg)[6] if self.flags & 8 else None
         self.master = None
 

@@ -1,5 +1,6 @@
 // Holds the conversion to the Rust's answers: converts each image of the file `answers`, prints a line for each answer that differs, then how many
 // are the same. `tools/differ/run answers` writes the file; tools/differ/src/answers.rs says what stands in it.
+use choices::Choices;
 use fields::u8_at;
 use fields::u64_at;
 use libc::STDOUT_FILENO;
@@ -177,6 +178,7 @@ fn compare(
         ident,
         text,
         time,
+        Choices { unit: 8 },
         &mut source,
         &mut fragments,
         &mut columns,

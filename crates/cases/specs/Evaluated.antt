@@ -16,6 +16,7 @@ use Rattle.plan.specs.Columns as planColumns
 use Rattle.plan.specs.Copies as planCopies
 use Rattle.plan.specs.Data as planData
 use Rattle.plan.specs.Geometry as planGeometry
+use Rattle.plan.specs.Rules as planRules
 use Rattle.plan.specs.Layout as planLayout
 use Rattle.result.specs.Fill as resultFill
 use Rattle.result.specs.Listing as resultListing
@@ -49,9 +50,9 @@ unfolding
     planCopies.isCopied planCopies.lostLinks planCopies.copyLinks planCopies.copyAt planCopies.copyRoot planCopies.copyRoots planCopies.historyFrom
     planCopies.historyOf planCopies.columnCopies planCopies.isAttached planCopies.attachmentIn planCopies.attach planCopies.attachmentsFrom
     planCopies.attachmentsOf planData.isNonempty planData.anyNonempty planData.signalsIn planData.dataIn planData.allDataIn planData.blocksIn
-    planGeometry.align8 planGeometry.powerIn planGeometry.stepOf planGeometry.perBlock planGeometry.fullPayload planGeometry.blockCount
+    planGeometry.align8 planGeometry.alignTo planRules.isAmong planRules.unitIn planGeometry.powerIn planGeometry.stepOf planGeometry.perBlock planGeometry.fullPayload planGeometry.blockCount
     planGeometry.perFull planGeometry.blockPayload planLayout.columnWidth planLayout.columnBlocks planLayout.dlSize planLayout.structureSize
-    planLayout.payloadSize planLayout.blocksEnd planLayout.placedFrom planLayout.structureEnd planLayout.dataEnd planLayout.mdSize
+    planLayout.payloadSize planLayout.firstAt planLayout.blocksEnd planLayout.placesFrom planLayout.structuresEnd planLayout.placesEnd planLayout.sizesOf planLayout.withPlaces planLayout.mdSize
     planLayout.pastCopies planLayout.fhPlace planLayout.layout resultFill.header resultFill.words resultFill.newLink resultFill.newLinks
     resultFill.historyLink resultFill.copiedLinks resultFill.dataOf resultFill.copiedBytes resultFill.copiedBlocks resultFill.mdBytes
     resultFill.fhBytes resultFill.dgBytes resultFill.cgAt resultFill.cgData resultFill.cgBytes resultFill.cnData resultFill.cnBytes
@@ -60,7 +61,7 @@ unfolding
     resultListing.digitsOf resultListing.decimal resultListing.columnLine resultListing.columnLines resultListing.omissionLines
     resultListing.planLines resultPayload.recordsOf resultPayload.cell resultPayload.cells resultPayload.payloads resultPayload.columnPayloads
     resultResult.hdBlock resultResult.blocksOf resultResult.flat resultResult.fileOf resultResult.sourceGroupsOf resultResult.timeColumns
-    resultResult.blocksWritten resultResult.report resultResult.lentIn resultResult.decided resultResult.answer resultResult.workIn resultResult.zeros
+    resultResult.blocksWritten resultResult.report resultResult.lentIn resultResult.choicesIn resultResult.decided resultResult.answer resultResult.workIn resultResult.zeros
     resultResult.convert resultLinks.headAt resultLinks.groupFields resultLinks.channelFields resultLinks.listAt resultLinks.listShown
     resultLinks.shownAt resultLinks.shownFrom resultLinks.shown resultDue.duePayload resultDue.evenBlocks resultDue.blocksDue resultDue.equalDue
     resultDue.fragmentsDue resultDue.listDue resultDue.placedCGs resultDue.groupFlagsDue resultDue.channelFlagsDue resultDue.keptByte

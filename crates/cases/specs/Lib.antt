@@ -3,3 +3,4 @@ pub mod Starred
 pub mod Excluded
 pub mod Refuted
 pub mod Lost
+pub mod Units

@@ -26,7 +26,7 @@ use Rattle.cases.specs.Excluded.{fileIn}
 use Rattle.cases.specs.Refuted.{Refuted, in-none}
 
 abbrev withImage : List ℕ → resultResult.Args
-withImage s = record { image = s; blockSize = args .blockSize; ident = args .ident; text = args .text; time = args .time }
+withImage s = record { image = s; blockSize = args .blockSize; ident = args .ident; text = args .text; time = args .time; unit = args .unit }
 
 -- a block of that kind, with so many links, all 0
 abbrev blockWith : ℕ → ℕ → ℕ → ℕ → List ℕ → List ℕ

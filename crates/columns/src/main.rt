@@ -1,4 +1,5 @@
 // Prints the columns and omissions that a conversion plans, or its refusal: of the recording on standard input, then of each that an argument names.
+use choices::Choices;
 use libc::STDIN_FILENO;
 use libc::STDOUT_FILENO;
 use listing::recording::list;
@@ -21,6 +22,7 @@ fn show(image: &[u8]) {
         ident,
         b"convert",
         0,
+        Choices { unit: 8 },
         &mut source,
         &mut fragments,
         &mut columns,
@@ -34,6 +36,7 @@ fn show(image: &[u8]) {
         64,
         ident,
         b"convert",
+        Choices { unit: 8 },
         65536,
         2049,
         &mut source,

@@ -26,7 +26,7 @@ use Rattle.plan.specs.Copies.{
   attachmentsOf,
 }
 use Rattle.copies_laws.specs.AnswerLaws.{refused≢ok, ok-same, then-ok, by-eq, by-pick}
-use Rattle.copies_laws.specs.Laid.{Laid, laid-from, laid-to, laid-ends, align-past, align-near, Grown}
+use Rattle.copies_laws.specs.Laid.{Laid, Tight, tight-from, tight-to, align-within, laid-from, laid-to, laid-ends, align-past, align-near, Grown}
 use Rattle.copies_laws.specs.CopyLaws.{links-grown, root-grown}
 
 -- an AT that passed its checks
@@ -39,6 +39,11 @@ pub record Moved (s : List ℕ) (a : ℕ) : Type 0 where
 unfoldable pub LaidAt : List ℕ → ℕ → List Attachment → ℕ → Type 0
 LaidAt s a [] e = a ≤ e
 LaidAt s a (t ∷ ts) e = Laid s a (t .own) (t .to) × Moved s (t .from) × LaidAt s (t .to + sizeAt s (t .from)) ts e
+
+-- each begins by the next multiple of 8, and so is e
+unfoldable pub TightAt : List ℕ → ℕ → List Attachment → ℕ → Type 0
+TightAt s a [] e = e ≤ align8 a
+TightAt s a (t ∷ ts) e = Tight s a (t .own) (t .to) × TightAt s (t .to + sizeAt s (t .from)) ts e
 
 -- the copies made for attachments
 unfoldable pub ownCopies : List Attachment → List Copy
@@ -59,6 +64,11 @@ unfolding LaidAt
 laidAt-from s a b e [] h l = omega arith
 laidAt-from s a b e (t ∷ ts) h l = (laid-from s a b (t .to) (t .own) h (l .0), l .1, l .2)
 
+tightAt-from : (s : List ℕ) (a b e : ℕ) (ts : List Attachment) → b ≤ align8 a → TightAt s b ts e → TightAt s a ts e
+unfolding TightAt
+tightAt-from s a b e [] h t = let k : e ≤ align8 b = t in omega (arith, align-within a b h)
+tightAt-from s a b e (x ∷ ts) h t = (tight-from s a b (x .to) (x .own) h (t .0), t .1)
+
 pub laidAt-ends : (s : List ℕ) (a e : ℕ) (ts : List Attachment) → LaidAt s a ts e → a ≤ e
 unfolding LaidAt
 laidAt-ends s a e [] l = l
@@ -74,17 +84,19 @@ pub record GrownAt (s : List ℕ) (t t' : Attached) : Type 0 where
   pub attachments : t' .attachments ≡ t .attachments ++ more
   pub memo : t' .made .memo ≡ t .made .memo ++ ownCopies more
   pub laid : LaidAt s (t .made .next) more (t' .made .next)
+  pub tight : TightAt s (t .made .next) more (t' .made .next)
   pub few : length (t .made .memo) ≤ 2048 → length (t' .made .memo) ≤ 2048
   pub most : length (t .attachments) ≤ 64 → length (t' .attachments) ≤ 64
   pub near : t' .made .next ≤ t .made .next + 268435463 * length (ownCopies more) + length more * (length s + 14)
 
 pub attached-same : (s : List ℕ) {t t' : Attached} → t ≡ t' → GrownAt s t t'
-unfolding LaidAt ownCopies
+unfolding LaidAt TightAt ownCopies
 attached-same s {t} e = rw (← e) (record {
   more = [];
   attachments = sym (append-nil (t .attachments));
   memo = sym (append-nil (t .made .memo));
   laid = le-refl (t .made .next);
+  tight = align-past (t .made .next);
   few = λ h. h;
   most = λ h. h;
   near = omega arith;
@@ -93,7 +105,7 @@ attached-same s {t} e = rw (← e) (record {
 -- one attachment, then more
 pub attached-one : {s : List ℕ} {t t' : Attached} {m : Copies} (a : ℕ) → Moved s a → length (t .attachments) < 64 → Grown s 0 (t .made) m
     → GrownAt s (attach a (sizeAt s a) (t .made) m t) t' → GrownAt s t t'
-unfolding LaidAt ownCopies attach
+unfolding LaidAt TightAt ownCopies attach
 attached-one {s} {t} {t'} {m} a w h f g =
     let one : Attachment = record { from = a; to = align8 (m .next); own = drop (length (t .made .memo)) (m .memo) } in
     let own : one .own ≡ f .new = rw (f .memo) (drop-append-seam (t .made .memo) (f .new)) in
@@ -110,6 +122,7 @@ attached-one {s} {t} {t'} {m} a w h f g =
         w,
         laidAt-from s _ _ _ (g .more) (align-past (align8 (m .next) + sizeAt s a)) (g .laid),
       );
+      tight = (rw own (tight-to s _ _ (f .new) (f .tight)), tightAt-from s _ _ _ (g .more) (le-refl _) (g .tight));
       few = λ q. room (f .few (omega arith));
       most = λ q. g .most (rw length-append (omega arith));
       near = rw (own, length-append, suc-mul (length (g .more)) (length s + 14))
@@ -137,6 +150,7 @@ attachments-grown (suc turns) s a t t' e =
 pub record AllAttached (s : List ℕ) (m : Copies) (t : Attached) : Type 0 where
   pub memo : t .made .memo ≡ m .memo ++ ownCopies (t .attachments)
   pub laid : LaidAt s (m .next) (t .attachments) (t .made .next)
+  pub tight : TightAt s (m .next) (t .attachments) (t .made .next)
   pub few : length (m .memo) ≤ 2048 → length (t .made .memo) ≤ 2048
   pub most : length (t .attachments) ≤ 64
   pub near : t .made .next ≤ m .next + 268435463 * length (ownCopies (t .attachments)) + length (t .attachments) * (length s + 14)
@@ -146,4 +160,4 @@ unfolding attachmentsOf
 all-attached s a m t e =
     let g = attachments-grown (mostAttachments + 2) s a (record { attachments = []; made = m }) t e in
     let k : t .attachments ≡ g .more = g .attachments in
-    record { memo = rw k (g .memo); laid = rw k (g .laid); few = g .few; most = g .most (omega arith); near = rw k (g .near) }
+    record { memo = rw k (g .memo); laid = rw k (g .laid); tight = rw k (g .tight); few = g .few; most = g .most (omega arith); near = rw k (g .near) }

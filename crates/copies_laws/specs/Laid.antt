@@ -17,6 +17,11 @@ unfoldable pub Laid : List ℕ → ℕ → List Copy → ℕ → Type 0
 Laid s a [] e = a ≤ e
 Laid s a (c ∷ cs) e = (a ≤ c .to) × Whole s (c .from) × Laid s (c .to + sizeAt s (c .from)) cs e
 
+-- each of them begins by the next multiple of 8, and so is e
+unfoldable pub Tight : List ℕ → ℕ → List Copy → ℕ → Type 0
+Tight s a [] e = e ≤ align8 a
+Tight s a (c ∷ cs) e = (c .to ≤ align8 a) × Tight s (c .to + sizeAt s (c .from)) cs e
+
 -- "each block at the next multiple of 8"
 pub align-past : (x : ℕ) → x ≤ align8 x
 unfolding align8
@@ -25,6 +30,26 @@ align-past x = omega arith
 pub align-near : (x : ℕ) → align8 x ≤ x + 7
 unfolding align8
 align-near x = omega arith
+
+-- from a place up to the next multiple of 8 on it is the same multiple
+pub align-within : (a b : ℕ) → b ≤ align8 a → align8 b ≤ align8 a
+unfolding align8
+align-within a b h = omega arith
+
+pub tight-from : (s : List ℕ) (a b e : ℕ) (cs : List Copy) → b ≤ align8 a → Tight s b cs e → Tight s a cs e
+unfolding Tight
+tight-from s a b e [] h t = let k : e ≤ align8 b = t in omega (arith, align-within a b h)
+tight-from s a b e (c ∷ cs) h t = let k : c .to ≤ align8 b = t .0 in (omega (arith, align-within a b h), t .1)
+
+pub tight-append : (s : List ℕ) (a b e : ℕ) (xs ys : List Copy) → Tight s a xs b → Tight s b ys e → Tight s a (xs ++ ys) e
+unfolding Tight
+tight-append s a b e [] ys t k = tight-from s a b e ys t k
+tight-append s a b e (x ∷ xs) ys t k = (t .0, tight-append s _ b e xs ys (t .1) k)
+
+pub tight-to : (s : List ℕ) (a e : ℕ) (cs : List Copy) → Tight s a cs e → Tight s a cs (align8 e)
+unfolding Tight
+tight-to s a e [] t = align-within a e t
+tight-to s a e (c ∷ cs) t = (t .0, tight-to s _ e cs (t .1))
 
 pub laid-from : (s : List ℕ) (a b e : ℕ) (cs : List Copy) → a ≤ b → Laid s b cs e → Laid s a cs e
 unfolding Laid
@@ -69,8 +94,14 @@ pub record Grown (s : List ℕ) (k : ℕ) (m m' : Copies) : Type 0 where
   pub new : List Copy
   pub memo : m' .memo ≡ m .memo ++ new
   pub laid : Laid s (m .next) new (m' .next)
+  pub tight : Tight s (m .next) new (m' .next)
   pub few : length (m .memo) + k ≤ 2048 → length (m' .memo) + k ≤ 2048
   pub near : m' .next ≤ m .next + 268435463 * length new
+
+pub grown-tight : {s : List ℕ} {k : ℕ} {m m' : Copies} → Grown s k m m' → Tight s (m .next) (drop (length (m .memo)) (m' .memo)) (m' .next)
+grown-tight {s} {k} {m} {m'} g =
+    let e : drop (length (m .memo)) (m' .memo) ≡ g .new = ap (drop (length (m .memo))) (g .memo) ∙ drop-append-seam (m .memo) (g .new) in
+    subst (λ (cs : List Copy). Tight s (m .next) cs (m' .next)) (sym e) (g .tight)
 
 -- the copies that are new are those past the old ones
 pub grown-new : {s : List ℕ} {k : ℕ} {m m' : Copies} → Grown s k m m' → Laid s (m .next) (drop (length (m .memo)) (m' .memo)) (m' .next)
@@ -79,11 +110,12 @@ grown-new {s} {k} {m} {m'} g =
     subst (λ (cs : List Copy). Laid s (m .next) cs (m' .next)) (sym e) (g .laid)
 
 pub grown-same : (s : List ℕ) (k : ℕ) {m m' : Copies} → m ≡ m' → Grown s k m m'
-unfolding Laid
+unfolding Laid Tight
 grown-same s k {m} e = rw (← e) (record {
   new = [];
   memo = sym (append-nil (m .memo));
   laid = le-refl (m .next);
+  tight = align-past (m .next);
   few = λ h. h;
   near = omega arith;
 })
@@ -93,6 +125,7 @@ grown-then {s} {k} {m} {n} {o} f g = record {
   new = f .new ++ g .new;
   memo = g .memo ∙ rw (f .memo) (append-assoc (m .memo) (f .new) (g .new));
   laid = laid-append s (m .next) (n .next) (o .next) (f .new) (g .new) (f .laid) (g .laid);
+  tight = tight-append s (m .next) (n .next) (o .next) (f .new) (g .new) (f .tight) (g .tight);
   few = λ h. g .few (f .few h);
   near = rw length-append (omega arith);
 }
@@ -100,7 +133,7 @@ grown-then {s} {k} {m} {n} {o} f g = record {
 -- the block itself, after what it links to, which was begun with one block more on the way
 pub grown-placed : {s : List ℕ} {k : ℕ} {m n : Copies} (a : ℕ) → Whole s a → length (m .memo) + k < 2048 → Grown s (suc k) m n
     → Grown s k m (withCopy a (sizeAt s a) n)
-unfolding Laid withCopy
+unfolding Laid Tight withCopy
 grown-placed {s} {k} {m} {n} a w h g =
     let h : length (m .memo) + suc k ≤ 2048 = omega arith in
     let q : length (n .memo) + suc k ≤ 2048 = g .few h in
@@ -110,6 +143,8 @@ grown-placed {s} {k} {m} {n} a w h g =
       memo = rw (g .memo) (append-assoc (m .memo) (g .new) (one ∷ []));
       laid = laid-append s (m .next) (n .next) (align8 (n .next) + sizeAt s a) (g .new) (one ∷ []) (g .laid)
           (align-past (n .next), w, le-refl _);
+      tight = tight-append s (m .next) (n .next) (align8 (n .next) + sizeAt s a) (g .new) (one ∷ []) (g .tight)
+          (le-refl _, align-past _);
       few = λ _. rw length-append (omega arith);
       near = rw length-append (omega (arith, align-near (n .next), w .short));
     }

@@ -12,10 +12,11 @@ use Rattle.plan.specs.Columns.{Column}
 use Rattle.plan.specs.Data.{blocksIn}
 use Rattle.plan.specs.Geometry.{align8}
 use Rattle.plan.specs.Copies.{Copy, copies, copyRoot, historyOf, columnCopies, attachmentsOf}
+use Rattle.plan.specs.Rules.{Rules}
 use Rattle.plan.specs.Layout.{Placed, placedFrom, structureEnd, dataEnd, mdSize, Layout, pastCopies, fhPlace, layout}
 use Rattle.result.specs.Fill.{copiedBlocks, structureBlocks, dataBlocks, attachmentBlocks}
 use Rattle.result.specs.Ordered.{Ordered}
-use Rattle.result.specs.Result.{Args, memoOf, hdBlock, blocksOf}
+use Rattle.result.specs.Result.{Args, rulesOf, memoOf, hdBlock, blocksOf}
 use Rattle.result.specs.Guarantee.{In, columnsPlaced}
 use Rattle.copies_laws.specs.AnswerLaws.{ok-same, then-ok}
 use Rattle.copies_laws.specs.Laid.{Laid, align-past, align-near, Grown, grown-new, grown-then}
@@ -26,24 +27,24 @@ use Rattle.copies_laws.specs.OrderLaws.{ordered-to, ordered-append, orde
 use Rattle.copies_laws.specs.PlacedLaws.{structures-near, Within, placed-within}
 
 -- the parts of a layout, for n bytes of history text
-pub record LaidOut (s : List ℕ) (size n : ℕ) (cs : List Column) (l : Layout) : Type 0 where
+pub record LaidOut (r : Rules) (s : List ℕ) (size n : ℕ) (cs : List Column) (l : Layout) : Type 0 where
   pub comment : copyRoot s (linkAt s 64 5) (copies [] 168) ≡ ok (l .comment)
   pub past : historyOf s (linkAt s 64 1) (l .comment) ≡ ok (l .past)
   pub md : l .md ≡ align8 (l .past .made .next)
   pub fh : l .fh ≡ l .md + mdSize n
   pub metadata : columnCopies s cs (copies (l .past .made .memo) (l .fh + 56)) ≡ ok (l .metadata)
   pub metadataEnd : l .metadataEnd ≡ structureEnd s size (pastCopies (l .metadata)) cs
-  pub placed : l .placed ≡ placedFrom s size (pastCopies (l .metadata)) (l .metadataEnd) cs
-  pub attached : attachmentsOf s (linkAt s 64 3) (copies (l .metadata .memo) (dataEnd s size (l .metadataEnd) cs)) ≡ ok (l .attached)
+  pub placed : l .placed ≡ placedFrom r s size (pastCopies (l .metadata)) (l .metadataEnd) cs
+  pub attached : attachmentsOf s (linkAt s 64 3) (copies (l .metadata .memo) (dataEnd r s size (l .metadataEnd) cs)) ≡ ok (l .attached)
   pub fileSize : l .fileSize ≡ l .attached .made .next
 
-pub laid-out : (s : List ℕ) (size n : ℕ) (cs : List Column) (l : Layout) → layout s size n cs ≡ ok l → LaidOut s size n cs l
+pub laid-out : (r : Rules) (s : List ℕ) (size n : ℕ) (cs : List Column) (l : Layout) → layout r s size n cs ≡ ok l → LaidOut r s size n cs l
 unfolding layout pastCopies fhPlace
-laid-out s size n cs l e =
+laid-out r s size n cs l e =
     let a = then-ok (copyRoot s (linkAt s 64 5) (copies [] 168)) _ e in
     let b = then-ok (historyOf s (linkAt s 64 1) (a .0)) _ (a .2) in
     let c = then-ok (columnCopies s cs (copies (b .0 .made .memo) (fhPlace (b .0 .made) n + 56))) _ (b .2) in
-    let e1 : ℕ = dataEnd s size (structureEnd s size (pastCopies (c .0)) cs) cs in
+    let e1 : ℕ = dataEnd r s size (structureEnd s size (pastCopies (c .0)) cs) cs in
     let d = then-ok (attachmentsOf s (linkAt s 64 3) (copies (c .0 .memo) e1)) _ (c .2) in
     rw (← ok-same (d .2)) (record {
       comment = a .1;
@@ -61,7 +62,7 @@ pub md-near : (n : ℕ) → mdSize n ≤ n + 32
 unfolding mdSize align8
 md-near n = omega arith
 
-module _ {s : List ℕ} {size n : ℕ} {cs : List Column} {l : Layout} (o : LaidOut s size n cs l) where
+module _ {r : Rules} {s : List ℕ} {size n : ℕ} {cs : List Column} {l : Layout} (o : LaidOut r s size n cs l) where
   -- ---- copies: those of the HD comment and the history, then those of the columns
   pub history-from-start : Grown s 0 (copies [] 168) (l .past .made)
   history-from-start = grown-then (root-grown s _ _ _ (o .comment)) (past-grown s _ _ _ (o .past))
@@ -75,7 +76,7 @@ module _ {s : List ℕ} {size n : ℕ} {cs : List Column} {l : Layout} (o : Laid
   pub columns-laid : Laid s (l .fh + 56) (drop (length (l .past .made .memo)) (l .metadata .memo)) (l .metadata .next)
   columns-laid = grown-new columns-after-history
 
-  pub attachments-laid : AllAttached s (copies (l .metadata .memo) (dataEnd s size (l .metadataEnd) cs)) (l .attached)
+  pub attachments-laid : AllAttached s (copies (l .metadata .memo) (dataEnd r s size (l .metadataEnd) cs)) (l .attached)
   attachments-laid = all-attached s _ _ _ (o .attached)
 
   -- "2,048 copied blocks", with those of attachments
@@ -106,18 +107,18 @@ module _ {s : List ℕ} {size n : ℕ} {cs : List Column} {l : Layout} (o : Laid
         (align-past (l .metadata .next))
 
     pub attachments-ordered :
-        Ordered (dataEnd s size (l .metadataEnd) cs) (attachmentBlocks s chain memo fh (l .attached .attachments)) (l .fileSize)
+        Ordered (dataEnd r s size (l .metadataEnd) cs) (attachmentBlocks s chain memo fh (l .attached .attachments)) (l .fileSize)
     attachments-ordered = rw (o .fileSize) (attached-ordered s chain memo fh _ _ (l .attached .attachments) (attachments-laid .laid))
 
   -- "Then per column DG 64, CG 104 (112 with a master), CN 160", DL
   pub structures-ordered : (memo : List Copy) (all : List Placed) → ((c : Column) → In c cs → InImage s c)
       → Ordered (pastCopies (l .metadata)) (structureBlocks s size memo all (l .placed)) (l .metadataEnd)
   structures-ordered memo all f =
-      rw (o .placed, o .metadataEnd) (structure-ordered s size memo all (pastCopies (l .metadata)) _ cs f)
+      rw (o .placed, o .metadataEnd) (structure-ordered r s size memo all (pastCopies (l .metadata)) _ cs f)
 
   -- the columns planned are those placed
   pub columns-placed : columnsPlaced (l .placed) ≡ cs
-  columns-placed = rw (o .placed) (placed-columns s size _ _ cs)
+  columns-placed = rw (o .placed) (placed-columns r s size _ _ cs)
 
   -- ---- bounds
 
@@ -143,10 +144,10 @@ module _ {s : List ℕ} {size n : ℕ} {cs : List Column} {l : Layout} (o : Laid
   pub columns-within : {p : Placed} → In p (l .placed) → Within s size (pastCopies (l .metadata)) (l .metadataEnd) p
   columns-within {p} i =
       subst (λ (e : ℕ). Within s size (pastCopies (l .metadata)) e p) (sym (o .metadataEnd))
-      (placed-within s size (pastCopies (l .metadata)) (l .metadataEnd) cs (subst (In p) (o .placed) i))
+      (placed-within r s size (pastCopies (l .metadata)) (l .metadataEnd) cs (subst (In p) (o .placed) i))
 
   -- the end of the file: past the data of columns, at most 2,048 copies and 64 attachments that stand in the image
-  pub file-near : l .fileSize ≤ dataEnd s size (l .metadataEnd) cs + 549755828224 + 64 * (length s + 14)
+  pub file-near : l .fileSize ≤ dataEnd r s size (l .metadataEnd) cs + 549755828224 + 64 * (length s + 14)
   file-near =
       let t = attachments-laid in
       let k : length (ownCopies (l .attached .attachments)) ≤ 2048 = omega (arith, few-in-all, simp length-append at (ap length (t .memo))) in
@@ -154,9 +155,9 @@ module _ {s : List ℕ} {size n : ℕ} {cs : List Column} {l : Layout} (o : Laid
       omega (arith, t .near, o .fileSize)
 
 -- ---- all blocks, where those with the columns' data stand in order
-pub blocks-ordered : (x : Args) (cs : List Column) (l : Layout) → LaidOut (x .image) (x .blockSize) (length (x .text)) cs l
+pub blocks-ordered : (x : Args) (cs : List Column) (l : Layout) → LaidOut (rulesOf x) (x .image) (x .blockSize) (length (x .text)) cs l
     → length (x .ident) ≡ 64 → ((c : Column) → In c cs → InImage (x .image) c)
-    → Ordered (l .metadataEnd) (dataBlocks (x .image) (x .blockSize) (l .placed)) (dataEnd (x .image) (x .blockSize) (l .metadataEnd) cs)
+    → Ordered (l .metadataEnd) (dataBlocks (x .image) (x .blockSize) (l .placed)) (dataEnd (rulesOf x) (x .image) (x .blockSize) (l .metadataEnd) cs)
     → Ordered 0 (blocksOf x l) (l .fileSize)
 unfolding blocksOf hdBlock
 blocks-ordered x cs l o i f d =

@@ -7,13 +7,20 @@ use native.Mathlib.Omega.{arith}
 use lib.ListN.{length}
 use Rattle.plan.specs.Columns.{Column}
 use Rattle.plan.specs.Copies.{Copy, Attachment}
+use Rattle.plan.specs.Rules.{Rules}
 use Rattle.plan.specs.Layout.{
   columnBlocks,
   cgSize,
   dlSize,
   structureSize,
-  blocksEnd,
-  signalEnd,
+  columnSizes,
+  placesAt,
+  pastData,
+  placesFrom,
+  structuresEnd,
+  sizesOf,
+  placedAt,
+  withPlaces,
   Placed,
   cgOf,
   cnOf,
@@ -28,12 +35,7 @@ use Rattle.copies_laws.specs.AnswerLaws.{on-eq}
 use Rattle.copies_laws.specs.Laid.{Laid}
 use Rattle.copies_laws.specs.AttachLaws.{LaidAt}
 use Rattle.copies_laws.specs.LengthLaws.{length-copied, length-at, InImage, length-dg, length-cg, length-cn, length-dl}
-pub use Rattle.result.specs.OrderedLaws.{ordered-append}
-
-pub ordered-from : (a c e : ℕ) (bs : List Block) → a ≤ c → Ordered c bs e → Ordered a bs e
-unfolding Ordered
-ordered-from a c e [] h o = omega arith
-ordered-from a c e (b ∷ bs) h o = let k : c ≤ b .at = o .0 in (omega arith, o .1)
+pub use Rattle.result.specs.OrderedLaws.{ordered-from, ordered-append}
 
 pub ordered-to : (a d e : ℕ) (bs : List Block) → Ordered a bs d → d ≤ e → Ordered a bs e
 unfolding Ordered
@@ -99,18 +101,18 @@ column-ordered s size memo all ps p e i o =
     (ordered-from _ _ e _ (omega arith) o))))
 
 -- those of every column that is placed from a on, where every column's CG and CN lie in the image
-pub structure-ordered : (s : List ℕ) (size : ℕ) (memo : List Copy) (all : List Placed) (a d : ℕ) (cs : List Column)
-    → ((c : Column) → In c cs → InImage s c) → Ordered a (structureBlocks s size memo all (placedFrom s size a d cs)) (structureEnd s size a cs)
-unfolding placedFrom structureEnd structureBlocks Ordered
-structure-ordered s size memo all a d [] f = le-refl a
-structure-ordered s size memo all a d (c ∷ cs) f =
+pub structure-ordered : (o : Rules) (s : List ℕ) (size : ℕ) (memo : List Copy) (all : List Placed) (a d : ℕ) (cs : List Column)
+    → ((c : Column) → In c cs → InImage s c) → Ordered a (structureBlocks s size memo all (placedFrom o s size a d cs)) (structureEnd s size a cs)
+unfolding withPlaces placesFrom structuresEnd sizesOf structureBlocks Ordered
+structure-ordered o s size memo all a d [] f = le-refl a
+structure-ordered o s size memo all a d (c ∷ cs) f =
     let a1 : ℕ = a + structureSize s size c in
-    let d1 : ℕ = signalEnd (c .signalOf) (blocksEnd s size c d) in
-    column-ordered s size memo all (placedFrom s size a1 d1 cs) (record { column = c; dg = a; first = d; sd = blocksEnd s size c d })
-    (structureEnd s size a1 cs) (f c here) (structure-ordered s size memo all a1 d1 cs (λ b i. f b (there i)))
+    let d1 : ℕ = pastData (o .unit) (columnSizes s size c) d in
+    column-ordered s size memo all (placedFrom o s size a1 d1 cs) (placedAt c (placesAt (o .unit) a d (columnSizes s size c)))
+    (structureEnd s size a1 cs) (f c here) (structure-ordered o s size memo all a1 d1 cs (λ b i. f b (there i)))
 
 -- the columns placed are those that were to be placed
-pub placed-columns : (s : List ℕ) (size a d : ℕ) (cs : List Column) → columnsPlaced (placedFrom s size a d cs) ≡ cs
-unfolding placedFrom columnsPlaced
-placed-columns s size a d [] = refl
-placed-columns s size a d (c ∷ cs) = ap (λ (l : List Column). c ∷ l) (placed-columns s size _ _ cs)
+pub placed-columns : (o : Rules) (s : List ℕ) (size a d : ℕ) (cs : List Column) → columnsPlaced (placedFrom o s size a d cs) ≡ cs
+unfolding withPlaces placesFrom sizesOf columnsPlaced
+placed-columns o s size a d [] = refl
+placed-columns o s size a d (c ∷ cs) = ap (λ (l : List Column). c ∷ l) (placed-columns o s size _ _ cs)

@@ -11,14 +11,19 @@ use Rattle.base.specs.ChoiceLaws.{lt-back}
 use Rattle.base.specs.Checked.{ok}
 use Rattle.plan.specs.Columns.{Column}
 use Rattle.plan.specs.Data.{blocksIn}
+use Rattle.plan.specs.Rules.{Rules}
 use Rattle.plan.specs.Layout.{
   columnWidth,
   columnBlocks,
   cgSize,
   dlSize,
   structureSize,
-  blocksEnd,
-  signalEnd,
+  columnSizes,
+  pastData,
+  placesFrom,
+  structuresEnd,
+  sizesOf,
+  withPlaces,
   Placed,
   placedFrom,
   structureEnd,
@@ -42,7 +47,7 @@ structure-near s size c h = omega (arith, cg-near (c .master), dl-near (columnBl
 -- those of all columns, under the limit of blocks
 pub structures-near : (s : List ℕ) (size a : ℕ) (cs : List Column) {u : Unit {0}} → blocksIn s size cs ≡ ok u
     → structureEnd s size a cs ≤ a + length cs * 34359738744
-unfolding structureEnd blocksIn columnBlocks columnWidth
+unfolding structuresEnd sizesOf blocksIn columnBlocks columnWidth
 structures-near s size a [] e = omega arith
 structures-near s size a (c ∷ cs) e =
     let h = lt-back _ _ _ _ e refused≢ok in
@@ -52,7 +57,7 @@ structures-near s size a (c ∷ cs) e =
     omega arith
 
 pub structure-grows : (s : List ℕ) (size a : ℕ) (cs : List Column) → a ≤ structureEnd s size a cs
-unfolding structureEnd
+unfolding structuresEnd sizesOf
 structure-grows s size a [] = le-refl a
 structure-grows s size a (c ∷ cs) = omega (arith, structure-grows s size (a + structureSize s size c) cs)
 
@@ -61,10 +66,10 @@ pub record Within (s : List ℕ) (size a e : ℕ) (p : Placed) : Type 0 where
   pub begins : a ≤ p .dg
   pub ends : p .dg + structureSize s size (p .column) ≤ e
 
-pub placed-within : {p : Placed} (s : List ℕ) (size a d : ℕ) (cs : List Column) → In p (placedFrom s size a d cs)
+pub placed-within : {p : Placed} (o : Rules) (s : List ℕ) (size a d : ℕ) (cs : List Column) → In p (placedFrom o s size a d cs)
     → Within s size a (structureEnd s size a cs) p
-unfolding placedFrom structureEnd
-placed-within s size a d (c ∷ cs) here = record { begins = le-refl a; ends = structure-grows s size (a + structureSize s size c) cs }
-placed-within s size a d (c ∷ cs) (there i) =
-    let w = placed-within s size (a + structureSize s size c) (signalEnd (c .signalOf) (blocksEnd s size c d)) cs i in
+unfolding withPlaces placesFrom structuresEnd sizesOf
+placed-within o s size a d (c ∷ cs) here = record { begins = le-refl a; ends = structure-grows s size (a + structureSize s size c) cs }
+placed-within o s size a d (c ∷ cs) (there i) =
+    let w = placed-within o s size (a + structureSize s size c) (pastData (o .unit) (columnSizes s size c) d) cs i in
     record { begins = omega arith; ends = w .ends }

@@ -26,6 +26,7 @@ use Rattle.plan.specs.Columns as planColumns
 use Rattle.plan.specs.Copies as planCopies
 use Rattle.plan.specs.Data as planData
 use Rattle.plan.specs.Geometry as planGeometry
+use Rattle.plan.specs.Rules as planRules
 use Rattle.plan.specs.Layout as planLayout
 use Rattle.result.specs.Fill as resultFill
 use Rattle.result.specs.Listing as resultListing
@@ -87,10 +88,9 @@ unfolding
     planCopies.withCopy planCopies.isCopied planCopies.lostLinks planCopies.copyLinks planCopies.copyAt planCopies.copyRoot planCopies.copyRoots
     planCopies.historyFrom planCopies.historyOf planCopies.columnCopies planCopies.isAttached planCopies.attachmentIn planCopies.attach
     planCopies.attachmentsFrom planCopies.attachmentsOf planData.isNonempty planData.anyNonempty planData.signalsIn planData.dataIn
-    planData.allDataIn planData.blocksIn planGeometry.align8 planGeometry.powerIn planGeometry.stepOf planGeometry.perBlock
+    planData.allDataIn planData.blocksIn planGeometry.align8 planGeometry.alignTo planGeometry.powerIn planGeometry.stepOf planGeometry.perBlock
     planGeometry.fullPayload planGeometry.blockCount planGeometry.perFull planGeometry.blockPayload planLayout.columnWidth planLayout.columnBlocks
-    planLayout.dlSize planLayout.structureSize planLayout.payloadSize planLayout.blocksEnd planLayout.placedFrom planLayout.structureEnd
-    planLayout.dataEnd planLayout.mdSize planLayout.pastCopies planLayout.fhPlace planLayout.layout resultFill.header
+    planLayout.dlSize planLayout.structureSize planLayout.payloadSize planLayout.blocksEnd planRules.isAmong planRules.unitIn planLayout.firstAt planLayout.placesFrom planLayout.structuresEnd planLayout.placesEnd planLayout.sizesOf planLayout.withPlaces planLayout.mdSize planLayout.pastCopies planLayout.fhPlace planLayout.layout resultFill.header
     resultFill.words resultFill.newLink resultFill.newLinks resultFill.historyLink resultFill.copiedLinks resultFill.dataOf resultFill.copiedBytes
     resultFill.copiedBlocks resultFill.mdBytes resultFill.fhBytes resultFill.dgBytes resultFill.cgAt resultFill.cgData resultFill.cgBytes
     resultFill.cnData resultFill.cnBytes resultFill.blockLinks resultFill.columnPayload resultFill.dlBytes resultFill.dlBlocks
@@ -98,7 +98,7 @@ unfolding
     resultFill.hdData resultFill.hdBytes resultListing.digitsOf resultListing.decimal resultListing.columnLine resultListing.columnLines
     resultListing.omissionLines resultListing.planLines resultPayload.recordsOf resultPayload.cell resultPayload.cells resultPayload.payloads
     resultPayload.columnPayloads resultResult.hdBlock resultResult.blocksOf resultResult.flat resultResult.fileOf resultResult.sourceGroupsOf
-    resultResult.timeColumns resultResult.blocksWritten resultResult.report resultResult.lentIn resultResult.decided resultResult.answer
+    resultResult.timeColumns resultResult.blocksWritten resultResult.report resultResult.lentIn resultResult.choicesIn resultResult.decided resultResult.answer
     resultResult.workIn resultResult.zeros resultResult.convert mdfWalk.walkOf fileForm.cycles fileForm.recordBytes fileForm.alone
     fileForm.noneZero fileForm.linksFormed fileForm.isEqualLength fileForm.equalLength fileForm.haveLength fileForm.listFormed fileForm.allDT
     fileForm.allDV fileForm.oneKind fileForm.formed fileOpened.columnIn fileOpened.columnsIn fileOpened.opened fileRange.fileColumnAt

@@ -14,7 +14,8 @@ use Rattle.mdf.specs.Name.{nameAt}
 use Rattle.mdf.specs.Records.{joined}
 use Rattle.plan.specs.Columns.{Column}
 use Rattle.plan.specs.Copies.{Copy}
-use Rattle.plan.specs.Layout.{Placed, cgOf, cnOf, cgSize, structureSize, placedFrom, payloadSize, columnWidth, columnBlocks, blocksEnd, signalEnd}
+use Rattle.plan.specs.Layout.{Placed, cgOf, cnOf, cgSize, structureSize, Sizes, placesAt, pastData, placesFrom, columnSizes, sizesOf, placedAt, withPlaces, placedFrom, payloadSize, columnWidth, columnBlocks}
+use Rattle.plan.specs.Rules.{Rules}
 use Rattle.result.specs.Fill.{Block, newLink, dgBytes, cgBytes, cnBytes, dlBlocks, structureBlocks, dataBlocks, nextDG}
 use Rattle.result.specs.Due.{duePayload, hasMaster, blocksDue, fragmentsDue}
 use Rattle.result.specs.Guarantee.{Stands, In, here, there}
@@ -127,24 +128,25 @@ pub next-below : (s : List ℕ) (size : ℕ) (ps : List Placed) → ((p : Placed
 next-below s size [] h = lit< tt
 next-below s size (p ∷ ps) h = let e = h p here .sound .structureEnds in omega arith
 
-module _ {f : List ℕ} (s : List ℕ) (size : ℕ) (memo : List Copy) (all : List Placed)
+module _ {f : List ℕ} (o : Rules) (s : List ℕ) (size : ℕ) (memo : List Copy) (all : List Placed)
     (small : (a : ℕ) → newLink memo a < 256 ^ 8) (named : (a : ℕ) → nameAt f (newLink memo a) ≡ fine) where
   pub columns-stand : (cs : List Column) (a d : ℕ)
-      → ((p : Placed) → In p (placedFrom s size a d cs) → Good s size p)
-      → ((b : Block) → In b (structureBlocks s size memo all (placedFrom s size a d cs)) → Stands f (b .at) (b .bytes))
-      → ((b : Block) → In b (dataBlocks s size (placedFrom s size a d cs)) → Stands f (b .at) (b .bytes))
-      → AllStand f a (fileColumns s size (placedFrom s size a d cs))
-  unfolding placedFrom structureBlocks AllStand fileColumns fileColumn structureSize
+      → ((p : Placed) → In p (placedFrom o s size a d cs) → Good s size p)
+      → ((b : Block) → In b (structureBlocks s size memo all (placedFrom o s size a d cs)) → Stands f (b .at) (b .bytes))
+      → ((b : Block) → In b (dataBlocks s size (placedFrom o s size a d cs)) → Stands f (b .at) (b .bytes))
+      → AllStand f a (fileColumns s size (placedFrom o s size a d cs))
+  unfolding withPlaces placesFrom sizesOf structureBlocks AllStand fileColumns fileColumn structureSize
   columns-stand [] a d good made filled = tt
   columns-stand (c ∷ cs) a d good made filled =
-      let p : Placed = record { column = c; dg = a; first = d; sd = blocksEnd s size c d } in
-      let ps : List Placed = placedFrom s size (a + structureSize s size c) (signalEnd (c .signalOf) (blocksEnd s size c d)) cs in
+      let z : Sizes = columnSizes s size c in
+      let p : Placed = placedAt c (placesAt (o .unit) a d z) in
+      let ps : List Placed = placedFrom o s size (a + structureSize s size c) (pastData (o .unit) z d) cs in
       let one : ColumnStands f (fileColumn s size p) (nextDG ps) =
       column-stands s size memo all p (nextDG ps) (good p here) small named (made _ here) (made _ (there here)) (made _ (there (there here)))
       (λ b i. made b (in-list s size memo all p ps i)) (λ b i. filled b (in-payload s size p ps i))
       (next-below s size ps (λ q i. good q (there i))) in
       let more : AllStand f (a + structureSize s size c) (fileColumns s size ps) =
-      columns-stand cs (a + structureSize s size c) (signalEnd (c .signalOf) (blocksEnd s size c d)) (λ q i. good q (there i))
+      columns-stand cs (a + structureSize s size c) (pastData (o .unit) z d) (λ q i. good q (there i))
       (λ b i. made b (in-later s size memo all p ps i)) (λ b i. filled b (in-data-later s size p ps i)) in
       (le-refl a, rw (first-same s size ps) one, stand-from f (suc (cnOf p)) (a + structureSize s size c) (fileColumns s size ps) (omega arith) more)
 

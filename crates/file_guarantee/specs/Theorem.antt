@@ -20,7 +20,7 @@ use Rattle.plan.specs.Layout.{Layout, Placed, placedFrom, pastCopies, columnWid
 use Rattle.result.specs.Payload.{recordsOf, cell}
 use Rattle.result.specs.Fill.{Block, structureBlocks, dataBlocks}
 use Rattle.result.specs.Due.{duePayload, FrontDue}
-use Rattle.result.specs.Result.{Args, Decided, memoOf, hdBlock, blocksOf, fileOf, answer}
+use Rattle.result.specs.Result.{Args, Decided, memoOf, hdBlock, blocksOf, fileOf, answer, rulesOf}
 use Rattle.result.specs.Guarantee.{Stands, In, here, there, columnAt, columnsPlaced}
 use Rattle.copies_laws.specs.LengthLaws.{length-hd}
 use Rattle.copies_laws.specs.LayoutLaws.{columns-placed}
@@ -108,7 +108,7 @@ module _ (x : Args) (d : Decided) (k : Known x d) (out : List ℕ) (room : d .la
       }
 
   abbrev placed' : List Placed
-  placed' = placedFrom (x .image) (x .blockSize) (pastCopies (l .metadata)) (l .metadataEnd) (d .planned .columns)
+  placed' = placedFrom (rulesOf x) (x .image) (x .blockSize) (pastCopies (l .metadata)) (l .metadataEnd) (d .planned .columns)
 
   made : (b : Block) → In b (structureBlocks (x .image) (x .blockSize) (memoOf l) (l .placed) (l .placed)) → Stands f (b .at) (b .bytes)
   made b i = filled b (in-structure x l i)
@@ -122,7 +122,7 @@ module _ (x : Args) (d : Decided) (k : Known x d) (out : List ℕ) (room : d .la
       let copied = copy-stands x (d .planned .columns) l (o x d k) f bytes (ordered x d k) (file-below x d k) filled in
       subst (λ (ps : List Placed). AllStand f 0 (fileColumns (x .image) (x .blockSize) ps)) (sym e)
       (stand-from f 0 (pastCopies (l .metadata)) (fileColumns (x .image) (x .blockSize) placed') (omega arith)
-      (columns-stand (x .image) (x .blockSize) (memoOf l) (l .placed)
+      (columns-stand (rulesOf x) (x .image) (x .blockSize) (memoOf l) (l .placed)
       (new-small (x .image) f bytes (l .past .chain) (memoOf l) (l .fh) copied) (names-fine (x .image) f (l .past .chain) (memoOf l) (l .fh) copied)
       (d .planned .columns) (pastCopies (l .metadata)) (l .metadataEnd)
       (λ p i. good p (subst (In p) (sym e) i))

@@ -12,7 +12,7 @@ use Rattle.plan.specs.Copies.{Copy, Attachment, columnLinks}
 use Rattle.plan.specs.Layout.{Layout, Placed, cgOf, cnOf}
 use Rattle.result.specs.Fill.{Block, block, copiedBytes, copiedBlocks, attachmentBlocks, dgBytes, cgBytes, cnBytes, structureBlocks, nextDG, newLink, nextAttachment}
 use Rattle.result.specs.Ordered.{Ordered}
-use Rattle.result.specs.Result.{Args, memoOf, firstFH, blocksOf}
+use Rattle.result.specs.Result.{Args, memoOf, firstFH, blocksOf, rulesOf}
 use Rattle.result.specs.Names.{LinkDue, NamesDue, HistoryDue, NewHistory, AttachmentsDue}
 use Rattle.result.specs.Recording.{attachedFrom}
 use Rattle.result.specs.Guarantee.{Stands, In, here, there}
@@ -69,7 +69,7 @@ structured s size memo all (q ∷ ps) p (there i) =
       cn = in-later s size memo all q ps (r .cn);
     }
 
-module _ (x : Args) (cs : List Column) (l : Layout) (o : LaidOut (x .image) (x .blockSize) (length (x .text)) cs l) where
+module _ (x : Args) (cs : List Column) (l : Layout) (o : LaidOut (rulesOf x) (x .image) (x .blockSize) (length (x .text)) cs l) where
   pub copy-in-file : (c : Copy) → In c (memoOf l) → In (blockOf (x .image) (l .past .chain) (memoOf l) (l .fh) c) (afterHD x l)
   copy-in-file c i =
       let s : List ℕ = x .image in

@@ -6,6 +6,9 @@ pub mod Front
 pub mod Past
 pub mod Attached
 pub mod Copied
+pub mod Close
 pub mod Theorem
 pub mod Untouched
 pub mod Listed
+pub mod Former
+pub mod FormerLaws

@@ -13,13 +13,13 @@ use Rattle.mdf.specs.Walk.{Source, walk}
 use Rattle.plan.specs.Columns.{srcGroups, Column, Signal, noSignal, signalData, omissionWords}
 use Rattle.plan.specs.Data.{signalIn}
 use Rattle.plan.specs.Layout.{Placed, placedFrom, pastCopies, structureSize, dataEnd, payloadSize, dlOf}
-use Rattle.result.specs.Ordered.{Ordered}
+use Rattle.result.specs.Ordered.{Ordered, Close}
 use Rattle.result.specs.Payload.{columnPayloads, signalBytes}
 use Rattle.result.specs.Fill.{dataBlocks}
-use Rattle.result.specs.Result.{Args, Decided, answer, fileOf, blocksOf}
+use Rattle.result.specs.Result.{Args, Decided, answer, fileOf, blocksOf, rulesOf}
 use Rattle.result.specs.Due.{duePayload}
 use Rattle.result.specs.Recording.{Met, signalSize}
-use Rattle.result.specs.Guarantee.{In, Guaranteed}
+use Rattle.result.specs.Guarantee.{In, Guaranteed, Starts}
 use Rattle.copies_laws.specs.LengthLaws.{InImage}
 use Rattle.copies_laws.specs.CopyLaws.{root-grown}
 use Rattle.copies_laws.specs.LayoutLaws.{LaidOut, laid-out, columns-placed, columns-within, metadataEnd-near, file-near, columns-ordered, blocks-ordered}
@@ -27,6 +27,9 @@ use Rattle.copies_laws.specs.OrderLaws.{ordered-ends}
 use Rattle.payload_laws.specs.CountLaws.{member, group-shared, column-sorted, counted}
 use Rattle.payload_laws.specs.ColumnLaws.{ready, column-joined, column-bytes, column-even}
 use Rattle.payload_laws.specs.BoundLaws.{data-small, full-bound, records-small}
+use Rattle.payload_laws.specs.UnitLaws.{IsUnit, unit-is}
+use Rattle.payload_laws.specs.NearLaws.{data-near}
+use Rattle.guarantee.specs.Close.{blocks-close, all-start}
 use Rattle.payload_laws.specs.SignalLaws.{column-signal, length-signal, data-ordered}
 use Rattle.plan_laws.specs.Decision.{answer-accepted, blocks-few}
 use Rattle.plan_laws.specs.Known.{Known, answer-known}
@@ -45,8 +48,8 @@ abbrev pub AllBytes : List ℕ → Type 0
 AllBytes s = (i : ℕ) → getD s i 0 < 256
 
 module _ (x : Args) (d : Decided) (k : Known x d) where
-  pub o : LaidOut (x .image) (x .blockSize) (length (x .text)) (d .planned .columns) (d .laidOut)
-  o = laid-out (x .image) (x .blockSize) (length (x .text)) (d .planned .columns) (d .laidOut) (k .steps .laidOut)
+  pub o : LaidOut (rulesOf x) (x .image) (x .blockSize) (length (x .text)) (d .planned .columns) (d .laidOut)
+  o = laid-out (rulesOf x) (x .image) (x .blockSize) (length (x .text)) (d .planned .columns) (d .laidOut) (k .steps .laidOut)
 
   -- a planned column's group is one of those counted
   pub in-source : (c : Column) → In c (d .planned .columns) → In (c .group) (srcGroups (dataGroups (k .steps .source)) (k .steps .numbers))
@@ -74,11 +77,25 @@ module _ (x : Args) (d : Decided) (k : Known x d) where
         channel = data-inside CN (x .image) (c .channel) (f .channels (c .channel) (k .source c i .2));
       }
 
+  unit : IsUnit (x .unit)
+  unit = unit-is (x .unit) (k .steps .chosen)
+
   data-in-order : Ordered (d .laidOut .metadataEnd) (dataBlocks (x .image) (x .blockSize) (d .laidOut .placed))
-      (dataEnd (x .image) (x .blockSize) (d .laidOut .metadataEnd) (d .planned .columns))
+      (dataEnd (rulesOf x) (x .image) (x .blockSize) (d .laidOut .metadataEnd) (d .planned .columns))
   data-in-order =
-      rw (o .placed) (data-ordered (x .image) (x .blockSize) (pastCopies (d .laidOut .metadata)) (d .laidOut .metadataEnd) (d .planned .columns)
+      rw (o .placed) (data-ordered (rulesOf x) unit (x .image) (x .blockSize) (pastCopies (d .laidOut .metadata)) (d .laidOut .metadataEnd) (d .planned .columns)
       (λ c i. sized c i .ready) (λ c i. sized c i .signals))
+
+  pub close : Close (x .unit) 0 (blocksOf x (d .laidOut)) (d .laidOut .fileSize)
+  close =
+      blocks-close x unit (d .planned .columns) (d .laidOut) o (k .steps .lent .identLength) in-image
+      (rw (o .placed) (data-near (rulesOf x) unit (x .image) (x .blockSize) (pastCopies (d .laidOut .metadata)) (d .laidOut .metadataEnd)
+      (d .planned .columns) (λ c i. sized c i .ready) (λ c i. sized c i .signals)))
+
+  pub starts : (p : Placed) → In p (d .laidOut .placed) → Starts (x .unit) (x .image) (x .blockSize) p
+  starts p i =
+      all-start (rulesOf x) (omega (arith, unit .least)) (x .image) (x .blockSize) (pastCopies (d .laidOut .metadata)) (d .laidOut .metadataEnd)
+      (d .planned .columns) p (subst (In p) (o .placed) i)
 
   pub ordered : Ordered 0 (blocksOf x (d .laidOut)) (d .laidOut .fileSize)
   ordered = blocks-ordered x (d .planned .columns) (d .laidOut) o (k .steps .lent .identLength) in-image data-in-order
@@ -86,11 +103,11 @@ module _ (x : Args) (d : Decided) (k : Known x d) where
   -- ---- bounds
 
   pub in-placed : (p : Placed) → In p (d .laidOut .placed)
-      → In p (placedFrom (x .image) (x .blockSize) (pastCopies (d .laidOut .metadata)) (d .laidOut .metadataEnd) (d .planned .columns))
+      → In p (placedFrom (rulesOf x) (x .image) (x .blockSize) (pastCopies (d .laidOut .metadata)) (d .laidOut .metadataEnd) (d .planned .columns))
   in-placed p i = subst (In p) (o .placed) i
 
   pub column-in : (p : Placed) → In p (d .laidOut .placed) → In (p .column) (d .planned .columns)
-  column-in p i = in-column (x .image) (x .blockSize) _ _ (d .planned .columns) p (in-placed p i)
+  column-in p i = in-column (rulesOf x) (x .image) (x .blockSize) _ _ (d .planned .columns) p (in-placed p i)
 
   -- metadata ends below 2^45
   pub metadata-small : d .laidOut .metadataEnd ≤ 18200000000000
@@ -102,7 +119,7 @@ module _ (x : Args) (d : Decided) (k : Known x d) where
       omega (arith, ordered-ends (d .laidOut .fh + 56) (pastCopies (d .laidOut .metadata)) _ (columns-ordered o (d .laidOut .past .chain) [] 0))
 
   data-there : (p : Placed) → In p (d .laidOut .placed) → DataWithin (d .laidOut .metadataEnd) (length (d .planned .columns)) p
-  data-there p i = data-within (x .image) (x .blockSize) _ (d .laidOut .metadataEnd) (d .planned .columns) p (k .steps .imageLength) sized (in-placed p i)
+  data-there p i = data-within (rulesOf x) unit (x .image) (x .blockSize) _ (d .laidOut .metadataEnd) (d .planned .columns) p (k .steps .imageLength) sized (in-placed p i)
 
   structure-above : (p : Placed) → In p (d .laidOut .placed) → dlOf p ≤ p .dg + structureSize (x .image) (x .blockSize) (p .column)
   unfolding structureSize
@@ -144,7 +161,7 @@ module _ (x : Args) (d : Decided) (k : Known x d) where
       omega (
         arith,
         file-near o,
-        data-ends (x .image) (x .blockSize) (d .laidOut .metadataEnd) (d .planned .columns) (k .steps .imageLength) sized,
+        data-ends (rulesOf x) unit (x .image) (x .blockSize) (d .laidOut .metadataEnd) (d .planned .columns) (k .steps .imageLength) sized,
         metadata-small,
         k .fewColumns,
         k .steps .imageLength,
@@ -181,6 +198,8 @@ guaranteed x out list d bytes e =
       attachments = attached-due x (d .planned .columns) (d .laidOut) (o x d k) _ bytes (ordered x d k) (file-below x d k) filled;
       filled = filled;
       apart = file-apart x (d .laidOut) out (ordered x d k);
+      starts = starts x d k;
+      close = close x d k;
       recording = (dataGroups (k .steps .source), k .groups .recorded);
       met = met x d k;
       once = k .once;

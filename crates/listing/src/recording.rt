@@ -1,6 +1,7 @@
 // The listing of a recording: the columns and omissions that its conversion plans, or its refusal.
 use crate::lines::put_plan_lines;
 use crate::lines::put_refusal;
+use choices::Choices;
 use placing::decide::Decision;
 use placing::decide::decide;
 use reading::recording::clear;
@@ -43,6 +44,7 @@ pub fn list(
     size: u64,
     ident: &[u8],
     text: &[u8],
+    choices: Choices,
     out: u64,
     list_words: u64,
     source: &mut [u64],
@@ -50,11 +52,11 @@ pub fn list(
     columns: &mut [u64],
     copies: &mut [u64],
 ) -> usize
-    ensures { λ r. ⌜ Listed (untimed (now (image .entry)) size (now (ident .entry)) (now (text .entry))) out «list_words»
+    ensures { λ r. ⌜ Listed (untimed (now (image .entry)) size (now (ident .entry)) (now (text .entry)) choices) out «list_words»
         (four (now (source .entry)) (now (fragments .entry)) (now (columns .entry)) (now (copies .entry))) (now (lines .entry))
         r (now (lines .exit)) (four (now (source .exit)) (now (fragments .exit)) (now (columns .exit)) (now (copies .exit))) ⌝ }
 {
-    let decision = decide(image, size, ident, text, source, fragments, columns, copies);
+    let decision = decide(image, size, ident, text, choices, source, fragments, columns, copies);
     match decision {
         Decision::Refused { number, place } => put_refusal(lines, 0, number, place),
         Decision::Done {

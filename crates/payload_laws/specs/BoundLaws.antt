@@ -19,7 +19,7 @@ use Rattle.plan.specs.Channel.{width}
 use Rattle.plan.specs.Columns.{SrcGroup, Column}
 use Rattle.plan.specs.Geometry.{perBlock, perFull, blockPayload, blockCount}
 use Rattle.plan.specs.Data.{isNonempty, blocksIn}
-use Rattle.plan.specs.Layout.{columnWidth, columnBlocks, payloadSize, blocksEnd}
+use Rattle.plan.specs.Layout.{columnWidth, columnBlocks, payloadSize, columnSizes, blocksEnd}
 use Rattle.result.specs.Fill.{columnPayload}
 use Rattle.result.specs.Guarantee.{In, here, there}
 use Rattle.payload_laws.specs.Answers.{refused≢ok, ok-same}
@@ -109,7 +109,7 @@ data-small s size c w h k = omega (arith, payload-small s c w h k, blocks-bound 
 
 pub end-small : (s : List ℕ) (size : ℕ) (c : Column) (a : ℕ) → Ready s c → length s ≤ 4294967296
     → length (c .group .dataGroup .fragments) ≤ 1024
-    → blocksEnd s size c a < a + 109951162777608
+    → blocksEnd (columnSizes s size c) a < a + 109951162777608
 unfolding blocksEnd
 end-small s size c a w h k = omega (arith, data-small s size c w h k, align-near (a + (24 * columnBlocks s size c + payloadSize s c)))
 

@@ -17,7 +17,7 @@ use Rattle.plan.specs.Channel.{fits, width, both}
 use Rattle.plan.specs.Columns.{srcGroups, Column}
 use Rattle.plan.specs.Geometry.{align8, perFull, blockPayload}
 use Rattle.plan.specs.Data.{isNonempty, allDataIn}
-use Rattle.plan.specs.Layout.{columnWidth, columnBlocks, payloadSize, blocksEnd}
+use Rattle.plan.specs.Layout.{columnWidth, columnBlocks, payloadSize, columnSizes, blocksEnd}
 use Rattle.result.specs.Payload.{recordsOf, cells, payloads, columnPayloads}
 use Rattle.result.specs.Fill.{words, blockLinks, columnPayload, payloadBlocks}
 use Rattle.result.specs.Ordered.{Ordered}
@@ -164,7 +164,7 @@ module _ (s : List ℕ) (size : ℕ) (c : Column) (w : Ready s c) where
   -- ---- data blocks
 
   -- from a on they follow each other, up to the column's end
-  pub column-ordered : (kind a : ℕ) → Ordered a (payloadBlocks kind a (columnPayloads s size c)) (blocksEnd s size c a)
+  pub column-ordered : (kind a : ℕ) → Ordered a (payloadBlocks kind a (columnPayloads s size c)) (blocksEnd (columnSizes s size c) a)
   unfolding blocksEnd
   column-ordered kind a =
       let up = align-up (a + (24 * columnBlocks s size c + payloadSize s c)) in

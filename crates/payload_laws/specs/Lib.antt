@@ -5,7 +5,10 @@ pub mod FramedLaws
 pub mod CountLaws
 pub mod CellLaws
 pub mod GeometryLaws
+pub mod UnitLaws
 pub mod PayloadLaws
 pub mod ColumnLaws
 pub mod BoundLaws
 pub mod SignalLaws
+pub mod Near
+pub mod NearLaws

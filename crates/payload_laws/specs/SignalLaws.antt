@@ -16,7 +16,8 @@ use Rattle.mdf.specs.Count.{counts}
 use Rattle.plan.specs.Channel.{keepsInval}
 use Rattle.plan.specs.Columns.{srcGroups, Column, Signal, noSignal, signalData}
 use Rattle.plan.specs.Data.{anyNonempty, recordsIn, signalIn, signalsIn, dataIn, allDataIn}
-use Rattle.plan.specs.Layout.{blocksEnd, signalEnd, structureSize, placedFrom, dataEnd}
+use Rattle.plan.specs.Rules.{Rules}
+use Rattle.plan.specs.Layout.{Sizes, firstAt, blocksEnd, signalAt, signalEnd, placesFrom, placesEnd, signalSizes, columnSizes, sizesOf, withPlaces, placedFrom, dataEnd}
 use Rattle.result.specs.Payload.{columnPayloads, signalBytes}
 use Rattle.result.specs.Fill.{Block, dataKind, payloadBlocks, sdBlocks, dataBlocks}
 use Rattle.result.specs.Ordered.{Ordered}
@@ -25,9 +26,10 @@ use Rattle.payload_laws.specs.Answers.{then-fine}
 use Rattle.payload_laws.specs.SortedLaws.{joined-length}
 use Rattle.payload_laws.specs.CountLaws.{member, all-checked}
 use Rattle.payload_laws.specs.GeometryLaws.{align-up}
+use Rattle.payload_laws.specs.UnitLaws.{IsUnit, first-past, signal-past}
 use Rattle.payload_laws.specs.PayloadLaws.{length-framed}
 use Rattle.payload_laws.specs.ColumnLaws.{Ready, column-ordered}
-pub use Rattle.result.specs.OrderedLaws.{ordered-append}
+pub use Rattle.result.specs.OrderedLaws.{ordered-from, ordered-append}
 
 -- of the columns from the DG at d
 signals-each : (s : List ℕ) (d : ℕ) (cs : List Column) (c : Column) → signalsIn s d cs ≡ fine → In c cs → c .group .dataGroup .at ≡ d
@@ -57,7 +59,7 @@ pub length-signal : (s : List ℕ) (fs : List Fragment) → signalIn s (signalDa
     → length (signalBytes s (signalData fs)) ≡ sizeOf fs
 length-signal s fs e = joined-length s fs e
 
-pub signal-ordered : (s : List ℕ) (g : Signal) (a : ℕ) → signalIn s g ≡ fine → Ordered a (sdBlocks s g a) (signalEnd g a)
+pub signal-ordered : (s : List ℕ) (g : Signal) (a : ℕ) → signalIn s g ≡ fine → Ordered a (sdBlocks s g a) (signalEnd (signalSizes g) a)
 unfolding Ordered
 signal-ordered s noSignal a e = le-refl a
 signal-ordered s (signalData fs) a e =
@@ -68,17 +70,23 @@ signal-ordered s (signalData fs) a e =
 -- ---- all columns
 
 -- the data of all columns, in order, from d on to its end
-pub data-ordered : (s : List ℕ) (size a d : ℕ) (cs : List Column) → ((c : Column) → In c cs → Ready s c)
+pub data-ordered : (o : Rules) → IsUnit (o .unit) → (s : List ℕ) (size a d : ℕ) (cs : List Column) → ((c : Column) → In c cs → Ready s c)
     → ((c : Column) → In c cs → signalIn s (c .signalOf) ≡ fine)
-    → Ordered d (dataBlocks s size (placedFrom s size a d cs)) (dataEnd s size d cs)
-unfolding Ordered dataBlocks placedFrom dataEnd
-data-ordered s size a d [] r g = le-refl d
-data-ordered s size a d (c ∷ cs) r g =
-    let e : ℕ = blocksEnd s size c d in
-    let f : ℕ = signalEnd (c .signalOf) e in
-    let rest : List Block = dataBlocks s size (placedFrom s size (a + structureSize s size c) f cs) in
-    let own : List Block = payloadBlocks (dataKind (keepsInval s (c .group .at) (c .channel))) d (columnPayloads s size c) in
-    ordered-append d e (dataEnd s size f cs) own (sdBlocks s (c .signalOf) e ++ rest)
-    (column-ordered s size c (r c here) (dataKind (keepsInval s (c .group .at) (c .channel))) d)
-    (ordered-append e f (dataEnd s size f cs) (sdBlocks s (c .signalOf) e) rest (signal-ordered s (c .signalOf) e (g c here))
-    (data-ordered s size (a + structureSize s size c) f cs (λ b i. r b (there i)) (λ b i. g b (there i))))
+    → Ordered d (dataBlocks s size (placedFrom o s size a d cs)) (dataEnd o s size d cs)
+unfolding Ordered dataBlocks withPlaces placesFrom placesEnd sizesOf
+data-ordered o i s size a d [] r g = le-refl d
+data-ordered o i s size a d (c ∷ cs) r g =
+    let u : ℕ = o .unit in
+    let z : Sizes = columnSizes s size c in
+    let first : ℕ = firstAt u z d in
+    let e : ℕ = blocksEnd z first in
+    let sd : ℕ = signalAt u (z .signal) e in
+    let f : ℕ = signalEnd (z .signal) sd in
+    let kind : ℕ = dataKind (keepsInval s (c .group .at) (c .channel)) in
+    let rest : List Block = dataBlocks s size (placedFrom o s size (a + z .structure) f cs) in
+    let own : List Block = payloadBlocks kind first (columnPayloads s size c) in
+    ordered-append d e (dataEnd o s size f cs) own (sdBlocks s (c .signalOf) sd ++ rest)
+    (ordered-from d first e own (first-past u i z d .0) (column-ordered s size c (r c here) kind first))
+    (ordered-from e sd (dataEnd o s size f cs) (sdBlocks s (c .signalOf) sd ++ rest) (signal-past u i (z .signal) e .0)
+    (ordered-append sd f (dataEnd o s size f cs) (sdBlocks s (c .signalOf) sd) rest (signal-ordered s (c .signalOf) sd (g c here))
+    (data-ordered o i s size (a + z .structure) f cs (λ b j. r b (there j)) (λ b j. g b (there j)))))

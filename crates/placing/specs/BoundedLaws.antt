@@ -16,7 +16,7 @@ use Rattle.result.specs.Guarantee.{In}
 use Rattle.payload_laws.specs.ColumnLaws.{Ready}
 use Rattle.payload_laws.specs.BoundLaws.{fragments-small, payload-small, blocks-small}
 use Rattle.placing.specs.declared.layout.Laid.{Laid}
-use Rattle.placing.specs.Laying.{Lays, LaysOut}
+use Rattle.placing.specs.Laying.{onUnit, Lays, LaysOut}
 use Rattle.placing.specs.InWords.{AllWithin, signalBytesOf, AllBounded}
 use Rattle.placing.specs.ColumnsLaws.{all-within, columns-stand}
 
@@ -52,8 +52,8 @@ plan-within s size p fs w f a b c d e =
     (columns-stand p fs w f a b c d) e
 
 -- and what is laid out over those words is the plan's layout
-pub plan-laid : (s : List ℕ) (size text : ℕ) (p : Plan) (fs : List Fragment) (w f : List ℕ) (n : ℕ) {m m' : List ℕ} {r : Laid}
+pub plan-laid : (u : ℕ) (s : List ℕ) (size text : ℕ) (p : Plan) (fs : List Fragment) (w f : List ℕ) (n : ℕ) {m m' : List ℕ} {r : Laid}
     → length (p .columns) ≤ 512 → 4096 ≤ length w → length fs + length (signalFragments (p .columns)) ≤ 1024 → 3072 ≤ length f → length (p .columns) ≡ n
-    → LaysOut s size text (laidPlan (length fs) p w) (blit 0 (fragmentWords (fs ++ signalFragments (p .columns))) f) n m m' r
-    → Lays m m' r (layout s size text (p .columns))
-plan-laid s size text p fs w f n a b c d l h = h .is (length fs) (p .columns) (columns-stand p fs w f a b c d) l
+    → LaysOut u s size text (laidPlan (length fs) p w) (blit 0 (fragmentWords (fs ++ signalFragments (p .columns))) f) n m m' r
+    → Lays m m' r (layout (onUnit u) s size text (p .columns))
+plan-laid u s size text p fs w f n a b c d l h = h .is (length fs) (p .columns) (columns-stand p fs w f a b c d) l

@@ -17,7 +17,9 @@ use Rattle.plan.specs.Columns.{Column, Signal, noSignal, signalData, sizeOfSign
 use Rattle.work_words.specs.PlanWords.{masterWord, signalWord, columnWords, columnsWords, fragmentsIn, signalFragments, omissionPairs, laidPlan}
 use Rattle.plan.specs.Copies.{Copies, copyRoots, columnLinks, columnCopies}
 use Rattle.work_words.specs.CopyWords.{placedWords}
-use Rattle.plan.specs.Layout.{columnWidth, columnBlocks, cgSize, structureSize, payloadSize, blocksEnd, signalEnd, placedFrom, structureEnd, dataEnd}
+use Rattle.plan.specs.Rules.{Rules}
+use Rattle.plan.specs.Layout.{columnWidth, columnBlocks, cgSize, structureSize, payloadSize, Sizes, firstAt, blocksEnd, signalEnd, placesAt, pastData, placesFrom, structuresEnd, placesEnd, signalSizes, columnSizes, sizesOf, withPlaces, placedFrom, structureEnd, dataEnd}
+use Rattle.plan.specs.Layout as layout
 use Rattle.result.specs.Guarantee.{here, there}
 use Rattle.planning.specs.Sizes.{signalSize}
 use Rattle.planning.specs.SizesLaws.{sizes-stand}
@@ -29,9 +31,13 @@ use Rattle.placing.specs.InWords.{
   payloadAt,
   cgBytes,
   structureAt,
+  firstIn,
   blocksEndAt,
+  sdPast,
+  sdIn,
   signalAt,
   signalEndAt,
+  pastIn,
   structuresIn,
   dataIn,
   placedIn,
@@ -140,7 +146,7 @@ module _ {w f : List ℕ} {m p : ℕ} {c : Column} (r : Reads w f m p c) where
   unfolding structureAt structureSize
   structure-of s size = rw (r .master, cg-of (c .master), blocks-of s size)
 
-  pub blocks-end-of : (s : List ℕ) (size d : ℕ) → blocksEndAt s size w p d ≡ blocksEnd s size c d
+  pub blocks-end-of : (s : List ℕ) (size d : ℕ) → blocksEndAt s size w p d ≡ blocksEnd (columnSizes s size c) d
   unfolding blocksEndAt blocksEnd
   blocks-end-of s size d = rw (blocks-of s size, payload-of s)
 
@@ -168,17 +174,33 @@ signal-bytes w f m p (signalData fs) r =
 pub signal-of : {w f : List ℕ} {m p : ℕ} {c : Column} → Reads w f m p c → signalAt w f p ≡ signalBytesOf (c .signalOf)
 signal-of {w} {f} {m} {p} {c} r = signal-bytes w f m p (c .signalOf) (sized r)
 
-signal-end : (w f : List ℕ) (m p d : ℕ) (g : Signal) → Sized w f m p g → signalEndAt w f p d ≡ signalEnd g d
+signal-end : (w f : List ℕ) (m p d : ℕ) (g : Signal) → Sized w f m p g → signalEndAt w f p d ≡ signalEnd (signalSizes g) d
 unfolding signalEndAt
 signal-end w f m p d noSignal r = sym (eq-yes _ _ _ _ (r .signal) refl)
 signal-end w f m p d (signalData fs) r =
     sym (eq-no _ _ _ _ (λ e. omega (arith, e, r .signal)) (rw (signal-bytes w f m p (signalData fs) r)))
 
--- past all the data of a column
-column-end : {w f : List ℕ} {m p : ℕ} {c : Column} → Reads w f m p c → (s : List ℕ) (size d : ℕ)
-    → signalEndAt w f p (blocksEndAt s size w p d) ≡ signalEnd (c .signalOf) (blocksEnd s size c d)
-column-end {w} {f} {m} {p} {c} r s size d =
-    ap (signalEndAt w f p) (blocks-end-of r s size d) ∙ signal-end w f m p (blocksEnd s size c d) (c .signalOf) (sized r)
+signal-start : (u : ℕ) (w f : List ℕ) (m p d : ℕ) (g : Signal) → Sized w f m p g → sdPast u w p d ≡ layout.signalAt u (signalSizes g) d
+unfolding sdPast
+signal-start u w f m p d noSignal r = sym (eq-yes _ _ _ _ (r .signal) refl)
+signal-start u w f m p d (signalData fs) r = sym (eq-no _ _ _ _ (λ e. omega (arith, e, r .signal)) refl)
+
+-- where its data blocks begin, and its SD; past all its data
+module _ {w f : List ℕ} {m p : ℕ} {c : Column} (r : Reads w f m p c) (u : ℕ) (s : List ℕ) (size d : ℕ) where
+  first-of : firstIn u s size w p d ≡ firstAt u (columnSizes s size c) d
+  unfolding firstIn firstAt
+  first-of = rw (blocks-of r s size)
+
+  sd-of : sdIn u s size w p d ≡ placesAt u 0 d (columnSizes s size c) .sd
+  unfolding sdIn
+  sd-of =
+      ap (λ (x : ℕ). sdPast u w p (blocksEndAt s size w p x)) first-of
+      ∙ ap (sdPast u w p) (blocks-end-of r s size (firstAt u (columnSizes s size c) d))
+      ∙ signal-start u w f m p _ (c .signalOf) (sized r)
+
+  column-end : pastIn u s size w f p d ≡ pastData u (columnSizes s size c) d
+  unfolding pastIn
+  column-end = ap (signalEndAt w f p) sd-of ∙ signal-end w f m p _ (c .signalOf) (sized r)
 
 -- ---- what is taken out of the words of all columns
 then-same : {A B : Type 0} (v : Checked A) (f g : A → Checked B) → ((x : A) → f x ≡ g x) → andThen v f ≡ andThen v g
@@ -187,34 +209,31 @@ then-same (refused a b) f g e = refl
 
 module _ (s : List ℕ) (size : ℕ) (w f : List ℕ) where
   pub structures-of : (m p a : ℕ) (cs : List Column) → Columns w f m p cs → structuresIn s size w p (length cs) a ≡ structureEnd s size a cs
-  unfolding structuresIn structureEnd
+  unfolding structuresIn structuresEnd sizesOf
   structures-of m p a [] h = refl
   structures-of m p a (c ∷ cs) h =
       ap (λ (x : ℕ). structuresIn s size w (p + 8) (length cs) (a + x)) (structure-of (stand-reads w f m p c cs h) s size)
       ∙ structures-of (m + sizeOfSignal (c .signalOf)) (p + 8) (a + structureSize s size c) cs (stand-rest w f m p c cs h)
 
-  pub data-of : (m p d : ℕ) (cs : List Column) → Columns w f m p cs → dataIn s size w f p (length cs) d ≡ dataEnd s size d cs
-  unfolding dataIn dataEnd
-  data-of m p d [] h = refl
-  data-of m p d (c ∷ cs) h =
+  pub data-of : (o : Rules) (m p d : ℕ) (cs : List Column) → Columns w f m p cs → dataIn (o .unit) s size w f p (length cs) d ≡ dataEnd o s size d cs
+  unfolding dataIn placesEnd sizesOf
+  data-of o m p d [] h = refl
+  data-of o m p d (c ∷ cs) h =
       let r = stand-reads w f m p c cs h in
-      ap (λ (x : ℕ). dataIn s size w f (p + 8) (length cs) x) (column-end r s size d)
-      ∙ data-of (m + sizeOfSignal (c .signalOf)) (p + 8) (signalEnd (c .signalOf) (blocksEnd s size c d)) cs (stand-rest w f m p c cs h)
+      ap (λ (x : ℕ). dataIn (o .unit) s size w f (p + 8) (length cs) x) (column-end r (o .unit) s size d)
+      ∙ data-of o (m + sizeOfSignal (c .signalOf)) (p + 8) (pastData (o .unit) (columnSizes s size c) d) cs (stand-rest w f m p c cs h)
 
-  pub placed-of : (m p a d : ℕ) (cs : List Column) → Columns w f m p cs
-      → placedIn s size w f p (length cs) a d ≡ placedWords (placedFrom s size a d cs)
-  unfolding placedIn placedFrom placedWords
-  placed-of m p a d [] h = refl
-  placed-of m p a d (c ∷ cs) h =
+  pub placed-of : (o : Rules) (m p a d : ℕ) (cs : List Column) → Columns w f m p cs
+      → placedIn (o .unit) s size w f p (length cs) a d ≡ placedWords (placedFrom o s size a d cs)
+  unfolding placedIn withPlaces placesFrom sizesOf placedWords
+  placed-of o m p a d [] h = refl
+  placed-of o m p a d (c ∷ cs) h =
       let r = stand-reads w f m p c cs h in
-      ap (λ (x : ℕ). a ∷ d ∷ x ∷ placedIn s size w f (p + 8) (length cs) (a + structureAt s size w p) (signalEndAt w f p (blocksEndAt s size w p d)))
-      (blocks-end-of r s size d)
-      ∙ ap (λ (x : ℕ). a ∷ d ∷ blocksEnd s size c d ∷ placedIn s size w f (p + 8) (length cs) (a + x) (signalEndAt w f p (blocksEndAt s size w p d)))
-      (structure-of r s size)
-      ∙ ap (λ (x : ℕ). a ∷ d ∷ blocksEnd s size c d ∷ placedIn s size w f (p + 8) (length cs) (a + structureSize s size c) x) (column-end r s size d)
-      ∙ ap (λ (l : List ℕ). a ∷ d ∷ blocksEnd s size c d ∷ l)
-      (placed-of (m + sizeOfSignal (c .signalOf)) (p + 8) (a + structureSize s size c) (signalEnd (c .signalOf) (blocksEnd s size c d)) cs
-      (stand-rest w f m p c cs h))
+      let u : ℕ = o .unit in
+      let z : Sizes = columnSizes s size c in
+      rw (first-of r u s size d, sd-of r u s size d, structure-of r s size, column-end r u s size d)
+      (ap (λ (l : List ℕ). a ∷ firstAt u z d ∷ placesAt u 0 d z .sd ∷ l)
+      (placed-of o (m + sizeOfSignal (c .signalOf)) (p + 8) (a + structureSize s size c) (pastData u z d) cs (stand-rest w f m p c cs h)))
 
   pub copies-of : (m p : ℕ) (cs : List Column) (x : Copies) → Columns w f m p cs → copiesOf s w p (length cs) x ≡ columnCopies s cs x
   unfolding copiesOf columnCopies

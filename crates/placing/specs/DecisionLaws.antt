@@ -18,8 +18,10 @@ use Rattle.work_words.specs.Words.{countsAt, laidItems, fragmentWords}
 use Rattle.plan.specs.Columns.{SrcGroup, srcGroups, Column, Signal, noSignal, signalData, sizeOfSignal, plan}
 use Rattle.work_words.specs.PlanWords.{fragmentsIn, signalFragments, laidPlan}
 use Rattle.plan.specs.Data.{allDataIn, blocksIn}
+use Rattle.plan.specs.Rules.{unitIn}
 use Rattle.plan.specs.Layout.{Layout, layout}
-use Rattle.result.specs.Result.{Args, Decided, lentIn, decided, workIn, zeros}
+use Rattle.choices.specs.declared.Choices.{Choices}
+use Rattle.result.specs.Result.{Args, Decided, lentIn, choicesIn, decided, workIn, zeros}
 use Rattle.result.specs.Guarantee.{In}
 use Rattle.fields.specs.declared.Check.{Check}
 use Rattle.fields.specs.declared.Check.the-variants as check
@@ -41,7 +43,7 @@ use Rattle.placing.specs.declared.layout.Laid.{Laid}
 use Rattle.placing.specs.declared.layout.Laid.the-variants as laid
 use Rattle.placing.specs.declared.decide.Decision.{Decision}
 use Rattle.placing.specs.declared.decide.Decision.the-variants.{Refused, Done}
-use Rattle.placing.specs.Laying.{LaidOut, Lays, LaysOut}
+use Rattle.placing.specs.Laying.{onUnit, LaidOut, Lays, LaysOut}
 use Rattle.placing.specs.InWords.{AllWithin}
 use Rattle.placing.specs.BoundedLaws.{Known, all-bounded, plan-within, plan-laid}
 use Rattle.placing.specs.Decision.{untimed, four, rest, DecidedIn, RestIn, RefusedIn, Decides, DecidesRest}
@@ -56,15 +58,16 @@ same-steps (ok x) f g h = h x
 same-steps (refused n p) f g h = refl
 
 -- what is decided, the lent slices apart
-pub decided-rest : (x : Args) → decided x ≡ andThen (lentIn x) (λ _. rest (x .image) (x .blockSize) (length (x .text)))
-unfolding decided rest plannedOf
+pub decided-rest : (x : Args) → decided x ≡ andThen (lentIn x) (λ _. rest (x .unit) (x .image) (x .blockSize) (length (x .text)))
+unfolding decided choicesIn rest plannedOf
 decided-rest x =
     let s = x .image in
     let k : Arranged → Checked Decided = λ a.
-    andThen (layout s (x .blockSize) (length (x .text)) (a .planned .columns)) (λ l.
+    andThen (layout (onUnit (x .unit)) s (x .blockSize) (length (x .text)) (a .planned .columns)) (λ l.
     ok (record { groups = srcGroups (dataGroups (a .source)) (a .numbers); planned = a .planned; laidOut = l })) in
     sym (same-steps (lentIn x) _ _ (λ _.
     same-steps (ifEq (x .blockSize) 0 (refused 2 0) fine) _ _ (λ _.
+    same-steps (unitIn (x .unit)) _ _ (λ _.
     same-steps (ifLt 4294967296 (length s) (refused 3 0) fine) _ _ (λ _.
     steps (identified s) _ k ∙ same-steps (identified s) _ _ (λ _.
     steps (walk s) _ k ∙ same-steps (walk s) _ _ (λ st.
@@ -72,12 +75,12 @@ decided-rest x =
     steps (plan s (length (st .fragments)) (srcGroups (dataGroups st) ns)) _ k
     ∙ same-steps (plan s (length (st .fragments)) (srcGroups (dataGroups st) ns)) _ _ (λ p.
     steps (allDataIn s (p .columns) (dataGroups st)) _ k ∙ same-steps (allDataIn s (p .columns) (dataGroups st)) _ _ (λ _.
-    steps (blocksIn s (x .blockSize) (p .columns)) _ k)))))))))
+    steps (blocksIn s (x .blockSize) (p .columns)) _ k))))))))))
 
 -- ---- the lent slices
 module _ (ident text : List ℕ) where
   abbrev lent : Verdict
-  lent = lentIn (untimed [] 0 ident text)
+  lent = lentIn (untimed [] 0 ident text (record { unit = 8 }))
 
   pub lent-short : (length ident ≡ 64 → ⊥) → refused 1 0 ≡ lent
   unfolding lentIn
@@ -223,53 +226,66 @@ module _ {s : List ℕ} {size i nf nc no' : ℕ} {w f c w' f' c' : List ℕ} (t 
         (all-bounded s size (t .told .planned .columns) h (by .blocksFine) column-known))
 
     -- what it gives
-    pub laid-plan : {text : ℕ} {m m' : List ℕ} {r : Laid} → LaysOut s size text c' f' nc m m' r → Lays m m' r (layout s size text (t .told .planned .columns))
-    laid-plan {text} {m} {m'} {r} z =
-        plan-laid s size text (t .told .planned) (t .told .source .fragments) c f nc few-columns (omega arith) few-fragments (omega arith) (sym (t .columns))
-        (subst (λ (x : List ℕ). LaysOut s size text x (blit 0 (fragmentWords (t .told .source .fragments ++ signalFragments (t .told .planned .columns))) f) nc m m' r) (t .inColumns)
-        (subst (λ (y : List ℕ). LaysOut s size text c' y nc m m' r) (t .inFragments) z))
+    pub laid-plan : {u text : ℕ} {m m' : List ℕ} {r : Laid} → LaysOut u s size text c' f' nc m m' r → Lays m m' r (layout (onUnit u) s size text (t .told .planned .columns))
+    laid-plan {u} {text} {m} {m'} {r} z =
+        plan-laid u s size text (t .told .planned) (t .told .source .fragments) c f nc few-columns (omega arith) few-fragments (omega arith) (sym (t .columns))
+        (subst (λ (x : List ℕ). LaysOut u s size text x (blit 0 (fragmentWords (t .told .source .fragments ++ signalFragments (t .told .planned .columns))) f) nc m m' r) (t .inColumns)
+        (subst (λ (y : List ℕ). LaysOut u s size text c' y nc m m' r) (t .inFragments) z))
+
+-- ---- the choices
+pub chosen-refused : (u : ℕ) {r : Check} → verdictOf r ≡ unitIn u → {n p : ℕ} → r ≡ check.Refused n p → unitIn u ≡ refused n p
+chosen-refused u e q = sym e ∙ rw q
+
+pub chosen-fine : (u : ℕ) {r : Check} → verdictOf r ≡ unitIn u → r ≡ check.Fine → unitIn u ≡ fine
+chosen-fine u e q = sym e ∙ rw q
 
 -- ---- all but the lent slices
-module _ (s : List ℕ) (size text : ℕ) where
-  pub rest-empty : size ≡ 0 → rest s size text ≡ refused 2 0
+module _ (u : ℕ) (s : List ℕ) (size text : ℕ) where
+  pub rest-empty : size ≡ 0 → rest u s size text ≡ refused 2 0
   unfolding rest
   rest-empty h = rw (← (eq-yes size 0 (refused 2 0) fine h refl))
 
   module _ (h : size ≡ 0 → ⊥) where
-    pub rest-large : 4294967296 < length s → rest s size text ≡ refused 3 0
+    pub rest-unchosen : {n p : ℕ} → unitIn u ≡ refused n p → rest u s size text ≡ refused n p
     unfolding rest
-    rest-large l = rw (← (eq-no size 0 (refused 2 0) fine h refl), ← (lt-yes 4294967296 (length s) (refused 3 0) fine l refl))
+    rest-unchosen e = rw (← (eq-no size 0 (refused 2 0) fine h refl), e)
 
-    module _ (l : length s ≤ 4294967296) where
-      opened : rest s size text ≡ andThen (plannedOf s size) (λ a.
-          andThen (layout s size text (a .planned .columns)) (λ l.
-          ok (record { groups = srcGroups (dataGroups (a .source)) (a .numbers); planned = a .planned; laidOut = l })))
+    module _ (k : unitIn u ≡ fine) where
+      pub rest-large : 4294967296 < length s → rest u s size text ≡ refused 3 0
       unfolding rest
-      opened = rw (← (eq-no size 0 (refused 2 0) fine h refl), ← (lt-no 4294967296 (length s) (refused 3 0) fine l refl))
+      rest-large l = rw (← (eq-no size 0 (refused 2 0) fine h refl), k, ← (lt-yes 4294967296 (length s) (refused 3 0) fine l refl))
 
-      pub rest-unplanned : {n p : ℕ} → plannedOf s size ≡ refused n p → rest s size text ≡ refused n p
-      rest-unplanned e = opened ∙ rw e
+      module _ (l : length s ≤ 4294967296) where
+        opened : rest u s size text ≡ andThen (plannedOf s size) (λ a.
+            andThen (layout (onUnit u) s size text (a .planned .columns)) (λ l.
+            ok (record { groups = srcGroups (dataGroups (a .source)) (a .numbers); planned = a .planned; laidOut = l })))
+        unfolding rest
+        opened = rw (← (eq-no size 0 (refused 2 0) fine h refl), k, ← (lt-no 4294967296 (length s) (refused 3 0) fine l refl))
 
-      pub rest-unlaid : {a : Arranged} {n p : ℕ} → plannedOf s size ≡ ok a → layout s size text (a .planned .columns) ≡ refused n p → rest s size text ≡ refused n p
-      rest-unlaid e f = opened ∙ rw (e, f)
+        pub rest-unplanned : {n p : ℕ} → plannedOf s size ≡ refused n p → rest u s size text ≡ refused n p
+        rest-unplanned e = opened ∙ rw e
 
-      pub rest-laid : {a : Arranged} {v : Layout} → plannedOf s size ≡ ok a → layout s size text (a .planned .columns) ≡ ok v
-          → rest s size text ≡ ok (record { groups = srcGroups (dataGroups (a .source)) (a .numbers); planned = a .planned; laidOut = v })
-      rest-laid e f = opened ∙ rw (e, f)
+        pub rest-unlaid : {a : Arranged} {n p : ℕ} → plannedOf s size ≡ ok a → layout (onUnit u) s size text (a .planned .columns) ≡ refused n p
+            → rest u s size text ≡ refused n p
+        rest-unlaid e f = opened ∙ rw (e, f)
+
+        pub rest-laid : {a : Arranged} {v : Layout} → plannedOf s size ≡ ok a → layout (onUnit u) s size text (a .planned .columns) ≡ ok v
+            → rest u s size text ≡ ok (record { groups = srcGroups (dataGroups (a .source)) (a .numbers); planned = a .planned; laidOut = v })
+        rest-laid e f = opened ∙ rw (e, f)
 
 -- ---- what the layout gives
 pub unlaid : (m m' : List ℕ) (r : Laid) (v : Checked Layout) {n p : ℕ} → Lays m m' r v → r ≡ laid.Refused n p → v ≡ refused n p
 unlaid m m' r v z e = subst (λ (r : Laid). Lays m m' r v) e z
 
-pub rest-in : (s : List ℕ) (size text : ℕ) → (size ≡ 0 → ⊥) → length s ≤ 4294967296 → {i nf nc no' : ℕ} {w f c w' f' c' : List ℕ} (t : PlannedIn s size i nf nc no' w f c w' f' c')
-    → {m m' : List ℕ} {r : Laid} {n : Numbers} → Lays m m' r (layout s size text (t .told .planned .columns)) → r ≡ laid.Done n
-    → RestIn s size text i nf nc no' n w f c m w' f' c' m'
-rest-in s size text h l t {m} {m'} {r} {n} z e =
-    let y : LaidOut m m' n (layout s size text (t .told .planned .columns)) = subst (λ (q : Laid). Lays m m' q (layout s size text (t .told .planned .columns))) e z in
+pub rest-in : (u : ℕ) (s : List ℕ) (size text : ℕ) → (size ≡ 0 → ⊥) → unitIn u ≡ fine → length s ≤ 4294967296 → {i nf nc no' : ℕ} {w f c w' f' c' : List ℕ} (t : PlannedIn s size i nf nc no' w f c w' f' c')
+    → {m m' : List ℕ} {r : Laid} {n : Numbers} → Lays m m' r (layout (onUnit u) s size text (t .told .planned .columns)) → r ≡ laid.Done n
+    → RestIn u s size text i nf nc no' n w f c m w' f' c' m'
+rest-in u s size text h k l t {m} {m'} {r} {n} z e =
+    let y : LaidOut m m' n (layout (onUnit u) s size text (t .told .planned .columns)) = subst (λ (q : Laid). Lays m m' q (layout (onUnit u) s size text (t .told .planned .columns))) e z in
     let b = arranged-by s size (t .told) (t .is) in
     record {
       told = record { groups = srcGroups (dataGroups (t .told .source)) (t .told .numbers); planned = t .told .planned; laidOut = y .told };
-      is = rest-laid s size text h l (t .is) (y .is);
+      is = rest-laid u s size text h k l (t .is) (y .is);
       source = t .told .source;
       walked = b .walked;
       numbers = t .told .numbers;
@@ -309,17 +325,18 @@ module _ (a b c d : List ℕ) where
 pub short-work : (x : Args) {ws : List (List ℕ)} → workIn ws ≡ refused 1 0 → RefusedIn x 1 0 ws ws
 short-work x e = record { is = rw e; words = rw e }
 
-lent-same : (image : List ℕ) (size : ℕ) (ident text : List ℕ) → lentIn (untimed image size ident text) ≡ lentIn (untimed [] 0 ident text)
+lent-same : (image : List ℕ) (size : ℕ) (ident text : List ℕ) (c : Choices)
+    → lentIn (untimed image size ident text c) ≡ lentIn (untimed [] 0 ident text (record { unit = 8 }))
 unfolding lentIn
-lent-same image size ident text = refl
+lent-same image size ident text c = refl
 
-module _ (image : List ℕ) (size : ℕ) (ident text : List ℕ) (ws : List (List ℕ)) (fits : workIn ws ≡ fine) (r : Check)
-    (e : verdictOf r ≡ lentIn (untimed [] 0 ident text)) where
+module _ (image : List ℕ) (size : ℕ) (ident text : List ℕ) (chosen : Choices) (ws : List (List ℕ)) (fits : workIn ws ≡ fine) (r : Check)
+    (e : verdictOf r ≡ lentIn (untimed [] 0 ident text (record { unit = 8 }))) where
   abbrev x : Args
-  x = untimed image size ident text
+  x = untimed image size ident text chosen
 
   lent-is : lentIn x ≡ verdictOf r
-  lent-is = lent-same image size ident text ∙ sym e
+  lent-is = lent-same image size ident text chosen ∙ sym e
 
   pub lent-refused : {n p : ℕ} → r ≡ check.Refused n p → RefusedIn x n p ws ws
   unfolding decided
@@ -331,7 +348,7 @@ module _ (image : List ℕ) (size : ℕ) (ident text : List ℕ) (ws : List (Lis
     lent-passes : lentIn x ≡ fine
     lent-passes = lent-is ∙ rw q
 
-    decided-is : decided x ≡ rest image size (length text)
+    decided-is : decided x ≡ rest (chosen .unit) image size (length text)
     decided-is = decided-rest x ∙ rw lent-passes
 
     pub text-fits : length text ≤ 4096
@@ -342,11 +359,11 @@ module _ (image : List ℕ) (size : ℕ) (ident text : List ℕ) (ws : List (Lis
         let c = eq-first _ _ _ _ (b .1) refused≢ok in
         lt-back _ _ _ _ (c .1) refused≢ok .0
 
-    pub rest-refused : {n p : ℕ} {ws' : List (List ℕ)} → rest image size (length text) ≡ refused n p → ws' ≡ zeros ws → RefusedIn x n p ws ws'
+    pub rest-refused : {n p : ℕ} {ws' : List (List ℕ)} → rest (chosen .unit) image size (length text) ≡ refused n p → ws' ≡ zeros ws → RefusedIn x n p ws ws'
     rest-refused k z = record { is = rw (fits, decided-is, k); words = z ∙ rw (fits, lent-passes) }
 
     pub rest-decided : {i f k o : ℕ} {n : Numbers} {a b c d a' b' c' d' : List ℕ} → 8192 ≤ length a → 8192 ≤ length b → 8192 ≤ length c → 8192 ≤ length d
-        → RestIn image size (length text) i f k o n a b c d a' b' c' d' → DecidedIn x i f k o n a b c d a' b' c' d'
+        → RestIn (chosen .unit) image size (length text) i f k o n a b c d a' b' c' d' → DecidedIn x i f k o n a b c d a' b' c' d'
     rest-decided la lb lc ld t =
         record {
           told = t .told;
@@ -370,9 +387,9 @@ module _ (image : List ℕ) (size : ℕ) (ident text : List ℕ) (ws : List (Lis
         }
 
 -- answers taken apart
-pub rests-refused : (s : List ℕ) (size text : ℕ) (a b c d : List ℕ) (r : Decision) (a' b' c' d' : List ℕ) {n p : ℕ}
-    → DecidesRest s size text a b c d r a' b' c' d' → r ≡ Refused n p → rest s size text ≡ refused n p
-rests-refused s size text a b c d r a' b' c' d' h e = subst (λ (r : Decision). DecidesRest s size text a b c d r a' b' c' d') e h
+pub rests-refused : (u : ℕ) (s : List ℕ) (size text : ℕ) (a b c d : List ℕ) (r : Decision) (a' b' c' d' : List ℕ) {n p : ℕ}
+    → DecidesRest u s size text a b c d r a' b' c' d' → r ≡ Refused n p → rest u s size text ≡ refused n p
+rests-refused u s size text a b c d r a' b' c' d' h e = subst (λ (r : Decision). DecidesRest u s size text a b c d r a' b' c' d') e h
 
 pub cleared : (a b c d a' b' c' d' a'' b'' c'' d'' : List ℕ) → length a' ≡ length a → length b' ≡ length b → length c' ≡ length c → length d' ≡ length d
     → a'' ≡ replicate (length a') 0 → b'' ≡ replicate (length b') 0 → c'' ≡ replicate (length c') 0 → d'' ≡ replicate (length d') 0
@@ -380,8 +397,8 @@ pub cleared : (a b c d a' b' c' d' a'' b'' c'' d'' : List ℕ) → length a' ≡
 unfolding zeros
 cleared a b c d a' b' c' d' a'' b'' c'' d'' la lb lc ld e f g h = rw (e, f, g, h, la, lb, lc, ld)
 
-pub decides-some : (x : Args) (s : List ℕ) (size text : ℕ) (a b c d a' b' c' d' : List ℕ) (r : Decision) {i g k o : ℕ} {n : Numbers}
-    → DecidesRest s size text a b c d r a' b' c' d' → r ≡ Done i g k o n
-    → (RestIn s size text i g k o n a b c d a' b' c' d' → DecidedIn x i g k o n a b c d a' b' c' d') → Decides x a b c d r a' b' c' d'
-decides-some x s size text a b c d a' b' c' d' r h e f =
-    subst (λ (q : Decision). Decides x a b c d q a' b' c' d') (sym e) (f (subst (λ (q : Decision). DecidesRest s size text a b c d q a' b' c' d') e h))
+pub decides-some : (x : Args) (u : ℕ) (s : List ℕ) (size text : ℕ) (a b c d a' b' c' d' : List ℕ) (r : Decision) {i g k o : ℕ} {n : Numbers}
+    → DecidesRest u s size text a b c d r a' b' c' d' → r ≡ Done i g k o n
+    → (RestIn u s size text i g k o n a b c d a' b' c' d' → DecidedIn x i g k o n a b c d a' b' c' d') → Decides x a b c d r a' b' c' d'
+decides-some x u s size text a b c d a' b' c' d' r h e f =
+    subst (λ (q : Decision). Decides x a b c d q a' b' c' d') (sym e) (f (subst (λ (q : Decision). DecidesRest u s size text a b c d q a' b' c' d') e h))

@@ -10,7 +10,7 @@ use Rattle.mdf.specs.Records.{sizeOf}
 use Rattle.plan.specs.Channel.{width}
 use Rattle.plan.specs.Columns.{Column, Signal, noSignal, signalData}
 use Rattle.work_words.specs.PlanWords.{columnsWords, signalFragments}
-use Rattle.plan.specs.Geometry.{align8, blockCount}
+use Rattle.plan.specs.Geometry.{align8, alignTo, blockCount}
 use Rattle.plan.specs.Copies.{Copies, copyRoots}
 use Rattle.plan.specs.Layout.{dlSize, columnBlocks, payloadSize}
 use Rattle.result.specs.Guarantee.{In}
@@ -41,6 +41,17 @@ structureAt s size w p = 64 + cgBytes (getD w (p + 5) 0) + 160 + dlSize (blocksA
 unfoldable pub blocksEndAt : List ℕ → ℕ → List ℕ → ℕ → ℕ → ℕ
 blocksEndAt s size w p d = align8 (d + (24 * blocksAt s size w p + payloadAt s w p))
 
+-- where its data blocks begin, past d: on a unit, if there are any
+unfoldable pub firstIn : ℕ → List ℕ → ℕ → List ℕ → ℕ → ℕ → ℕ
+firstIn u s size w p d = ifEq (blocksAt s size w p) 0 d (alignTo u d)
+
+-- where its SD begins, past d: on a unit, if there is one
+unfoldable pub sdPast : ℕ → List ℕ → ℕ → ℕ → ℕ
+sdPast u w p d = ifEq (getD w (p + 6) 0) 0 d (alignTo u d)
+
+unfoldable pub sdIn : ℕ → List ℕ → ℕ → List ℕ → ℕ → ℕ → ℕ
+sdIn u s size w p d = sdPast u w p (blocksEndAt s size w p (firstIn u s size w p d))
+
 -- the bytes of its signal data
 unfoldable pub signalAt : List ℕ → List ℕ → ℕ → ℕ
 signalAt w f p = signalSize f (getD w (p + 6) 0) (getD w (p + 7) 0)
@@ -48,6 +59,10 @@ signalAt w f p = signalSize f (getD w (p + 6) 0) (getD w (p + 7) 0)
 -- past its SD, which begins at d
 unfoldable pub signalEndAt : List ℕ → List ℕ → ℕ → ℕ → ℕ
 signalEndAt w f p d = ifEq (getD w (p + 6) 0) 0 d (align8 (d + (24 + signalAt w f p)))
+
+-- past all its data, from d on
+unfoldable pub pastIn : ℕ → List ℕ → ℕ → List ℕ → List ℕ → ℕ → ℕ → ℕ
+pastIn u s size w f p d = signalEndAt w f p (sdIn u s size w p d)
 
 -- ---- so many columns
 
@@ -57,16 +72,16 @@ structuresIn s size w p zero a = a
 structuresIn s size w p (suc n) a = structuresIn s size w (p + 8) n (a + structureAt s size w p)
 
 -- past the data of columns
-unfoldable pub dataIn : List ℕ → ℕ → List ℕ → List ℕ → ℕ → ℕ → ℕ → ℕ
-dataIn s size w f p zero d = d
-dataIn s size w f p (suc n) d = dataIn s size w f (p + 8) n (signalEndAt w f p (blocksEndAt s size w p d))
+unfoldable pub dataIn : ℕ → List ℕ → ℕ → List ℕ → List ℕ → ℕ → ℕ → ℕ → ℕ
+dataIn u s size w f p zero d = d
+dataIn u s size w f p (suc n) d = dataIn u s size w f (p + 8) n (pastIn u s size w f p d)
 
 -- three words for each: the places of its DG, of its first data block and of its SD
-unfoldable pub placedIn : List ℕ → ℕ → List ℕ → List ℕ → ℕ → ℕ → ℕ → ℕ → List ℕ
-placedIn s size w f p zero a d = []
-placedIn s size w f p (suc n) a d =
-    (a ∷ d ∷ blocksEndAt s size w p d ∷ [])
-    ++ placedIn s size w f (p + 8) n (a + structureAt s size w p) (signalEndAt w f p (blocksEndAt s size w p d))
+unfoldable pub placedIn : ℕ → List ℕ → ℕ → List ℕ → List ℕ → ℕ → ℕ → ℕ → ℕ → List ℕ
+placedIn u s size w f p zero a d = []
+placedIn u s size w f p (suc n) a d =
+    (a ∷ firstIn u s size w p d ∷ sdIn u s size w p d ∷ [])
+    ++ placedIn u s size w f (p + 8) n (a + structureAt s size w p) (pastIn u s size w f p d)
 
 -- the blocks that columns refer to
 unfoldable pub rootsAt : List ℕ → List ℕ → ℕ → List ℕ

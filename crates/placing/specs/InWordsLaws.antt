@@ -14,10 +14,11 @@ use Rattle.base.specs.ChoiceLaws.{eq-yes, eq-no}
 use Rattle.base.specs.Checked.{ok, refused, andThen}
 use Rattle.base.specs.Blit.{blit}
 use Rattle.base.specs.BlitLaws.{blit-append, length-blit}
-use Rattle.plan.specs.Geometry.{align8, blockCount}
+use Rattle.plan.specs.Geometry.{align8, alignTo, blockCount}
 use Rattle.plan.specs.Channel.{width}
 use Rattle.plan.specs.Layout.{dlSize}
 use Rattle.plan.specs.Copies.{Copies, copyRoots}
+use Rattle.payload_laws.specs.UnitLaws.{to-near}
 use Rattle.planning.specs.Sizes.{signalSize}
 use Rattle.planning.specs.SizesLaws.{signal-whole}
 use Rattle.placing.specs.declared.memo.Copying.{Copying}
@@ -34,9 +35,13 @@ use Rattle.placing.specs.InWords.{
   payloadAt,
   cgBytes,
   structureAt,
+  firstIn,
   blocksEndAt,
+  sdPast,
+  sdIn,
   signalAt,
   signalEndAt,
+  pastIn,
   structuresIn,
   dataIn,
   placedIn,
@@ -220,29 +225,80 @@ structures-near s size w p (suc n) a b =
     omega (arith, structure-near s size w p (few-first b (omega arith)), structures-near s size w (p + 8) n (a + structureAt s size w p) r)
 
 -- ---- places of columns and the end of their data: what is left of them
-data-none : (s : List ℕ) (size : ℕ) (w f : List ℕ) (p n d : ℕ) → n ≡ 0 → dataIn s size w f p n d ≡ d
+data-none : (u : ℕ) (s : List ℕ) (size : ℕ) (w f : List ℕ) (p n d : ℕ) → n ≡ 0 → dataIn u s size w f p n d ≡ d
 unfolding dataIn
-data-none s size w f p n d e = rw e
+data-none u s size w f p n d e = rw e
 
-data-cons : (s : List ℕ) (size : ℕ) (w f : List ℕ) (p n d : ℕ) → 0 < n
-    → dataIn s size w f p n d ≡ dataIn s size w f (p + 8) (n - 1) (signalEndAt w f p (blocksEndAt s size w p d))
+data-cons : (u : ℕ) (s : List ℕ) (size : ℕ) (w f : List ℕ) (p n d : ℕ) → 0 < n
+    → dataIn u s size w f p n d ≡ dataIn u s size w f (p + 8) (n - 1) (pastIn u s size w f p d)
 unfolding dataIn
-data-cons s size w f p zero d h = absurd (omega arith)
-data-cons s size w f p (suc n) d h = rw sub-one
+data-cons u s size w f p zero d h = absurd (omega arith)
+data-cons u s size w f p (suc n) d h = rw sub-one
 
-placed-none : (s : List ℕ) (size : ℕ) (w f : List ℕ) (p n a d : ℕ) → n ≡ 0 → placedIn s size w f p n a d ≡ []
+placed-none : (u : ℕ) (s : List ℕ) (size : ℕ) (w f : List ℕ) (p n a d : ℕ) → n ≡ 0 → placedIn u s size w f p n a d ≡ []
 unfolding placedIn
-placed-none s size w f p n a d e = rw e
+placed-none u s size w f p n a d e = rw e
 
-placed-cons : (s : List ℕ) (size : ℕ) (w f : List ℕ) (p n a d : ℕ) → 0 < n
-    → placedIn s size w f p n a d
-    ≡ (a ∷ d ∷ blocksEndAt s size w p d ∷ [])
-    ++ placedIn s size w f (p + 8) (n - 1) (a + structureAt s size w p) (signalEndAt w f p (blocksEndAt s size w p d))
+placed-cons : (u : ℕ) (s : List ℕ) (size : ℕ) (w f : List ℕ) (p n a d : ℕ) → 0 < n
+    → placedIn u s size w f p n a d
+    ≡ (a ∷ firstIn u s size w p d ∷ sdIn u s size w p d ∷ [])
+    ++ placedIn u s size w f (p + 8) (n - 1) (a + structureAt s size w p) (pastIn u s size w f p d)
 unfolding placedIn
-placed-cons s size w f p zero a d h = absurd (omega arith)
-placed-cons s size w f p (suc n) a d h = rw sub-one
+placed-cons u s size w f p zero a d h = absurd (omega arith)
+placed-cons u s size w f p (suc n) a d h = rw sub-one
 
-pub record Placing (s : List ℕ) (size : ℕ) (w f : List ℕ) (n₀ a₀ d₀ : ℕ) (m₀ m : List ℕ) (p q n a d : ℕ) : Type 0 where
+-- each step of a column's data is near
+near-to : (u x : ℕ) → 8 ≤ u → u ≤ 4096 → alignTo u x ≤ x + 4096
+near-to u x l h = omega (arith, to-near u x (omega arith))
+
+first-near : (u : ℕ) (s : List ℕ) (size : ℕ) (w : List ℕ) (p d : ℕ) → 8 ≤ u → u ≤ 4096 → firstIn u s size w p d ≤ d + 4096
+unfolding firstIn ifEq
+first-near u s size w p d l h = go (eqb (blocksAt s size w p) 0)
+  where
+    go : (b : Bool) → pick b d (alignTo u d) ≤ d + 4096
+    go true = omega arith
+    go false = near-to u d l h
+
+sd-near : (u : ℕ) (w : List ℕ) (p d : ℕ) → 8 ≤ u → u ≤ 4096 → sdPast u w p d ≤ d + 4096
+unfolding sdPast ifEq
+sd-near u w p d l h = go (eqb (getD w (p + 6) 0) 0)
+  where
+    go : (b : Bool) → pick b d (alignTo u d) ≤ d + 4096
+    go true = omega arith
+    go false = near-to u d l h
+
+past-near : (u : ℕ) (s : List ℕ) (size : ℕ) (w f : List ℕ) (p d : ℕ) → 8 ≤ u → u ≤ 4096 → Within s size w f p
+    → pastIn u s size w f p d ≤ d + 10000000000000
+unfolding pastIn sdIn
+past-near u s size w f p d l h c =
+    let b : ℕ = firstIn u s size w p d in
+    let e : ℕ = blocksEndAt s size w p b in
+    omega (
+      arith,
+      first-near u s size w p d l h,
+      ends-near s size w p b (c .blocks) (c .payload),
+      sd-near u w p e l h,
+      signal-near w f p (sdPast u w p e) (c .signal),
+    )
+
+pub first-none : (u : ℕ) (s : List ℕ) (size : ℕ) (w : List ℕ) (p d : ℕ) {n : ℕ} → n ≡ blocksAt s size w p → n ≡ 0 → d ≡ firstIn u s size w p d
+unfolding firstIn
+first-none u s size w p d e z = eq-yes _ _ _ _ (sym e ∙ z) refl
+
+pub first-some : (u : ℕ) (s : List ℕ) (size : ℕ) (w : List ℕ) (p d : ℕ) {n r : ℕ} → n ≡ blocksAt s size w p → (n ≡ 0 → ⊥) → r ≡ alignTo u d
+    → r ≡ firstIn u s size w p d
+unfolding firstIn
+first-some u s size w p d e z r = eq-no _ _ _ _ (λ y. z (e ∙ y)) r
+
+pub sd-none : (u : ℕ) (w : List ℕ) (p d : ℕ) {n : ℕ} → n ≡ getD w (p + 6) 0 → n ≡ 0 → d ≡ sdPast u w p d
+unfolding sdPast
+sd-none u w p d e z = eq-yes _ _ _ _ (sym e ∙ z) refl
+
+pub sd-some : (u : ℕ) (w : List ℕ) (p d : ℕ) {n r : ℕ} → n ≡ getD w (p + 6) 0 → (n ≡ 0 → ⊥) → r ≡ alignTo u d → r ≡ sdPast u w p d
+unfolding sdPast
+sd-some u w p d e z r = eq-no _ _ _ _ (λ y. z (e ∙ y)) r
+
+pub record Placing (u : ℕ) (s : List ℕ) (size : ℕ) (w f : List ℕ) (n₀ a₀ d₀ : ℕ) (m₀ m : List ℕ) (p q n a d : ℕ) : Type 0 where
   pub at : p + 8 * n ≤ 4096
   pub to : q + 3 * n ≤ 8192
   pub same : length m ≡ length m₀
@@ -250,67 +306,83 @@ pub record Placing (s : List ℕ) (size : ℕ) (w f : List ℕ) (n₀ a₀ d₀ 
   pub near : a + n * 34359738744 ≤ 1143492093079552
   pub nearData : d + n * 10000000000000 ≤ 6245899906842624
   pub within : AllWithin s size w f p n
-  pub ends : dataIn s size w f p n d ≡ dataIn s size w f 0 n₀ d₀
-  pub words : blit q (placedIn s size w f p n a d) m ≡ blit 6656 (placedIn s size w f 0 n₀ a₀ d₀) m₀
+  pub ends : dataIn u s size w f p n d ≡ dataIn u s size w f 0 n₀ d₀
+  pub words : blit q (placedIn u s size w f p n a d) m ≡ blit 6656 (placedIn u s size w f 0 n₀ a₀ d₀) m₀
+  pub least : 8 ≤ u
+  pub most : u ≤ 4096
 
-pub place-begin : (s : List ℕ) (size : ℕ) (w f : List ℕ) (n a d : ℕ) (m : List ℕ) → n ≤ 512 → a ≤ 1125899906842624 → d ≤ 1125899906842624
-    → 8192 ≤ length m → AllWithin s size w f 0 n → Placing s size w f n a d m m 0 6656 n a d
-place-begin s size w f n a d m h i j l b =
-    record { at = omega arith; to = omega arith; same = refl; long = l; near = omega arith; nearData = omega arith; within = b; ends = refl; words = refl }
+pub place-begin : (u : ℕ) (s : List ℕ) (size : ℕ) (w f : List ℕ) (n a d : ℕ) (m : List ℕ) → n ≤ 512 → a ≤ 1125899906842624 → d ≤ 1125899906842624
+    → 8192 ≤ length m → AllWithin s size w f 0 n → 8 ≤ u → u ≤ 4096 → Placing u s size w f n a d m m 0 6656 n a d
+place-begin u s size w f n a d m h i j l b g k =
+    record { at = omega arith; to = omega arith; same = refl; long = l; near = omega arith; nearData = omega arith; within = b; ends = refl; words = refl; least = g; most = k }
 
-module _ {s : List ℕ} {size : ℕ} {w f : List ℕ} {n₀ a₀ d₀ : ℕ} {m₀ m : List ℕ} {p q n a d : ℕ} (u : Placing s size w f n₀ a₀ d₀ m₀ m p q n a d) where
-  pub place-ends : n ≡ 0 → d ≡ dataIn s size w f 0 n₀ d₀
-  place-ends e = sym (data-none s size w f p n d e) ∙ u .ends
+module _ {u : ℕ} {s : List ℕ} {size : ℕ} {w f : List ℕ} {n₀ a₀ d₀ : ℕ} {m₀ m : List ℕ} {p q n a d : ℕ} (t : Placing u s size w f n₀ a₀ d₀ m₀ m p q n a d) where
+  pub place-ends : n ≡ 0 → d ≡ dataIn u s size w f 0 n₀ d₀
+  place-ends e = sym (data-none u s size w f p n d e) ∙ t .ends
 
-  pub place-words : n ≡ 0 → m ≡ blit 6656 (placedIn s size w f 0 n₀ a₀ d₀) m₀
+  pub place-words : n ≡ 0 → m ≡ blit 6656 (placedIn u s size w f 0 n₀ a₀ d₀) m₀
   unfolding blit
-  place-words e = rw (placed-none s size w f p n a d e) at (u .words)
+  place-words e = rw (placed-none u s size w f p n a d e) at (t .words)
 
   module _ (h : 0 < n) where
     pub place-within : Within s size w f p
-    place-within = within-first (u .within) h
+    place-within = within-first (t .within) h
 
-    module _ {z : ℕ} (e : z ≡ blocksEndAt s size w p d) where
-      pub place-data : z ≤ d + 4501125726192
-      place-data = omega (arith, ends-near s size w p d (place-within .blocks) (place-within .payload))
+    pub place-room : {x : ℕ} → x ≡ structureAt s size w p → a + x + (n - 1) * 34359738744 ≤ 1143492093079552
+    place-room i = omega (arith, t .near, structure-near s size w p (place-within .blocks))
 
-      module _ {x : ℕ} (i : x ≡ structureAt s size w p) where
-        pub place-room : a + x + (n - 1) * 34359738744 ≤ 1143492093079552
-        place-room = omega (arith, u .near, structure-near s size w p (place-within .blocks))
+    module _ {b : ℕ} (o : b ≡ firstIn u s size w p d) where
+      pub place-first : b ≤ d + 4096
+      place-first = omega (arith, first-near u s size w p d (t .least) (t .most))
 
-        pub place-next : {y : ℕ} {m' : List ℕ} → m' ≡ blit q (a ∷ d ∷ z ∷ []) m → y ≡ signalEndAt w f p z
-            → Placing s size w f n₀ a₀ d₀ m₀ m' (p + 8) (q + 3) (n - 1) (a + x) y
-        place-next {y} {m'} k j =
-            let l : length m' ≡ length m = ap length k ∙ length-blit q (a ∷ d ∷ z ∷ []) m in
-            let g : y ≡ signalEndAt w f p (blocksEndAt s size w p d) = rw e at j in
-            let t : blit q (placedIn s size w f p n a d) m
-            ≡ blit (q + 3) (placedIn s size w f (p + 8) (n - 1) (a + structureAt s size w p) (signalEndAt w f p (blocksEndAt s size w p d)))
-            (blit q (a ∷ d ∷ blocksEndAt s size w p d ∷ []) m) =
-            ap (λ (v : List ℕ). blit q v m) (placed-cons s size w f p n a d h) ∙ blit-append (a ∷ d ∷ blocksEndAt s size w p d ∷ []) q _ m in
-            record {
-              at = omega (arith, u .at);
-              to = omega (arith, u .to);
-              same = l ∙ u .same;
-              long = omega (arith, l, u .long);
-              near = place-room;
-              nearData = omega (arith, u .nearData, place-data, j, signal-near w f p z (place-within .signal));
-              within = within-rest (u .within) h;
-              ends = rw g (sym (data-cons s size w f p n d h) ∙ u .ends);
-              words = rw (g, i, k, e) (sym t ∙ u .words);
-            }
+      module _ {v : ℕ} (e : v ≡ blocksEndAt s size w p b) where
+        pub place-data : v ≤ d + 4501125730288
+        place-data = omega (arith, place-first, ends-near s size w p b (place-within .blocks) (place-within .payload))
 
-pub data-near : (s : List ℕ) (size : ℕ) (w f : List ℕ) (p n d : ℕ) → AllWithin s size w f p n → dataIn s size w f p n d ≤ d + n * 10000000000000
+        module _ {z : ℕ} (g : z ≡ sdPast u w p v) where
+          pub place-sd : z ≤ d + 4501125734384
+          place-sd = omega (arith, place-data, sd-near u w p v (t .least) (t .most))
+
+          sd-is : z ≡ sdIn u s size w p d
+          unfolding sdIn
+          sd-is = g ∙ rw (e, o)
+
+          pub place-next : {x y : ℕ} {m' : List ℕ} → x ≡ structureAt s size w p → m' ≡ blit q (a ∷ b ∷ z ∷ []) m → y ≡ signalEndAt w f p z
+              → Placing u s size w f n₀ a₀ d₀ m₀ m' (p + 8) (q + 3) (n - 1) (a + x) y
+          unfolding pastIn
+          place-next {x} {y} {m'} i k j =
+              let l : length m' ≡ length m = ap length k ∙ length-blit q (a ∷ b ∷ z ∷ []) m in
+              let is : y ≡ pastIn u s size w f p d = rw sd-is at j in
+              let all : blit q (placedIn u s size w f p n a d) m
+              ≡ blit (q + 3) (placedIn u s size w f (p + 8) (n - 1) (a + structureAt s size w p) (pastIn u s size w f p d))
+              (blit q (a ∷ firstIn u s size w p d ∷ sdIn u s size w p d ∷ []) m) =
+              ap (λ (r : List ℕ). blit q r m) (placed-cons u s size w f p n a d h)
+              ∙ blit-append (a ∷ firstIn u s size w p d ∷ sdIn u s size w p d ∷ []) q _ m in
+              record {
+                at = omega (arith, t .at);
+                to = omega (arith, t .to);
+                same = l ∙ t .same;
+                long = omega (arith, l, t .long);
+                near = place-room i;
+                nearData = omega (arith, t .nearData, is, past-near u s size w f p d (t .least) (t .most) place-within);
+                within = within-rest (t .within) h;
+                ends = rw is (sym (data-cons u s size w f p n d h) ∙ t .ends);
+                words = rw (is, i, k, o, sd-is) (sym all ∙ t .words);
+                least = t .least;
+                most = t .most;
+              }
+
+pub data-near : (u : ℕ) (s : List ℕ) (size : ℕ) (w f : List ℕ) (p n d : ℕ) → 8 ≤ u → u ≤ 4096 → AllWithin s size w f p n
+    → dataIn u s size w f p n d ≤ d + n * 10000000000000
 unfolding dataIn
-data-near s size w f p zero d b = omega arith
-data-near s size w f p (suc n) d b =
+data-near u s size w f p zero d l h b = omega arith
+data-near u s size w f p (suc n) d l h b =
     let c = within-first b (omega arith) in
     let r : AllWithin s size w f (p + 8) n = rw (sub-one) at (within-rest b (omega arith)) in
-    let e : ℕ = blocksEndAt s size w p d in
     omega (
       arith,
-      ends-near s size w p d (c .blocks) (c .payload),
-      signal-near w f p (blocksEndAt s size w p d) (c .signal),
-      data-near s size w f (p + 8) n (signalEndAt w f p (blocksEndAt s size w p d)) r,
+      past-near u s size w f p d l h c,
+      data-near u s size w f (p + 8) n (pastIn u s size w f p d) l h r,
     )
 
 -- ---- copies for columns: what is left of them

@@ -10,6 +10,7 @@ use Rattle.plan.specs.Columns.{Column}
 use Rattle.plan.specs.Geometry.{align8}
 use Rattle.plan.specs.Copies.{Copies, copies, copyRoot, history, historyOf, Attached, attachmentsOf}
 use Rattle.work_words.specs.CopyWords.{attachmentWords, attachmentsAt, historyAt, placedAt, laidCopies}
+use Rattle.plan.specs.Rules.{Rules}
 use Rattle.plan.specs.Layout.{Layout, layout}
 use Rattle.placing.specs.declared.memo.Copying.{Copying}
 use Rattle.placing.specs.declared.history.Chain.{Chain}
@@ -49,13 +50,13 @@ Begins s m m' (chain.Refused number place) =
 abbrev pub metadataEndIn : List ℕ → ℕ → List ℕ → ℕ → Copying → ℕ
 metadataEndIn s size w n st = structuresIn s size w 0 n (align8 (st .next))
 
-abbrev pub attachedIn : List ℕ → ℕ → List ℕ → List ℕ → ℕ → List ℕ → Copying → Checked Attached
-attachedIn s size w f n m st =
-    attachmentsOf s (linkAt s 64 3) (copies (copiesIn m (st .used)) (dataIn s size w f 0 n (metadataEndIn s size w n st)))
+abbrev pub attachedIn : ℕ → List ℕ → ℕ → List ℕ → List ℕ → ℕ → List ℕ → Copying → Checked Attached
+attachedIn u s size w f n m st =
+    attachmentsOf s (linkAt s 64 3) (copies (copiesIn m (st .used)) (dataIn u s size w f 0 n (metadataEndIn s size w n st)))
 
-pub record Rested (s : List ℕ) (size : ℕ) (w f : List ℕ) (n : ℕ) (m m' : List ℕ) (st : Copying) (count end : ℕ) (t : Copying) : Type 0 where
+pub record Rested (u : ℕ) (s : List ℕ) (size : ℕ) (w f : List ℕ) (n : ℕ) (m m' : List ℕ) (st : Copying) (count end : ℕ) (t : Copying) : Type 0 where
   pub told : Attached
-  pub is : attachedIn s size w f n m st ≡ ok told
+  pub is : attachedIn u s size w f n m st ≡ ok told
   pub made : told .made ≡ standing m' t
   pub counted : length (told .attachments) ≡ count
   pub ends : end ≡ metadataEndIn s size w n st
@@ -63,11 +64,11 @@ pub record Rested (s : List ℕ) (size : ℕ) (w f : List ℕ) (n : ℕ) (m m' :
   pub more : st .used ≤ t .used
   pub most : t .used ≤ 2048
   pub past : Past (2 * t .used) (blit attachmentsAt (attachmentWords (told .attachments))
-      (blit placedAt (placedIn s size w f 0 n (align8 (st .next)) (metadataEndIn s size w n st)) m)) m'
+      (blit placedAt (placedIn u s size w f 0 n (align8 (st .next)) (metadataEndIn s size w n st)) m)) m'
 
-abbrev pub Rests : List ℕ → ℕ → List ℕ → List ℕ → ℕ → List ℕ → List ℕ → Copying → Rest → Type 0
-Rests s size w f n m m' st (rest.At count end t) = Rested s size w f n m m' st count end t
-Rests s size w f n m m' st (rest.Refused number place) = attachedIn s size w f n m st ≡ refused number place
+abbrev pub Rests : ℕ → List ℕ → ℕ → List ℕ → List ℕ → ℕ → List ℕ → List ℕ → Copying → Rest → Type 0
+Rests u s size w f n m m' st (rest.At count end t) = Rested u s size w f n m m' st count end t
+Rests u s size w f n m m' st (rest.Refused number place) = attachedIn u s size w f n m st ≡ refused number place
 
 -- ---- the whole
 
@@ -94,6 +95,10 @@ abbrev pub Lays : List ℕ → List ℕ → Laid → Checked Layout → Type 0
 Lays m m' (laid.Done r) v = LaidOut m m' r v
 Lays m m' (laid.Refused number place) v = v ≡ refused number place
 
+-- what placement takes of the choices
+abbrev pub onUnit : ℕ → Rules
+onUnit u = record { unit = u }
+
 -- of all columns that stand in the words
-pub record LaysOut (s : List ℕ) (size text : ℕ) (w f : List ℕ) (n : ℕ) (m m' : List ℕ) (r : Laid) : Type 0 where
-  pub is : (k : ℕ) (cs : List Column) → Columns w f k 0 cs → length cs ≡ n → Lays m m' r (layout s size text cs)
+pub record LaysOut (u : ℕ) (s : List ℕ) (size text : ℕ) (w f : List ℕ) (n : ℕ) (m m' : List ℕ) (r : Laid) : Type 0 where
+  pub is : (k : ℕ) (cs : List Column) → Columns w f k 0 cs → length cs ≡ n → Lays m m' r (layout (onUnit u) s size text cs)

@@ -34,7 +34,7 @@ use Rattle.placing.specs.WordsLaws.{all-placed}
 use Rattle.placing.specs.InWords.{structuresIn, dataIn, placedIn, copiesOf, AllWithin, Columns}
 use Rattle.placing.specs.InWordsLaws.{all-few, structures-near, data-near}
 use Rattle.placing.specs.ColumnsLaws.{structures-of, data-of, placed-of, copies-of}
-use Rattle.placing.specs.Laying.{start, FirstCopies, Begins, metadataEndIn, attachedIn, Rested, Rests, Numbered, LaysOut}
+use Rattle.placing.specs.Laying.{onUnit, start, FirstCopies, Begins, metadataEndIn, attachedIn, Rested, Rests, Numbered, LaysOut}
 
 pub md-bytes : (n : ℕ) {r : ℕ} → r ≡ align8 (24 + n + 1) → r ≡ mdSize n
 unfolding mdSize
@@ -93,18 +93,18 @@ first-near {count} {s} {m} {m'} {st} o i text j h =
     record { md-near = omega arith; near = omega arith; room = record { few = omega arith; near = omega arith } }
 
 -- ---- places of columns, then attachments
-module _ (s : List ℕ) (size : ℕ) (w f : List ℕ) (n : ℕ) (m : List ℕ) (st : Copying) {a e d l : ℕ} {m₁ : List ℕ}
-    (i : a ≡ align8 (st .next)) (j : e ≡ structuresIn s size w 0 n a) (k : d ≡ dataIn s size w f 0 n e)
-    (x : m₁ ≡ blit 6656 (placedIn s size w f 0 n a e) m) (y : l ≡ linkAt s 64 3) (few : st .used ≤ 2048) where
-  rest-is : attachmentsOf s l (standing m₁ (record { used = st .used; next = d })) ≡ attachedIn s size w f n m st
+module _ (u : ℕ) (s : List ℕ) (size : ℕ) (w f : List ℕ) (n : ℕ) (m : List ℕ) (st : Copying) {a e d l : ℕ} {m₁ : List ℕ}
+    (i : a ≡ align8 (st .next)) (j : e ≡ structuresIn s size w 0 n a) (k : d ≡ dataIn u s size w f 0 n e)
+    (x : m₁ ≡ blit 6656 (placedIn u s size w f 0 n a e) m) (y : l ≡ linkAt s 64 3) (few : st .used ≤ 2048) where
+  rest-is : attachmentsOf s l (standing m₁ (record { used = st .used; next = d })) ≡ attachedIn u s size w f n m st
   rest-is =
       let z : copiesIn m₁ (st .used) ≡ copiesIn m (st .used) =
-      ap (λ (v : List ℕ). copiesIn v (st .used)) x ∙ copies-blit (placedIn s size w f 0 n a e) m (st .used) 6656 (omega arith) in
+      ap (λ (v : List ℕ). copiesIn v (st .used)) x ∙ copies-blit (placedIn u s size w f 0 n a e) m (st .used) 6656 (omega arith) in
       rw (z, y, k, j, i)
 
   pub rest-moved : {m' : List ℕ} (r : Moved)
       → Moves m₁ m' (record { used = st .used; next = d }) r (attachmentsOf s l (standing m₁ (record { used = st .used; next = d })))
-      → {count : ℕ} {t : Copying} → r ≡ moved.At count t → Rests s size w f n m m' st (rest.At count e t)
+      → {count : ℕ} {t : Copying} → r ≡ moved.At count t → Rests u s size w f n m m' st (rest.At count e t)
   rest-moved {m'} r h {count} {t} q =
       let g = subst (λ (v : Moved). Moves m₁ m' (record { used = st .used; next = d }) v (attachmentsOf s l (standing m₁ (record { used = st .used; next = d })))) q h in
       let o = g .moving in
@@ -122,21 +122,21 @@ module _ (s : List ℕ) (size : ℕ) (w f : List ℕ) (n : ℕ) (m : List ℕ) (
 
   pub rest-refused : (m' : List ℕ) (r : Moved)
       → Moves m₁ m' (record { used = st .used; next = d }) r (attachmentsOf s l (standing m₁ (record { used = st .used; next = d })))
-      → {b p : ℕ} → r ≡ moved.Refused b p → Rests s size w f n m m' st (rest.Refused b p)
+      → {b p : ℕ} → r ≡ moved.Refused b p → Rests u s size w f n m m' st (rest.Refused b p)
   rest-refused m' r h q =
       sym rest-is ∙ subst (λ (v : Moved). Moves m₁ m' (record { used = st .used; next = d }) v (attachmentsOf s l (standing m₁ (record { used = st .used; next = d })))) q h
 
-pub rests-at : (s : List ℕ) (size : ℕ) (w f : List ℕ) (n : ℕ) (m m' : List ℕ) (st : Copying) (r : Rest) {count end : ℕ} {t : Copying}
-    → Rests s size w f n m m' st r → r ≡ rest.At count end t → Rested s size w f n m m' st count end t
-rests-at s size w f n m m' st r h e = subst (Rests s size w f n m m' st) e h
+pub rests-at : (u : ℕ) (s : List ℕ) (size : ℕ) (w f : List ℕ) (n : ℕ) (m m' : List ℕ) (st : Copying) (r : Rest) {count end : ℕ} {t : Copying}
+    → Rests u s size w f n m m' st r → r ≡ rest.At count end t → Rested u s size w f n m m' st count end t
+rests-at u s size w f n m m' st r h e = subst (Rests u s size w f n m m' st) e h
 
-pub rest-near : (s : List ℕ) (size : ℕ) (w f : List ℕ) (n : ℕ) (st : Copying) {a e d : ℕ} → a ≡ align8 (st .next) → e ≡ structuresIn s size w 0 n a
-    → d ≡ dataIn s size w f 0 n e → n ≤ 512 → st .next ≤ 562949953421312 → AllWithin s size w f 0 n
+pub rest-near : (u : ℕ) (s : List ℕ) (size : ℕ) (w f : List ℕ) (n : ℕ) (st : Copying) {a e d : ℕ} → a ≡ align8 (st .next) → e ≡ structuresIn s size w 0 n a
+    → d ≡ dataIn u s size w f 0 n e → n ≤ 512 → st .next ≤ 562949953421312 → AllWithin s size w f 0 n → 8 ≤ u → u ≤ 4096
     → (a ≤ 562949953421319) × (e ≤ 1125899906842624) × (d ≤ 576460752303423488)
-rest-near s size w f n st {a} {e} {d} i j k h l b =
+rest-near u s size w f n st {a} {e} {d} i j k h l b least most =
     let x = align-near (st .next) in
     let y = structures-near s size w 0 n a (all-few b) in
-    let z = data-near s size w f 0 n e b in
+    let z = data-near u s size w f 0 n e least most b in
     (omega arith, omega arith, omega arith)
 
 -- ---- the whole, from its stages
@@ -145,39 +145,39 @@ then-through : {A B C : Type 0} (x : Checked A) (f : A → Checked B) (g : A →
 then-through (ok v) f g e = rw e
 then-through {A} {B} {C} (refused n p) f g e = ap (λ (v : Checked B). andThen {B = C} v (λ _. refused 0 0)) e
 
-layout-first : (s : List ℕ) (size text : ℕ) (cs : List Column) {a b : ℕ}
-    → andThen (copyRoot s (linkAt s 64 5) (copies [] 168)) (λ x. historyOf s (linkAt s 64 1) x) ≡ refused a b → layout s size text cs ≡ refused a b
+layout-first : (u : ℕ) (s : List ℕ) (size text : ℕ) (cs : List Column) {a b : ℕ}
+    → andThen (copyRoot s (linkAt s 64 5) (copies [] 168)) (λ x. historyOf s (linkAt s 64 1) x) ≡ refused a b → layout (onUnit u) s size text cs ≡ refused a b
 unfolding layout
-layout-first s size text cs e = then-through (copyRoot s (linkAt s 64 5) (copies [] 168)) (λ x. historyOf s (linkAt s 64 1) x) _ e
+layout-first u s size text cs e = then-through (copyRoot s (linkAt s 64 5) (copies [] 168)) (λ x. historyOf s (linkAt s 64 1) x) _ e
 
-layoutOf : List ℕ → ℕ → ℕ → List Column → Copies → History → Copies → Attached → Layout
-layoutOf s size text cs m0 h m2 t =
+layoutOf : ℕ → List ℕ → ℕ → ℕ → List Column → Copies → History → Copies → Attached → Layout
+layoutOf u s size text cs m0 h m2 t =
     record {
       comment = m0;
       past = h;
       md = pastCopies (h .made);
       fh = fhPlace (h .made) text;
       metadata = m2;
-      placed = placedFrom s size (pastCopies m2) (structureEnd s size (pastCopies m2) cs) cs;
+      placed = placedFrom (onUnit u) s size (pastCopies m2) (structureEnd s size (pastCopies m2) cs) cs;
       metadataEnd = structureEnd s size (pastCopies m2) cs;
       attached = t;
       fileSize = t .made .next;
     }
 
-layoutRest : List ℕ → ℕ → ℕ → List Column → Copies → History → Copies → Checked Layout
-layoutRest s size text cs m0 h m2 =
-    andThen (attachmentsOf s (linkAt s 64 3) (copies (m2 .memo) (dataEnd s size (structureEnd s size (pastCopies m2) cs) cs)))
-    (λ t. ok (layoutOf s size text cs m0 h m2 t))
+layoutRest : ℕ → List ℕ → ℕ → ℕ → List Column → Copies → History → Copies → Checked Layout
+layoutRest u s size text cs m0 h m2 =
+    andThen (attachmentsOf s (linkAt s 64 3) (copies (m2 .memo) (dataEnd (onUnit u) s size (structureEnd s size (pastCopies m2) cs) cs)))
+    (λ t. ok (layoutOf u s size text cs m0 h m2 t))
 
-layout-next : (s : List ℕ) (size text : ℕ) (cs : List Column) {m0 : Copies} {h : History} → copyRoot s (linkAt s 64 5) (copies [] 168) ≡ ok m0
+layout-next : (u : ℕ) (s : List ℕ) (size text : ℕ) (cs : List Column) {m0 : Copies} {h : History} → copyRoot s (linkAt s 64 5) (copies [] 168) ≡ ok m0
     → historyOf s (linkAt s 64 1) m0 ≡ ok h
-    → layout s size text cs ≡ andThen (columnCopies s cs (copies (h .made .memo) (fhPlace (h .made) text + 56))) (λ m2. layoutRest s size text cs m0 h m2)
+    → layout (onUnit u) s size text cs ≡ andThen (columnCopies s cs (copies (h .made .memo) (fhPlace (h .made) text + 56))) (λ m2. layoutRest u s size text cs m0 h m2)
 unfolding layout layoutRest layoutOf
-layout-next s size text cs a b = rw (a, b)
+layout-next u s size text cs a b = rw (a, b)
 
-module _ (s : List ℕ) (size text : ℕ) (w f : List ℕ) (n : ℕ) (m : List ℕ) where
-  pub whole-first : (m' : List ℕ) {m'' : List ℕ} (g : Chain) {a b : ℕ} → Begins s m m' g → g ≡ chain.Refused a b → LaysOut s size text w f n m m'' (laid.Refused a b)
-  whole-first m' g h e = record { is = λ k cs x l. layout-first s size text cs (subst (Begins s m m') e h) }
+module _ (u : ℕ) (s : List ℕ) (size text : ℕ) (w f : List ℕ) (n : ℕ) (m : List ℕ) where
+  pub whole-first : (m' : List ℕ) {m'' : List ℕ} (g : Chain) {a b : ℕ} → Begins s m m' g → g ≡ chain.Refused a b → LaysOut u s size text w f n m m'' (laid.Refused a b)
+  whole-first m' g h e = record { is = λ k cs x l. layout-first u s size text cs (subst (Begins s m m') e h) }
 
   module _ {count : ℕ} {m₁ : List ℕ} {st : Copying} (o : FirstCopies count s m m₁ st) {md x : ℕ} (i : md ≡ align8 (st .next)) (j : x ≡ mdSize text)
       {m₂ : List ℕ} {g : Got} (c : Copied m₁ m₂ g (copiesOf s w 0 n (standing m₁ (record { used = st .used; next = md + x + 56 })))) where
@@ -188,12 +188,12 @@ module _ (s : List ℕ) (size text : ℕ) (w f : List ℕ) (n : ℕ) (m : List �
       columns-is = rw (← l, i, j) (copies-of s size w f k 0 cs (copies (copiesIn m₁ (st .used)) (align8 (st .next) + mdSize text + 56)) z)
 
       columns-next : {v : Checked Copies} → v ≡ copiesOf s w 0 n (standing m₁ (record { used = st .used; next = md + x + 56 }))
-          → layout s size text cs ≡ andThen v (λ m2. layoutRest s size text cs (o .comment) (history (chainIn m₁ count) (standing m₁ st)) m2)
+          → layout (onUnit u) s size text cs ≡ andThen v (λ m2. layoutRest u s size text cs (o .comment) (history (chainIn m₁ count) (standing m₁ st)) m2)
       columns-next e =
-          layout-next s size text cs (o .isComment) (o .isPast)
-          ∙ ap (λ (v : Checked Copies). andThen v (λ m2. layoutRest s size text cs (o .comment) (history (chainIn m₁ count) (standing m₁ st)) m2)) (sym (e ∙ columns-is))
+          layout-next u s size text cs (o .isComment) (o .isPast)
+          ∙ ap (λ (v : Checked Copies). andThen v (λ m2. layoutRest u s size text cs (o .comment) (history (chainIn m₁ count) (standing m₁ st)) m2)) (sym (e ∙ columns-is))
 
-    pub whole-columns : {m' : List ℕ} {a b : ℕ} → g ≡ got.Refused a b → LaysOut s size text w f n m m' (laid.Refused a b)
+    pub whole-columns : {m' : List ℕ} {a b : ℕ} → g ≡ got.Refused a b → LaysOut u s size text w f n m m' (laid.Refused a b)
     whole-columns e = record { is = λ k cs z l. columns-next k cs z l (copied-refused c e) }
 
     module _ {t : Copying} (e : g ≡ got.At t) where
@@ -202,66 +202,66 @@ module _ (s : List ℕ) (size text : ℕ) (w f : List ℕ) (n : ℕ) (m : List �
       ends-is k cs z l = rw (← l) (structures-of s size w f k 0 (align8 (t .next)) cs z)
 
       rest-of : (k : ℕ) (cs : List Column) → Columns w f k 0 cs → length cs ≡ n
-          → attachedIn s size w f n m₂ t
-          ≡ attachmentsOf s (linkAt s 64 3) (copies (copiesIn m₂ (t .used)) (dataEnd s size (structureEnd s size (pastCopies (standing m₂ t)) cs) cs))
+          → attachedIn u s size w f n m₂ t
+          ≡ attachmentsOf s (linkAt s 64 3) (copies (copiesIn m₂ (t .used)) (dataEnd (onUnit u) s size (structureEnd s size (pastCopies (standing m₂ t)) cs) cs))
       rest-of k cs z l =
-          let d : dataIn s size w f 0 n (metadataEndIn s size w n t) ≡ dataEnd s size (structureEnd s size (pastCopies (standing m₂ t)) cs) cs =
-          ap (dataIn s size w f 0 n) (ends-is k cs z l) ∙ rw (← l) (data-of s size w f k 0 (structureEnd s size (pastCopies (standing m₂ t)) cs) cs z) in
+          let d : dataIn u s size w f 0 n (metadataEndIn s size w n t) ≡ dataEnd (onUnit u) s size (structureEnd s size (pastCopies (standing m₂ t)) cs) cs =
+          ap (dataIn u s size w f 0 n) (ends-is k cs z l) ∙ rw (← l) (data-of s size w f (onUnit u) k 0 (structureEnd s size (pastCopies (standing m₂ t)) cs) cs z) in
           rw d
 
-      pub whole-rest : {m' : List ℕ} (r : Rest) {a b : ℕ} → Rests s size w f n m₂ m' t r → r ≡ rest.Refused a b → LaysOut s size text w f n m m' (laid.Refused a b)
+      pub whole-rest : {m' : List ℕ} (r : Rest) {a b : ℕ} → Rests u s size w f n m₂ m' t r → r ≡ rest.Refused a b → LaysOut u s size text w f n m m' (laid.Refused a b)
       unfolding layoutRest
       whole-rest {m'} r h q = record {
         is = λ k cs z l.
-            let v = subst (Rests s size w f n m₂ m' t) q h in
+            let v = subst (Rests u s size w f n m₂ m' t) q h in
             columns-next k cs z l (copied-at c e .0) ∙ rw (← rest-of k cs z l, v);
       }
 
-      module _ {m₃ : List ℕ} {ats end : ℕ} {u : Copying} (q : Rested s size w f n m₂ m₃ t ats end u)
+      module _ {m₃ : List ℕ} {ats end : ℕ} {v : Copying} (q : Rested u s size w f n m₂ m₃ t ats end v)
           (same₁ : length m₁ ≡ length m) (same₂ : length m₂ ≡ length m₁) (same₃ : length m₃ ≡ length m₂) (long : 8192 ≤ length m)
           (after : AfterGot g (record { used = st .used; next = md + x + 56 })) where
-        past-all : Past (2 * u .used) (blit attachmentsAt (attachmentWords (q .told .attachments))
-            (blit placedAt (placedIn s size w f 0 n (align8 (t .next)) (metadataEndIn s size w n t)) (blit historyAt (chainIn m₁ count) m))) m₃
+        past-all : Past (2 * v .used) (blit attachmentsAt (attachmentWords (q .told .attachments))
+            (blit placedAt (placedIn u s size w f 0 n (align8 (t .next)) (metadataEndIn s size w n t)) (blit historyAt (chainIn m₁ count) m))) m₃
         past-all =
             let y = after-at after e in
             let p : Past (2 * t .used) (blit historyAt (chainIn m₁ count) m) m₂ =
             past-then (past-more _ (omega (arith, y .more)) (o .past)) (copied-at c e .1) in
             past-then
             (past-blit (attachmentWords (q .told .attachments)) 4096 (omega (arith, q .most))
-            (past-blit (placedIn s size w f 0 n (align8 (t .next)) (metadataEndIn s size w n t)) 6656 (omega (arith, q .most))
+            (past-blit (placedIn u s size w f 0 n (align8 (t .next)) (metadataEndIn s size w n t)) 6656 (omega (arith, q .most))
             (past-more _ (omega (arith, q .more)) p)))
             (q .past)
 
         chain-long : length (chainIn m₁ count) ≡ count
         chain-long = length-part 4352 count m₁ (omega (arith, o .few))
 
-        words-all : m₃ ≡ blit placedAt (placedIn s size w f 0 n (align8 (t .next)) (metadataEndIn s size w n t))
+        words-all : m₃ ≡ blit placedAt (placedIn u s size w f 0 n (align8 (t .next)) (metadataEndIn s size w n t))
             (blit historyAt (chainIn m₁ count) (blit attachmentsAt (attachmentWords (q .told .attachments)) (blit 0 (copyWords (q .told .made .memo)) m)))
         words-all =
-            rw (q .made) (all-placed m m₃ (u .used) (chainIn m₁ count) (q .told .attachments)
-            (placedIn s size w f 0 n (align8 (t .next)) (metadataEndIn s size w n t)) (omega arith) (omega arith) (q .most)
+            rw (q .made) (all-placed m m₃ (v .used) (chainIn m₁ count) (q .told .attachments)
+            (placedIn u s size w f 0 n (align8 (t .next)) (metadataEndIn s size w n t)) (omega arith) (omega arith) (q .most)
             (omega (arith, q .counted, q .few)) (omega (arith, chain-long, o .few)) past-all)
 
         placed-is : (k : ℕ) (cs : List Column) → Columns w f k 0 cs → length cs ≡ n
-            → placedIn s size w f 0 n (align8 (t .next)) (metadataEndIn s size w n t)
-            ≡ placedWords (placedFrom s size (pastCopies (standing m₂ t)) (structureEnd s size (pastCopies (standing m₂ t)) cs) cs)
+            → placedIn u s size w f 0 n (align8 (t .next)) (metadataEndIn s size w n t)
+            ≡ placedWords (placedFrom (onUnit u) s size (pastCopies (standing m₂ t)) (structureEnd s size (pastCopies (standing m₂ t)) cs) cs)
         unfolding pastCopies
         placed-is k cs z l =
-            ap (placedIn s size w f 0 n (align8 (t .next))) (ends-is k cs z l)
-            ∙ rw (← l) (placed-of s size w f k 0 (align8 (t .next)) (structureEnd s size (align8 (t .next)) cs) cs z)
+            ap (placedIn u s size w f 0 n (align8 (t .next))) (ends-is k cs z l)
+            ∙ rw (← l) (placed-of s size w f (onUnit u) k 0 (align8 (t .next)) (structureEnd s size (align8 (t .next)) cs) cs z)
 
         numbers-all : (k : ℕ) (cs : List Column) → Columns w f k 0 cs → length cs ≡ n
-            → Numbered (layoutOf s size text cs (o .comment) (history (chainIn m₁ count) (standing m₁ st)) (standing m₂ t) (q .told)) m m₃
+            → Numbered (layoutOf u s size text cs (o .comment) (history (chainIn m₁ count) (standing m₁ st)) (standing m₂ t) (q .told)) m m₃
             (record {
               history = st .used;
               chain = count;
               md = md;
               fh = md + x;
               metadata = t .used;
-              copies = u .used;
+              copies = v .used;
               attachments = ats;
               «metadata_end» = end;
-              «file_size» = u .next;
+              «file_size» = v .next;
             })
         unfolding layoutOf laidCopies pastCopies fhPlace
         numbers-all k cs z l =
@@ -271,7 +271,7 @@ module _ (s : List ℕ) (size text : ℕ) (w f : List ℕ) (n : ℕ) (m : List �
               md = i;
               fh = rw (i, j);
               metadata = sym (length-copies m₂ 0 (t .used));
-              copies = sym (ap (λ (y : Copies). length (y .memo)) (q .made) ∙ length-copies m₃ 0 (u .used));
+              copies = sym (ap (λ (y : Copies). length (y .memo)) (q .made) ∙ length-copies m₃ 0 (v .used));
               attachments = sym (q .counted);
               metadataEnd = q .ends ∙ ends-is k cs z l;
               fileSize = sym (ap (λ (y : Copies). y .next) (q .made));
@@ -279,21 +279,21 @@ module _ (s : List ℕ) (size text : ℕ) (w f : List ℕ) (n : ℕ) (m : List �
                   (blit attachmentsAt (attachmentWords (q .told .attachments)) (blit 0 (copyWords (q .told .made .memo)) m)))) (placed-is k cs z l);
             }
 
-        pub whole-done : LaysOut s size text w f n m m₃ (laid.Done (record {
+        pub whole-done : LaysOut u s size text w f n m m₃ (laid.Done (record {
           history = st .used;
           chain = count;
           md = md;
           fh = md + x;
           metadata = t .used;
-          copies = u .used;
+          copies = v .used;
           attachments = ats;
           «metadata_end» = end;
-          «file_size» = u .next;
+          «file_size» = v .next;
         }))
         unfolding layoutRest
         whole-done = record {
           is = λ k cs z l. record {
-            told = layoutOf s size text cs (o .comment) (history (chainIn m₁ count) (standing m₁ st)) (standing m₂ t) (q .told);
+            told = layoutOf u s size text cs (o .comment) (history (chainIn m₁ count) (standing m₁ st)) (standing m₂ t) (q .told);
             is = columns-next k cs z l (copied-at c e .0) ∙ rw (← rest-of k cs z l, q .is);
             numbered = numbers-all k cs z l;
           };

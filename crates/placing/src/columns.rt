@@ -12,9 +12,10 @@ ghost use Prim.Native.Nat.{_+_, _*_, _≤_, _<_};
 ghost use lib.ListN.{length, getD};
 ghost use Rattle.base.specs.Blit.{blit};
 ghost use Rattle.plan.specs.Layout.{dlSize};
+ghost use Rattle.plan.specs.Geometry.{alignTo};
 ghost use Rattle.placing.specs.Standing.{standing, Room};
 ghost use Rattle.placing.specs.Got.{Copied, AfterGot};
-ghost use Rattle.placing.specs.InWords.{blocksAt, payloadAt, cgBytes, structureAt, blocksEndAt, signalAt, signalEndAt};
+ghost use Rattle.placing.specs.InWords.{blocksAt, payloadAt, cgBytes, structureAt, firstIn, blocksEndAt, sdPast, signalAt, signalEndAt};
 ghost use Rattle.placing.specs.InWords.{structuresIn, dataIn, placedIn, copiesOf, AllWithin, AllFew};
 
 // Word i, 0 past the end.
@@ -80,6 +81,36 @@ fn blocks_end(image: &[u8], size: u64, columns: &[u64], p: u64, d: u64) -> u64
     aligned(d + (24 * blocks + payload))
 }
 
+// The next multiple of a unit, from x on.
+fn aligned_to(unit: u64, x: u64) -> u64
+    requires { ⌜ (8 ≤ unit) × (unit ≤ 4096) × (x ≤ 1152921504606846976) ⌝ }
+    ensures { λ r. ⌜ r ≡ alignTo unit x ⌝ }
+{
+    (x + (unit - 1)) / unit * unit
+}
+
+// Where its data blocks begin, past d: on a unit, if there are any.
+fn first_of(image: &[u8], unit: u64, size: u64, columns: &[u64], p: u64, d: u64) -> u64
+    requires { ⌜ (p ≤ 4096) × (d ≤ 1152921504606846976) × (8 ≤ unit) × (unit ≤ 4096) ⌝ }
+    ensures { λ r. ⌜ r ≡ firstIn unit (now (image .entry)) size (now (columns .entry)) p d ⌝ }
+{
+    if blocks_at(image, size, columns, p) == 0 {
+        return d;
+    }
+    aligned_to(unit, d)
+}
+
+// Where its SD begins, past d: on a unit, if there is one.
+fn sd_of(unit: u64, columns: &[u64], p: u64, d: u64) -> u64
+    requires { ⌜ (p ≤ 4096) × (d ≤ 1152921504606846976) × (8 ≤ unit) × (unit ≤ 4096) ⌝ }
+    ensures { λ r. ⌜ r ≡ sdPast unit (now (columns .entry)) p d ⌝ }
+{
+    if word(columns, p + 6) == 0 {
+        return d;
+    }
+    aligned_to(unit, d)
+}
+
 // Past its SD, which begins at d.
 fn signal_end(fragments: &[u64], columns: &[u64], p: u64, d: u64) -> u64
     requires { ⌜ (p ≤ 4096) × (d ≤ 1152921504606846976)
@@ -123,6 +154,7 @@ fn put_place(memo: &mut [u64], q: usize, dg: u64, first: u64, sd: u64)
 // The places of n columns, whose DG begin at a and whose data begin at d, in the words from 6656 on; past their data.
 pub(crate) fn place_columns(
     image: &[u8],
+    unit: u64,
     size: u64,
     fragments: &[u64],
     columns: &[u64],
@@ -132,25 +164,27 @@ pub(crate) fn place_columns(
     d: u64,
 ) -> u64
     requires { ⌜ (n ≤ 512) × (a ≤ 1125899906842624) × (d ≤ 1125899906842624) × (8192 ≤ length (now memo))
-        × AllWithin (now image) size (now columns) (now fragments) 0 n ⌝ }
-    ensures end { λ r. ⌜ r ≡ dataIn (now (image .entry)) size (now (columns .entry)) (now (fragments .entry)) 0 n d ⌝ }
-    ensures words { λ r. ⌜ now (memo .exit) ≡ blit 6656 (placedIn (now (image .entry)) size (now (columns .entry)) (now (fragments .entry)) 0 n a d) (now (memo .entry)) ⌝ }
+        × AllWithin (now image) size (now columns) (now fragments) 0 n × (8 ≤ unit) × (unit ≤ 4096) ⌝ }
+    ensures end { λ r. ⌜ r ≡ dataIn unit (now (image .entry)) size (now (columns .entry)) (now (fragments .entry)) 0 n d ⌝ }
+    ensures words { λ r. ⌜ now (memo .exit) ≡ blit 6656 (placedIn unit (now (image .entry)) size (now (columns .entry)) (now (fragments .entry)) 0 n a d) (now (memo .entry)) ⌝ }
 {
     let mut p: u64 = 0;
     let mut q: usize = 6656;
     let mut left = n;
     let mut dg = a;
-    let mut first = d;
+    let mut past = d;
     while 0 < left {
-        let sd = blocks_end(image, size, columns, p, first);
+        let first = first_of(image, unit, size, columns, p, past);
+        let end = blocks_end(image, size, columns, p, first);
+        let sd = sd_of(unit, columns, p, end);
         put_place(memo, q, dg, first, sd);
         dg += structure_at(image, size, columns, p);
-        first = signal_end(fragments, columns, p, sd);
+        past = signal_end(fragments, columns, p, sd);
         q += 3;
         p += 8;
         left -= 1;
     }
-    first
+    past
 }
 
 // The blocks that n columns refer to, and all that they link to, in order.

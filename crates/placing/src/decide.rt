@@ -2,6 +2,8 @@
 use crate::layout::Laid;
 use crate::layout::Numbers;
 use crate::layout::lay_out;
+use choices::Choices;
+use choices::choices_in;
 use fields::Check;
 use fields::u64_at;
 use planning::recording::Planned;
@@ -32,7 +34,7 @@ pub enum Decision {
 
 // 1: the identification is 64 bytes that begin with `MDF`, five blanks, `4.20`, four blanks; the history text has at most 4,096 bytes.
 pub fn lent_in(ident: &[u8], text: &[u8]) -> Check
-    ensures { λ r. ⌜ verdictOf r ≡ lentIn (untimed [] 0 (now (ident .entry)) (now (text .entry))) ⌝ }
+    ensures { λ r. ⌜ verdictOf r ≡ lentIn (untimed [] 0 (now (ident .entry)) (now (text .entry)) (record { unit = 8 })) ⌝ }
 {
     if ident.len() != 64 {
         return Check::Refused {
@@ -61,11 +63,12 @@ pub fn lent_in(ident: &[u8], text: &[u8]) -> Check
     Check::Fine
 }
 
-// 2, 3, then the plan and the layout, for a history text of so many bytes.
+// 2, 26, 3, then the plan and the layout, for a history text of so many bytes.
 fn decide_rest(
     image: &[u8],
     size: u64,
     text: u64,
+    choices: Choices,
     source: &mut [u64],
     fragments: &mut [u64],
     columns: &mut [u64],
@@ -73,7 +76,7 @@ fn decide_rest(
 ) -> Decision
     requires { ⌜ (8192 ≤ length (now source)) × (8192 ≤ length (now fragments)) × (8192 ≤ length (now columns)) × (8192 ≤ length (now copies))
         × (text ≤ 4096) ⌝ }
-    ensures { λ r. ⌜ DecidesRest (now (image .entry)) size text
+    ensures { λ r. ⌜ DecidesRest (choices .unit) (now (image .entry)) size text
         (now (source .entry)) (now (fragments .entry)) (now (columns .entry)) (now (copies .entry)) r
         (now (source .exit)) (now (fragments .exit)) (now (columns .exit)) (now (copies .exit)) ⌝ }
 {
@@ -82,6 +85,10 @@ fn decide_rest(
             number: 2,
             place: 0,
         };
+    }
+    let chosen = choices_in(choices);
+    if let Check::Refused { number, place } = chosen {
+        return Decision::Refused { number, place };
     }
     if 4294967296 < (image.len() as u64) {
         return Decision::Refused {
@@ -98,7 +105,7 @@ fn decide_rest(
             columns: n,
             omissions,
         } => {
-            let laid = lay_out(image, size, text, fragments, columns, n, copies);
+            let laid = lay_out(image, choices.unit, size, text, fragments, columns, n, copies);
             match laid {
                 Laid::Refused { number, place } => Decision::Refused { number, place },
                 Laid::Done(numbers) => Decision::Done {
@@ -119,12 +126,13 @@ pub fn decide(
     size: u64,
     ident: &[u8],
     text: &[u8],
+    choices: Choices,
     source: &mut [u64],
     fragments: &mut [u64],
     columns: &mut [u64],
     copies: &mut [u64],
 ) -> Decision
-    ensures { λ r. ⌜ Decides (untimed (now (image .entry)) size (now (ident .entry)) (now (text .entry)))
+    ensures { λ r. ⌜ Decides (untimed (now (image .entry)) size (now (ident .entry)) (now (text .entry)) choices)
         (now (source .entry)) (now (fragments .entry)) (now (columns .entry)) (now (copies .entry)) r
         (now (source .exit)) (now (fragments .exit)) (now (columns .exit)) (now (copies .exit)) ⌝ }
 {
@@ -160,6 +168,7 @@ pub fn decide(
         image,
         size,
         text.len() as u64,
+        choices,
         source,
         fragments,
         columns,

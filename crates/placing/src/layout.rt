@@ -83,6 +83,7 @@ fn first_copies(image: &[u8], memo: &mut [u64]) -> Chain
 // After the columns' metadata: places of columns, then attachments.
 fn place_rest(
     image: &[u8],
+    unit: u64,
     size: u64,
     fragments: &[u64],
     columns: &[u64],
@@ -91,12 +92,12 @@ fn place_rest(
     state: Copying,
 ) -> Rest
     requires { ⌜ (n ≤ 512) × (8192 ≤ length (now memo)) × (length (now image) ≤ 4294967296) × (state .used ≤ 2048)
-        × (state .next ≤ 562949953421312) × AllWithin (now image) size (now columns) (now fragments) 0 n ⌝ }
-    ensures { λ r. ⌜ Rests (now (image .entry)) size (now (columns .entry)) (now (fragments .entry)) n (now (memo .entry)) (now (memo .exit)) state r ⌝ }
+        × (state .next ≤ 562949953421312) × AllWithin (now image) size (now columns) (now fragments) 0 n × (8 ≤ unit) × (unit ≤ 4096) ⌝ }
+    ensures { λ r. ⌜ Rests unit (now (image .entry)) size (now (columns .entry)) (now (fragments .entry)) n (now (memo .entry)) (now (memo .exit)) state r ⌝ }
 {
     let a = aligned(state.next);
     let end = structure_end(image, size, columns, n, a);
-    let data = place_columns(image, size, fragments, columns, n, memo, a, end);
+    let data = place_columns(image, unit, size, fragments, columns, n, memo, a, end);
     let moved = attachments(
         image,
         memo,
@@ -116,9 +117,10 @@ fn place_rest(
     }
 }
 
-// The layout of n columns for a block size and a history text of so many bytes.
+// The layout of n columns for a unit, a block size and a history text of so many bytes.
 pub(crate) fn lay_out(
     image: &[u8],
+    unit: u64,
     size: u64,
     text: u64,
     fragments: &[u64],
@@ -127,8 +129,8 @@ pub(crate) fn lay_out(
     memo: &mut [u64],
 ) -> Laid
     requires { ⌜ (n ≤ 512) × (8192 ≤ length (now memo)) × (length (now image) ≤ 4294967296) × (text ≤ 4096)
-        × AllWithin (now image) size (now columns) (now fragments) 0 n ⌝ }
-    ensures { λ r. ⌜ LaysOut (now (image .entry)) size text (now (columns .entry)) (now (fragments .entry)) n (now (memo .entry)) (now (memo .exit)) r ⌝ }
+        × AllWithin (now image) size (now columns) (now fragments) 0 n × (8 ≤ unit) × (unit ≤ 4096) ⌝ }
+    ensures { λ r. ⌜ LaysOut unit (now (image .entry)) size text (now (columns .entry)) (now (fragments .entry)) n (now (memo .entry)) (now (memo .exit)) r ⌝ }
 {
     let begun = first_copies(image, memo);
     match begun {
@@ -147,7 +149,7 @@ pub(crate) fn lay_out(
             );
             match got {
                 Got::At(t) => {
-                    let rest = place_rest(image, size, fragments, columns, n, memo, t);
+                    let rest = place_rest(image, unit, size, fragments, columns, n, memo, t);
                     match rest {
                         Rest::At {
                             count: attached,

@@ -6,6 +6,10 @@ use Rattle.base.specs.Choice.{ifLe, ifEq}
 unfoldable pub align8 : ℕ → ℕ
 align8 x = (x + 7) / 8 * 8
 
+-- "the next multiple of it", of a unit (document 02, request 5)
+unfoldable pub alignTo : ℕ → ℕ → ℕ
+alignTo u x = (x + (u - 1)) / u * u
+
 -- "the largest power of two, at most 8, that divides the width"
 unfoldable pub powerIn : ℕ → ℕ
 powerIn w = ifEq (w % 8) 0 8 (ifEq (w % 4) 0 4 (ifEq (w % 2) 0 2 1))

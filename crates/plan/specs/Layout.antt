@@ -10,7 +10,8 @@ use Rattle.mdf.specs.Block.{linkAt}
 use Rattle.mdf.specs.Records.{sizeOf}
 use Rattle.plan.specs.Channel.{width}
 use Rattle.plan.specs.Columns.{Column, Signal, noSignal, signalData}
-use Rattle.plan.specs.Geometry.{align8, blockCount}
+use Rattle.plan.specs.Geometry.{align8, alignTo, blockCount}
+use Rattle.plan.specs.Rules.{Rules}
 use Rattle.plan.specs.Copies.{Copies, copies, copyRoot, History, historyOf, columnCopies, Attached, attachmentsOf}
 
 -- ---- one column
@@ -45,18 +46,65 @@ structureSize s size c = 64 + cgSize (c .master) + 160 + dlSize (columnBlocks s 
 unfoldable pub payloadSize : List ℕ → Column → ℕ
 payloadSize s c = columnWidth s c * c .group .records
 
+-- ---- placement, by sizes alone
+
+-- bookkeeping: the bytes of a column's DG, CG, CN and DL; the number of its data blocks and the bytes of their payloads; those of its SD's
+-- data, if it has one
+pub record Sizes : Type 0 where
+  pub structure : ℕ
+  pub blocks : ℕ
+  pub payload : ℕ
+  pub signal : Option ℕ
+
+-- bookkeeping: the places of its DG, of its first data block and of its SD; CG, CN and DL follow the DG
+pub record Places : Type 0 where
+  pub dg : ℕ
+  pub first : ℕ
+  pub sd : ℕ
+
+-- "each column's first data block .. starts on the next multiple" of the unit u (document 02, request 5), past d; without blocks nothing moves
+unfoldable pub firstAt : ℕ → Sizes → ℕ → ℕ
+firstAt u z d = ifEq (z .blocks) 0 d (alignTo u d)
+
 -- "its blocks, 24 + payload apart": past them, which begin at d
-unfoldable pub blocksEnd : List ℕ → ℕ → Column → ℕ → ℕ
-blocksEnd s size c d = align8 (d + (24 * columnBlocks s size c + payloadSize s c))
+unfoldable pub blocksEnd : Sizes → ℕ → ℕ
+blocksEnd z d = align8 (d + (24 * z .blocks + z .payload))
+
+-- "and each SD block starts on the next multiple" of the unit (document 02, request 5), past d
+abbrev pub signalAt : ℕ → Option ℕ → ℕ → ℕ
+signalAt u none d = d
+signalAt u (some n) d = alignTo u d
 
 -- "and its SD": past it, which begins at d
-abbrev pub signalEnd : Signal → ℕ → ℕ
-signalEnd noSignal d = d
-signalEnd (signalData fs) d = align8 (d + (24 + sizeOf fs))
+abbrev pub signalEnd : Option ℕ → ℕ → ℕ
+signalEnd none d = d
+signalEnd (some n) d = align8 (d + (24 + n))
+
+-- "Then per column its blocks, 24 + payload apart, and its SD": from d on
+abbrev pub placesAt : ℕ → ℕ → ℕ → Sizes → Places
+placesAt u a d z = record { dg = a; first = firstAt u z d; sd = signalAt u (z .signal) (blocksEnd z (firstAt u z d)) }
+
+abbrev pub pastData : ℕ → Sizes → ℕ → ℕ
+pastData u z d = signalEnd (z .signal) (signalAt u (z .signal) (blocksEnd z (firstAt u z d)))
+
+-- "Then per column DG ..; Then per column its blocks .. and its SD": from a on the blocks that make up columns, from d on their data
+unfoldable pub placesFrom : ℕ → ℕ → ℕ → List Sizes → List Places
+placesFrom u a d [] = []
+placesFrom u a d (z ∷ zs) = placesAt u a d z ∷ placesFrom u (a + z .structure) (pastData u z d) zs
+
+-- "the metadata's end": past the blocks that make up columns
+unfoldable pub structuresEnd : ℕ → List Sizes → ℕ
+structuresEnd a [] = a
+structuresEnd a (z ∷ zs) = structuresEnd (a + z .structure) zs
+
+-- bookkeeping: past the data of columns
+unfoldable pub placesEnd : ℕ → ℕ → List Sizes → ℕ
+placesEnd u d [] = d
+placesEnd u d (z ∷ zs) = placesEnd u (pastData u z d) zs
 
 -- ---- all columns
 
--- bookkeeping: a column and the places of its DG, of its first data block and of its SD; CG, CN and DL follow the DG
+-- bookkeeping: a column and its places
 pub record Placed : Type 0 where
   pub column : Column
   pub dg : ℕ
@@ -73,22 +121,42 @@ cnOf p = cgOf p + cgSize (p .column .master)
 abbrev pub dlOf : Placed → ℕ
 dlOf p = cnOf p + 160
 
--- "Then per column DG ..; Then per column its blocks .. and its SD": from a on the blocks that make up columns, from d on their data
-unfoldable pub placedFrom : List ℕ → ℕ → ℕ → ℕ → List Column → List Placed
-placedFrom s size a d [] = []
-placedFrom s size a d (c ∷ cs) =
-    record { column = c; dg = a; first = d; sd = blocksEnd s size c d }
-    ∷ placedFrom s size (a + structureSize s size c) (signalEnd (c .signalOf) (blocksEnd s size c d)) cs
+-- bookkeeping: the sizes of a column
+abbrev pub signalSizes : Signal → Option ℕ
+signalSizes noSignal = none
+signalSizes (signalData fs) = some (sizeOf fs)
 
--- "the metadata's end": past the blocks that make up columns
-unfoldable pub structureEnd : List ℕ → ℕ → ℕ → List Column → ℕ
-structureEnd s size a [] = a
-structureEnd s size a (c ∷ cs) = structureEnd s size (a + structureSize s size c) cs
+abbrev pub columnSizes : List ℕ → ℕ → Column → Sizes
+columnSizes s size c =
+    record {
+      structure = structureSize s size c;
+      blocks = columnBlocks s size c;
+      payload = payloadSize s c;
+      signal = signalSizes (c .signalOf);
+    }
 
--- bookkeeping: past the data of columns
-unfoldable pub dataEnd : List ℕ → ℕ → ℕ → List Column → ℕ
-dataEnd s size d [] = d
-dataEnd s size d (c ∷ cs) = dataEnd s size (signalEnd (c .signalOf) (blocksEnd s size c d)) cs
+unfoldable pub sizesOf : List ℕ → ℕ → List Column → List Sizes
+sizesOf s size [] = []
+sizesOf s size (c ∷ cs) = columnSizes s size c ∷ sizesOf s size cs
+
+abbrev pub placedAt : Column → Places → Placed
+placedAt c p = record { column = c; dg = p .dg; first = p .first; sd = p .sd }
+
+unfoldable pub withPlaces : List Column → List Places → List Placed
+withPlaces [] ps = []
+withPlaces (c ∷ cs) [] = []
+withPlaces (c ∷ cs) (p ∷ ps) = placedAt c p ∷ withPlaces cs ps
+
+-- the columns placed, from a and d on
+abbrev pub placedFrom : Rules → List ℕ → ℕ → ℕ → ℕ → List Column → List Placed
+placedFrom o s size a d cs = withPlaces cs (placesFrom (o .unit) a d (sizesOf s size cs))
+
+-- past the blocks that make them up, and past their data
+abbrev pub structureEnd : List ℕ → ℕ → ℕ → List Column → ℕ
+structureEnd s size a cs = structuresEnd a (sizesOf s size cs)
+
+abbrev pub dataEnd : Rules → List ℕ → ℕ → ℕ → List Column → ℕ
+dataEnd o s size d cs = placesEnd (o .unit) d (sizesOf s size cs)
 
 -- ---- the file
 
@@ -117,19 +185,19 @@ unfoldable pub fhPlace : Copies → ℕ → ℕ
 fhPlace m n = pastCopies m + mdSize n
 
 -- "metadata; attachments": the places, and the refusals in document 01's order; n bytes of history text
-unfoldable pub layout : List ℕ → ℕ → ℕ → List Column → Checked Layout
-layout s size n cs =
+unfoldable pub layout : Rules → List ℕ → ℕ → ℕ → List Column → Checked Layout
+layout o s size n cs =
     andThen (copyRoot s (linkAt s 64 5) (copies [] 168)) (λ m0.
     andThen (historyOf s (linkAt s 64 1) m0) (λ h.
     andThen (columnCopies s cs (copies (h .made .memo) (fhPlace (h .made) n + 56))) (λ m2.
-    andThen (attachmentsOf s (linkAt s 64 3) (copies (m2 .memo) (dataEnd s size (structureEnd s size (pastCopies m2) cs) cs))) (λ t.
+    andThen (attachmentsOf s (linkAt s 64 3) (copies (m2 .memo) (dataEnd o s size (structureEnd s size (pastCopies m2) cs) cs))) (λ t.
     ok (record {
       comment = m0;
       past = h;
       md = pastCopies (h .made);
       fh = fhPlace (h .made) n;
       metadata = m2;
-      placed = placedFrom s size (pastCopies m2) (structureEnd s size (pastCopies m2) cs) cs;
+      placed = placedFrom o s size (pastCopies m2) (structureEnd s size (pastCopies m2) cs) cs;
       metadataEnd = structureEnd s size (pastCopies m2) cs;
       attached = t;
       fileSize = t .made .next;

@@ -1,6 +1,7 @@
 pub mod Channel
 pub mod Columns
 pub mod Geometry
+pub mod Rules
 pub mod Data
 pub mod Copies
 pub mod Layout

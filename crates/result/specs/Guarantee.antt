@@ -1,5 +1,5 @@
 -- The archive's guarantee (demand 3, in the words of document 01, e): what holds of the final bytes and the final list of every accepted result.
-use Prim.Native.Nat.{ℕ, zero, suc, _+_, _*_, _≤_, _<_}
+use Prim.Native.Nat.{ℕ, zero, suc, _+_, _*_, _%_, _≤_, _<_}
 use mathlib.Core.List.{List, [], _∷_}
 use mathlib.Core.Bool.{Bool, true, false}
 use mathlib.Core.Option.{Option, none, some}
@@ -11,15 +11,16 @@ use Rattle.base.specs.Checked.{ok}
 use Rattle.mdf.specs.Block.{linkAt}
 use Rattle.mdf.specs.Group.{DataGroup, isStorage}
 use Rattle.mdf.specs.Walk.{Source, walk}
-use Rattle.plan.specs.Columns.{SrcGroup, Column, Omission, omissionAddresses}
+use Rattle.plan.specs.Columns.{SrcGroup, Column, noSignal, Omission, omissionAddresses}
 use Rattle.plan.specs.Data.{isNonempty}
 use Rattle.plan.specs.Copies.{isCopied}
-use Rattle.plan.specs.Layout.{Placed}
+use Rattle.plan.specs.Layout.{Placed, columnBlocks}
 pub use Rattle.result.specs.Member.{In, here, there}
 use Rattle.result.specs.Recording.{Recorded, Met, SharedRecords, Sorted, IsMaster, Uses, Differs, reasonFor, OmissionDue, Among, filePlaces, signalChannels, SignalDue, signalSize, Followed, isAT, attachedFrom}
 use Rattle.result.specs.Payload.{recordsOf, signalBytes}
 use Rattle.result.specs.Fill.{Block}
 use Rattle.result.specs.Result.{Args, Decided, blocksOf}
+use Rattle.result.specs.Ordered.{Close}
 use Rattle.result.specs.Links.{shown}
 use Rattle.result.specs.Due.{dueAll, FrontDue}
 use Rattle.result.specs.Names.{LinkDue, NamesDue, HistoryDue, NewHistory, AttachmentsDue}
@@ -38,6 +39,11 @@ Apart b bs = (c : Block) → In c bs → b .at + length (b .bytes) ≤ c .at
 unfoldable pub AllApart : List Block → Type 0
 AllApart [] = Unit {0}
 AllApart (b ∷ bs) = Apart b bs × AllApart bs
+
+-- "each column's first data block and each SD block starts on the next multiple of" the unit u (document 02, request 5)
+pub record Starts (u : ℕ) (s : List ℕ) (size : ℕ) (p : Placed) : Type 0 where
+  pub blocks : (columnBlocks s size (p .column) ≡ 0 → ⊥) → p .first % u ≡ 0
+  pub signal : (p .column .signalOf ≡ noSignal → ⊥) → p .sd % u ≡ 0
 
 -- ---- channels
 
@@ -120,6 +126,9 @@ pub record Guaranteed (x : Args) (d : Decided) (f l : List ℕ) : Type 0 where
   -- every block is written as planned, and no two share a byte
   pub filled : (b : Block) → In b (blocksOf x (d .laidOut)) → Stands f (b .at) (b .bytes)
   pub apart : AllApart (blocksOf x (d .laidOut))
+  -- data blocks and SD start on the unit, and fewer than its bytes lie between two blocks
+  pub starts : (p : Placed) → In p (d .laidOut .placed) → Starts (x .unit) (x .image) (x .blockSize) p
+  pub close : Close (x .unit) 0 (blocksOf x (d .laidOut)) (d .laidOut .fileSize)
   -- ---- the recording: "groups in file order", "A group's channels are the CN of its own chain"
   -- its groups, their channels and their fragments are what links list from its header on; they are what the walk met
   pub recording : (ds : List DataGroup) × Recorded (x .image) ds (d .groups)

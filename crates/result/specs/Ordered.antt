@@ -1,5 +1,5 @@
 -- Blocks in the order of their addresses.
-use Prim.Native.Nat.{ℕ, _+_, _≤_}
+use Prim.Native.Nat.{ℕ, _+_, _≤_, _<_}
 use mathlib.Core.List.{List, [], _∷_}
 use lib.ListN.{length}
 use Rattle.result.specs.Fill.{Block}
@@ -8,3 +8,9 @@ use Rattle.result.specs.Fill.{Block}
 unfoldable pub Ordered : ℕ → List Block → ℕ → Type 0
 Ordered a [] e = a ≤ e
 Ordered a (b ∷ bs) e = (a ≤ b .at) × Ordered (b .at + length (b .bytes)) bs e
+
+-- "Between two neighbouring written blocks lie fewer than the unit's bytes" (document 02, request 13): from a on before each block, and
+-- behind the last up to e
+unfoldable pub Close : ℕ → ℕ → List Block → ℕ → Type 0
+Close u a [] e = e < a + u
+Close u a (b ∷ bs) e = (b .at < a + u) × Close u (b .at + length (b .bytes)) bs e

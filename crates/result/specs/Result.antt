@@ -14,6 +14,7 @@ use Rattle.mdf.specs.Count.{counts}
 use Rattle.plan.specs.Columns.{SrcGroup, srcGroups, Column, Signal, noSignal, signalData, Plan, plan, omissionWords}
 use Rattle.plan.specs.Data.{allDataIn, blocksIn}
 use Rattle.plan.specs.Copies.{Copy}
+use Rattle.plan.specs.Rules.{Rules, unitIn}
 use Rattle.plan.specs.Layout.{Layout, layout, columnBlocks}
 use Rattle.result.specs.Fill.{Block, block, newLink, copiedBlocks, mdBytes, fhBytes, nextDG, structureBlocks, dataBlocks, nextAttachment, attachmentBlocks, hdBytes}
 
@@ -24,6 +25,16 @@ pub record Args : Type 0 where
   pub ident : List ℕ
   pub text : List ℕ
   pub time : ℕ
+  -- document 02's choices
+  pub unit : ℕ
+
+-- bookkeeping: what is chosen, as the definitions use it
+abbrev pub rulesOf : Args → Rules
+rulesOf x = record { unit = x .unit }
+
+-- "26 .. follows 2" (document 02, request 5)
+unfoldable pub choicesIn : Args → Verdict
+choicesIn x = unitIn (x .unit)
 
 -- ---- the file
 
@@ -126,11 +137,12 @@ lentIn x =
     (ifEq (leAt 8 (x .ident) 8) version420
     (ifLt 4096 (length (x .text)) (refused 1 0) fine) (refused 1 0)) (refused 1 0)) (refused 1 0)
 
--- "Order. 1, 2, 3; identification (4, 5, 6, 7); HD; DG by DG ..; counts DG by DG ..; planning; DG by DG data ..; block counts (19); metadata; attachments .."
+-- "Order. 1, 2,", document 02's choices, "3; identification (4, 5, 6, 7); HD; DG by DG ..; counts DG by DG ..; planning; DG by DG data ..; block counts (19); metadata; attachments .."
 unfoldable pub decided : Args → Checked Decided
 decided x =
     andThen (lentIn x) (λ _.
     andThen (ifEq (x .blockSize) 0 (refused 2 0) fine) (λ _.
+    andThen (choicesIn x) (λ _.
     andThen (ifLt 4294967296 (length (x .image)) (refused 3 0) fine) (λ _.
     andThen (identified (x .image)) (λ _.
     andThen (walk (x .image)) (λ st.
@@ -138,8 +150,8 @@ decided x =
     andThen (plan (x .image) (length (st .fragments)) (srcGroups (dataGroups st) ns)) (λ p.
     andThen (allDataIn (x .image) (p .columns) (dataGroups st)) (λ _.
     andThen (blocksIn (x .image) (x .blockSize) (p .columns)) (λ _.
-    andThen (layout (x .image) (x .blockSize) (length (x .text)) (p .columns)) (λ l.
-    ok (record { groups = srcGroups (dataGroups st) ns; planned = p; laidOut = l })))))))))))
+    andThen (layout (rulesOf x) (x .image) (x .blockSize) (length (x .text)) (p .columns)) (λ l.
+    ok (record { groups = srcGroups (dataGroups st) ns; planned = p; laidOut = l }))))))))))))
 
 -- "20, bytes needed: output shorter than the result; 21, words needed: omission list too short", for an output and a list of so many
 unfoldable pub answer : Args → ℕ → ℕ → Checked Decided

@@ -1,6 +1,7 @@
 // The conversion, its listing and the reader of column files, for programs that link them.
 pub mod column_file;
 
+use choices::Choices;
 use listing::recording::list;
 use writing::convert::Converted;
 use writing::convert::convert;
@@ -38,14 +39,21 @@ fn are_bytes(s: &[u8])
     }
 }
 
-// One recording into one file: `convert` of the crate writing.
+// What a call chooses: the unit, a power of two from 8 to 4096, on whose multiples each column's first data block and each SD start.
+#[repr(C)]
+pub struct ColumnOptions {
+    pub unit: u64,
+}
+
+// One recording into one file, by what is chosen: `convert` of the crate writing.
 #[no_mangle]
-pub extern "C" fn sitaungo_convert(
+pub extern "C" fn sitaungo_convert_with(
     image: &[u8],
     size: u64,
     ident: &[u8],
     text: &[u8],
     time: u64,
+    options: ColumnOptions,
     source: &mut [u64],
     fragments: &mut [u64],
     columns: &mut [u64],
@@ -55,12 +63,12 @@ pub extern "C" fn sitaungo_convert(
 ) -> Outcome
     ensures done { λ r. ⌜ left r (now (out .exit)) (now (list .exit))
         (four (now (source .exit)) (now (fragments .exit)) (now (columns .exit)) (now (copies .exit)))
-        ≡ exported (result.convert (args (now (image .entry)) size (now (ident .entry)) (now (text .entry)) time) (now (out .entry)) (now (list .entry))
+        ≡ exported (result.convert (args (now (image .entry)) size (now (ident .entry)) (now (text .entry)) time (record { unit = options .unit })) (now (out .entry)) (now (list .entry))
         (four (now (source .entry)) (now (fragments .entry)) (now (columns .entry)) (now (copies .entry)))) ⌝ }
-    ensures promised { λ _. ⌜ Promised (args (now (image .entry)) size (now (ident .entry)) (now (text .entry)) time)
+    ensures promised { λ _. ⌜ Promised (args (now (image .entry)) size (now (ident .entry)) (now (text .entry)) time (record { unit = options .unit }))
         (length (now (out .entry))) (length (now (list .entry)))
         (four (now (source .entry)) (now (fragments .entry)) (now (columns .entry)) (now (copies .entry))) (now (out .exit)) (now (list .exit)) ⌝ }
-    ensures readable { λ _. ⌜ Readable (args (now (image .entry)) size (now (ident .entry)) (now (text .entry)) time)
+    ensures readable { λ _. ⌜ Readable (args (now (image .entry)) size (now (ident .entry)) (now (text .entry)) time (record { unit = options .unit }))
         (length (now (out .entry))) (length (now (list .entry)))
         (four (now (source .entry)) (now (fragments .entry)) (now (columns .entry)) (now (copies .entry))) (now (out .exit)) ⌝ }
 {
@@ -72,6 +80,7 @@ pub extern "C" fn sitaungo_convert(
         ident,
         text,
         time,
+        Choices { unit: options.unit },
         source,
         fragments,
         columns,
@@ -107,7 +116,85 @@ pub extern "C" fn sitaungo_convert(
     }
 }
 
-// The listing of a recording's conversion into an output of so many bytes and a list of so many words, and its length: `list` of the crate listing.
+// One recording into one file, by what is built in: unit 8.
+#[no_mangle]
+pub extern "C" fn sitaungo_convert(
+    image: &[u8],
+    size: u64,
+    ident: &[u8],
+    text: &[u8],
+    time: u64,
+    source: &mut [u64],
+    fragments: &mut [u64],
+    columns: &mut [u64],
+    copies: &mut [u64],
+    out: &mut [u8],
+    list: &mut [u64],
+) -> Outcome
+    ensures done { λ r. ⌜ left r (now (out .exit)) (now (list .exit))
+        (four (now (source .exit)) (now (fragments .exit)) (now (columns .exit)) (now (copies .exit)))
+        ≡ exported (result.convert (args (now (image .entry)) size (now (ident .entry)) (now (text .entry)) time (record { unit = 8 })) (now (out .entry)) (now (list .entry))
+        (four (now (source .entry)) (now (fragments .entry)) (now (columns .entry)) (now (copies .entry)))) ⌝ }
+    ensures promised { λ _. ⌜ Promised (args (now (image .entry)) size (now (ident .entry)) (now (text .entry)) time (record { unit = 8 }))
+        (length (now (out .entry))) (length (now (list .entry)))
+        (four (now (source .entry)) (now (fragments .entry)) (now (columns .entry)) (now (copies .entry))) (now (out .exit)) (now (list .exit)) ⌝ }
+    ensures readable { λ _. ⌜ Readable (args (now (image .entry)) size (now (ident .entry)) (now (text .entry)) time (record { unit = 8 }))
+        (length (now (out .entry))) (length (now (list .entry)))
+        (four (now (source .entry)) (now (fragments .entry)) (now (columns .entry)) (now (copies .entry))) (now (out .exit)) ⌝ }
+{
+    sitaungo_convert_with(
+        image,
+        size,
+        ident,
+        text,
+        time,
+        ColumnOptions { unit: 8 },
+        source,
+        fragments,
+        columns,
+        copies,
+        out,
+        list,
+    )
+}
+
+// The listing of a recording's conversion, by what is chosen, into an output of so many bytes and a list of so many words, and its length: `list` of the crate listing.
+#[no_mangle]
+pub extern "C" fn sitaungo_list_with(
+    image: &[u8],
+    size: u64,
+    ident: &[u8],
+    text: &[u8],
+    options: ColumnOptions,
+    out: u64,
+    list_words: u64,
+    source: &mut [u64],
+    fragments: &mut [u64],
+    columns: &mut [u64],
+    copies: &mut [u64],
+    lines: &mut [u8],
+) -> usize
+    ensures { λ r. ⌜ Listed (untimed (now (image .entry)) size (now (ident .entry)) (now (text .entry)) (record { unit = options .unit })) out «list_words»
+        (four (now (source .entry)) (now (fragments .entry)) (now (columns .entry)) (now (copies .entry))) (now (lines .entry))
+        r (now (lines .exit)) (four (now (source .exit)) (now (fragments .exit)) (now (columns .exit)) (now (copies .exit))) ⌝ }
+{
+    list(
+        lines,
+        image,
+        size,
+        ident,
+        text,
+        Choices { unit: options.unit },
+        out,
+        list_words,
+        source,
+        fragments,
+        columns,
+        copies,
+    )
+}
+
+// The same by what is built in: into an output of so many bytes and a list of so many words, and its length: `list` of the crate listing.
 #[no_mangle]
 pub extern "C" fn sitaungo_list(
     image: &[u8],
@@ -122,21 +209,22 @@ pub extern "C" fn sitaungo_list(
     copies: &mut [u64],
     lines: &mut [u8],
 ) -> usize
-    ensures { λ r. ⌜ Listed (untimed (now (image .entry)) size (now (ident .entry)) (now (text .entry))) out «list_words»
+    ensures { λ r. ⌜ Listed (untimed (now (image .entry)) size (now (ident .entry)) (now (text .entry)) (record { unit = 8 })) out «list_words»
         (four (now (source .entry)) (now (fragments .entry)) (now (columns .entry)) (now (copies .entry))) (now (lines .entry))
         r (now (lines .exit)) (four (now (source .exit)) (now (fragments .exit)) (now (columns .exit)) (now (copies .exit))) ⌝ }
 {
-    list(
-        lines,
+    sitaungo_list_with(
         image,
         size,
         ident,
         text,
+        ColumnOptions { unit: 8 },
         out,
         list_words,
         source,
         fragments,
         columns,
         copies,
+        lines,
     )
 }

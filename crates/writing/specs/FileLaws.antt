@@ -30,7 +30,7 @@ use Rattle.plan.specs.Layout.{Layout, Placed, pastCopies}
 use Rattle.placing.specs.Standing.{copiesIn}
 use Rattle.result.specs.Fill.{Block, block, newLink, copiedBlocks, mdBytes, fhBytes, hdBytes, nextDG, structureBlocks, dataBlocks, nextAttachment, attachmentBlocks}
 use Rattle.result.specs.Ordered.{Ordered}
-use Rattle.result.specs.Result.{Args, Decided, decided, memoOf, firstFH, hdBlock, blocksOf, flat, fileOf}
+use Rattle.result.specs.Result.{Args, Decided, decided, memoOf, firstFH, hdBlock, blocksOf, flat, fileOf, rulesOf}
 use Rattle.copies_laws.specs.Laid.{Laid}
 use Rattle.copies_laws.specs.LengthLaws.{length-copied, length-at, length-hd}
 use Rattle.copies_laws.specs.AttachLaws.{LaidAt, ownCopies}
@@ -152,7 +152,7 @@ module _ {x : Args} {items pieces columns omitted : ℕ} {n : numbers.Numbers} {
   abbrev known : Known x d
   known = decided-known x d (st .by .is)
 
-  abbrev laid : LaidOut s (x .blockSize) (length (x .text)) (d .planned .columns) l
+  abbrev laid : LaidOut (rulesOf x) s (x .blockSize) (length (x .text)) (d .planned .columns) l
   laid = o x d known
 
   counted : Numbers l (n .copies) (n .history) (n .metadata) (n .chain) (n .attachments)

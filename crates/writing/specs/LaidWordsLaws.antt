@@ -14,6 +14,7 @@ use Rattle.mdf.specs.Chain.{isIn}
 use Rattle.plan.specs.Columns.{Column}
 use Rattle.plan.specs.Copies.{Copy, Copies, isCopied, copyRoot, mostCopies, History, history, historyFrom, historyOf, Attachment}
 use Rattle.work_words.specs.CopyWords.{copyWords, attachmentWords, attachmentsAt, historyAt, placedAt, placedWords, laidCopies}
+use Rattle.plan.specs.Rules.{Rules}
 use Rattle.plan.specs.Layout.{Layout, pastCopies, dataEnd}
 use Rattle.placing.specs.Standing.{copiesFrom, copiesIn}
 use Rattle.placing.specs.AttachingLaws.{length-words}
@@ -112,7 +113,7 @@ length-copyWords [] = refl
 length-copyWords (c ∷ cs) = let e = length-copyWords cs in omega arith
 
 -- ---- the words of an accepted layout
-module _ {s : List ℕ} {size n : ℕ} {cs : List Column} {l : Layout} (o : LaidOut s size n cs l) where
+module _ {r : Rules} {s : List ℕ} {size n : ℕ} {cs : List Column} {l : Layout} (o : LaidOut r s size n cs l) where
   pub few-history : length (l .past .chain) ≤ 2049
   few-history = chain-few s _ (l .comment) (l .past) (o .past)
 
@@ -220,7 +221,7 @@ pub record Numbers (l : Layout) (used past metadata chain count : ℕ) : Type 0 
   pub blocks : chain ≡ length (l .past .chain)
   pub moved : count ≡ length (l .attached .attachments)
 
-module _ {s : List ℕ} {size n : ℕ} {cs : List Column} {l : Layout} (o : LaidOut s size n cs l) {used past metadata chain count : ℕ}
+module _ {r : Rules} {s : List ℕ} {size n : ℕ} {cs : List Column} {l : Layout} (o : LaidOut r s size n cs l) {used past metadata chain count : ℕ}
     (c : Numbers l used past metadata chain count) where
   pub copies-order : (past ≤ metadata) × (metadata ≤ used) × (used ≤ 2048) × (chain ≤ 2049) × (count ≤ 64)
   copies-order =
@@ -263,9 +264,9 @@ module _ {s : List ℕ} {size n : ℕ} {cs : List Column} {l : Layout} (o : Laid
         subst (λ (m : List Copy). Laid s (l .fh + 56) m f) (sym next-is)
         (laid-to s (l .fh + 56) _ f (drop (length (l .past .made .memo)) (l .metadata .memo)) (columns-laid o) (omega (arith, align-past (l .metadata .next))))
 
-    pub attachments-room : (f : ℕ) → l .fileSize ≤ f → LaidAt s (dataEnd s size (l .metadataEnd) cs) (attachmentsIn w' metadata count) f
+    pub attachments-room : (f : ℕ) → l .fileSize ≤ f → LaidAt s (dataEnd r s size (l .metadataEnd) cs) (attachmentsIn w' metadata count) f
     attachments-room f h =
-        subst (λ (ts : List Attachment). LaidAt s (dataEnd s size (l .metadataEnd) cs) ts f) (sym moved-is)
+        subst (λ (ts : List Attachment). LaidAt s (dataEnd r s size (l .metadataEnd) cs) ts f) (sym moved-is)
         (laidAt-to s _ _ f (l .attached .attachments) (attachments-laid o .laid) (omega (arith, o .fileSize)))
 
     pub attachments-few : metadata + length (ownCopies (attachmentsIn w' metadata count)) ≤ used

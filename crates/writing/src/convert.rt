@@ -4,6 +4,7 @@ use crate::counts::source_groups;
 use crate::counts::time_columns;
 use crate::file::write_file;
 use crate::omissions::write_list;
+use choices::Choices;
 use placing::decide::Decision;
 use placing::decide::decide;
 use placing::layout::Numbers;
@@ -81,6 +82,7 @@ fn finish(
     ident: &[u8],
     text: &[u8],
     time: u64,
+    choices: Choices,
     source: &[u64],
     fragments: &[u64],
     columns: &[u64],
@@ -91,9 +93,9 @@ fn finish(
     omitted: u64,
     numbers: Numbers,
 ) -> Converted
-    requires { ⌜ Stands (args (now image) size (now ident) (now text) time) items pieces n omitted numbers
+    requires { ⌜ Stands (args (now image) size (now ident) (now text) time choices) items pieces n omitted numbers
         (now source) (now fragments) (now columns) (now copies) ⌝ }
-    ensures { λ r. ⌜ Finished (args (now (image .entry)) size (now (ident .entry)) (now (text .entry)) time) (now (out .entry)) (now (list .entry))
+    ensures { λ r. ⌜ Finished (args (now (image .entry)) size (now (ident .entry)) (now (text .entry)) time choices) (now (out .entry)) (now (list .entry))
         r (now (out .exit)) (now (list .exit)) ⌝ }
 {
     let bytes = numbers.file_size;
@@ -117,6 +119,7 @@ fn finish(
         ident,
         text,
         time,
+        choices,
         source,
         fragments,
         columns,
@@ -141,13 +144,14 @@ fn finish(
     Converted::Done(counted)
 }
 
-// One recording into one file: 1, 2, 3, what reading, planning and layout refuse, 20, 21; then the file, the list and the report.
+// One recording into one file: 1, 2, the choices, 3, what reading, planning and layout refuse, 20, 21; then the file, the list and the report.
 pub fn convert(
     image: &[u8],
     size: u64,
     ident: &[u8],
     text: &[u8],
     time: u64,
+    choices: Choices,
     source: &mut [u64],
     fragments: &mut [u64],
     columns: &mut [u64],
@@ -157,14 +161,14 @@ pub fn convert(
 ) -> Converted
     ensures done { λ r. ⌜ left r (now (out .exit)) (now (list .exit))
         (four (now (source .exit)) (now (fragments .exit)) (now (columns .exit)) (now (copies .exit)))
-        ≡ result.convert (args (now (image .entry)) size (now (ident .entry)) (now (text .entry)) time) (now (out .entry)) (now (list .entry))
+        ≡ result.convert (args (now (image .entry)) size (now (ident .entry)) (now (text .entry)) time choices) (now (out .entry)) (now (list .entry))
         (four (now (source .entry)) (now (fragments .entry)) (now (columns .entry)) (now (copies .entry))) ⌝ }
-    ensures promised { λ _. ⌜ Promised (args (now (image .entry)) size (now (ident .entry)) (now (text .entry)) time)
+    ensures promised { λ _. ⌜ Promised (args (now (image .entry)) size (now (ident .entry)) (now (text .entry)) time choices)
         (length (now (out .entry))) (length (now (list .entry)))
         (four (now (source .entry)) (now (fragments .entry)) (now (columns .entry)) (now (copies .entry))) (now (out .exit)) (now (list .exit)) ⌝ }
 {
     are_bytes(image);
-    let decision = decide(image, size, ident, text, source, fragments, columns, copies);
+    let decision = decide(image, size, ident, text, choices, source, fragments, columns, copies);
     match decision {
         Decision::Refused { number, place } => Converted::Refused { number, place },
         Decision::Done {
@@ -182,6 +186,7 @@ pub fn convert(
                 ident,
                 text,
                 time,
+                choices,
                 source,
                 fragments,
                 columns,

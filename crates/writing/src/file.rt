@@ -8,6 +8,7 @@ use crate::front::write_history;
 use crate::gap::gap;
 use crate::structure::write_structure;
 use blocks::block::link_at;
+use choices::Choices;
 use placing::layout::Numbers;
 use placing::memo::new_link;
 use planning::words::word;
@@ -60,6 +61,7 @@ pub(crate) fn write_file(
     ident: &[u8],
     text: &[u8],
     time: u64,
+    choices: Choices,
     source: &[u64],
     fragments: &[u64],
     columns: &[u64],
@@ -70,10 +72,10 @@ pub(crate) fn write_file(
     omitted: u64,
     numbers: Numbers,
 )
-    requires { ⌜ Stands (args (now image) size (now ident) (now text) time) items pieces n omitted numbers
+    requires { ⌜ Stands (args (now image) size (now ident) (now text) time choices) items pieces n omitted numbers
         (now source) (now fragments) (now columns) (now copies) × (numbers .«file_size» ≤ length (now out)) ⌝ }
-    ensures { λ _. ⌜ now (out .exit) ≡ blit 0 (fileFor (args (now (image .entry)) size (now (ident .entry)) (now (text .entry)) time)
-        (decided (args (now (image .entry)) size (now (ident .entry)) (now (text .entry)) time))) (now (out .entry)) ⌝ }
+    ensures { λ _. ⌜ now (out .exit) ≡ blit 0 (fileFor (args (now (image .entry)) size (now (ident .entry)) (now (text .entry)) time choices)
+        (decided (args (now (image .entry)) size (now (ident .entry)) (now (text .entry)) time choices))) (now (out .entry)) ⌝ }
 {
     let used = numbers.copies;
     let chain = numbers.chain;

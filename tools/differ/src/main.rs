@@ -6,6 +6,7 @@
 //! differ answers FILE: the list of answers for crates/answers.
 //! differ files RUNS SEED: the reader of column files beside a plain one.
 //! differ plots RUNS SEED: tables of ranges beside single reads and the plain reader.
+//! differ units RUNS SEED: the images of a seed with a unit each.
 mod alone;
 mod answers;
 mod blocks;
@@ -22,6 +23,7 @@ mod random;
 mod rust_side;
 mod shrink;
 mod tally;
+mod units;
 mod walk;
 
 use case::Case;
@@ -47,9 +49,10 @@ fn main() -> ExitCode {
         ["answers", file] => return status(answers::write(file)),
         ["files", runs, seed] => return status(files::compared(number(runs), number(seed))),
         ["plots", runs, seed] => return status(files::plots::compared(number(runs), number(seed))),
+        ["units", runs, seed] => return status(units::compared(number(runs), number(seed))),
         [runs, seed] => return compared(number(runs), number(seed)),
         _ => {
-            eprintln!("differ RUNS SEED | image SEED K FILE | one FILE SIZE | answers FILE | files RUNS SEED | plots RUNS SEED");
+            eprintln!("differ RUNS SEED | image SEED K FILE | one FILE SIZE | answers FILE | files RUNS SEED | plots RUNS SEED | units RUNS SEED");
             return ExitCode::from(2);
         }
     }

@@ -1,4 +1,4 @@
-//! The port: `sitaungo_convert` of the static library, with what it must leave alone or clear looked at after each call.
+//! The port: `sitaungo_convert` and `sitaungo_convert_with` of the static library, with what it must leave alone or clear looked at after each call.
 use crate::blocks::word;
 use crate::child::{serve, Child, Pack, Unpack};
 
@@ -23,12 +23,23 @@ struct Outcome {
     counts: [u64; 7],
 }
 
+#[repr(C)]
+#[derive(Clone, Copy)]
+struct Options {
+    unit: u64,
+}
+
 #[rustfmt::skip]
 #[link(name = "sitaungo", kind = "static")]
 extern "C" {
     fn sitaungo_convert(
         image: *const u8, image_len: usize, size: u64, ident: *const u8, ident_len: usize, text: *const u8, text_len: usize, time: u64,
         source: *mut u64, source_len: usize, fragments: *mut u64, fragments_len: usize, columns: *mut u64, columns_len: usize,
+        copies: *mut u64, copies_len: usize, out: *mut u8, out_len: usize, list: *mut u64, list_len: usize,
+    ) -> Outcome;
+    fn sitaungo_convert_with(
+        image: *const u8, image_len: usize, size: u64, ident: *const u8, ident_len: usize, text: *const u8, text_len: usize, time: u64,
+        options: Options, source: *mut u64, source_len: usize, fragments: *mut u64, fragments_len: usize, columns: *mut u64, columns_len: usize,
         copies: *mut u64, copies_len: usize, out: *mut u8, out_len: usize, list: *mut u64, list_len: usize,
     ) -> Outcome;
 }
@@ -70,6 +81,8 @@ pub struct Call<'a> {
     /// The image goes on with zeros up to this length.
     pub image_len: usize,
     pub size: u64,
+    /// None: the call that chooses nothing.
+    pub unit: Option<u64>,
     pub lent: Lent,
     pub out: usize,
     pub list: usize,
@@ -78,7 +91,7 @@ pub struct Call<'a> {
 
 impl<'a> Call<'a> {
     pub fn new(image: &'a [u8], size: u64, lent: Lent, out: usize) -> Call<'a> {
-        Call { image, image_len: image.len(), size, lent, out, list: LIST, work: [WORK; 4] }
+        Call { image, image_len: image.len(), size, unit: None, lent, out, list: LIST, work: [WORK; 4] }
     }
 }
 
@@ -114,6 +127,7 @@ impl Port {
         let mut p = Pack::default();
         p.bytes(call.image);
         p.words(&[call.image_len as u64, call.size, call.lent.time, call.out as u64, call.list as u64]);
+        p.words(&[call.unit.is_some() as u64, call.unit.unwrap_or(0)]);
         p.words(&call.work.map(|n| n as u64));
         p.bytes(&call.lent.ident);
         p.bytes(&call.lent.text);
@@ -159,6 +173,7 @@ struct Slices {
 struct Request<'a> {
     image: &'a [u8],
     size: u64,
+    unit: Option<u64>,
     time: u64,
     out: usize,
     list: usize,
@@ -172,10 +187,12 @@ impl Slices {
         let mut u = Unpack(request);
         let bytes = u.bytes();
         let [image_len, size, time, out, list] = u.words();
+        let [chosen, unit] = u.words();
+        let unit = (chosen == 1).then_some(unit);
         let work = u.words().map(|n| n as usize);
         let longer = lengthened(bytes, image_len as usize);
         let image = longer.as_deref().unwrap_or(bytes);
-        let r = Request { image, size, time, out: out as usize, list: list as usize, work, ident: u.bytes(), text: u.bytes() };
+        let r = Request { image, size, unit, time, out: out as usize, list: list as usize, work, ident: u.bytes(), text: u.bytes() };
         self.prepare(&r);
         let o = self.call(&r);
         let faults = self.faults(&o, &r);
@@ -211,11 +228,18 @@ impl Slices {
         let [a, b, c, d] = &mut self.work;
         // Safety: each pointer leads to as many items as the length after it says, and no two slices overlap.
         unsafe {
-            sitaungo_convert(
-                r.image.as_ptr(), r.image.len(), r.size, r.ident.as_ptr(), r.ident.len(), r.text.as_ptr(), r.text.len(), r.time,
-                a.as_mut_ptr(), r.work[0], b.as_mut_ptr(), r.work[1], c.as_mut_ptr(), r.work[2], d.as_mut_ptr(), r.work[3],
-                self.out.as_mut_ptr(), r.out, self.list.as_mut_ptr(), r.list,
-            )
+            match r.unit {
+                None => sitaungo_convert(
+                    r.image.as_ptr(), r.image.len(), r.size, r.ident.as_ptr(), r.ident.len(), r.text.as_ptr(), r.text.len(), r.time,
+                    a.as_mut_ptr(), r.work[0], b.as_mut_ptr(), r.work[1], c.as_mut_ptr(), r.work[2], d.as_mut_ptr(), r.work[3],
+                    self.out.as_mut_ptr(), r.out, self.list.as_mut_ptr(), r.list,
+                ),
+                Some(unit) => sitaungo_convert_with(
+                    r.image.as_ptr(), r.image.len(), r.size, r.ident.as_ptr(), r.ident.len(), r.text.as_ptr(), r.text.len(), r.time,
+                    Options { unit }, a.as_mut_ptr(), r.work[0], b.as_mut_ptr(), r.work[1], c.as_mut_ptr(), r.work[2], d.as_mut_ptr(), r.work[3],
+                    self.out.as_mut_ptr(), r.out, self.list.as_mut_ptr(), r.list,
+                ),
+            }
         }
     }
 

@@ -38,7 +38,7 @@ enum-known-lent c = search needs
 
 -- src/decide.rt:99:9
 returns-5 : tie.Need-returns-5
-returns-5 c = lent-refused _ _ _ _ _ (work-fine _ _ _ _ (c .before .before .before .before .before .before .before .if1 .left)
+returns-5 c = lent-refused _ _ _ _ _ _ (work-fine _ _ _ _ (c .before .before .before .before .before .before .before .if1 .left)
     (c .before .before .before .before .before .before .if2 .left) (c .before .before .before .before .before .if3 .left)
     (c .before .before .before .before .if4 .left)) _ (c .before .before .before .lent-in .ensures) (c .before .lent .given .1)
 
@@ -52,7 +52,7 @@ decide-rest-requires c κs = let a =
     in (c .before .before .before .before .before .before .before .before .before .before .if1 .left,
     c .before .before .before .before .before .before .before .before .before .if2 .left,
     c .before .before .before .before .before .before .before .before .if3 .left,
-    c .before .before .before .before .before .before .before .if4 .left, text-fits [] 0 _ _ _ (work-fine (a .source .now)
+    c .before .before .before .before .before .before .before .if4 .left, text-fits [] 0 _ _ (record { unit = 8 }) _ (work-fine (a .source .now)
     (a .fragments .now) (a .columns .now) (a .copies .now)
     (c .before .before .before .before .before .before .before .before .before .before .if1 .left)
     (c .before .before .before .before .before .before .before .before .before .if2 .left)
@@ -102,21 +102,21 @@ returns-6 : tie.Need-returns-6
 returns-6 c =
     let a = c .before .before .before .before .before .before .before .before .before .before .before .before .before .before .before .before .before .before .before .before .before .before .before .before .before .before .before .before .before .before .before .before .before .before .before .before .before .before .before .before .before .before .before .before .before .before .args
         in
-    rest-refused _ _ _ _ _ (work-fine _ _ _ _
+    rest-refused _ _ _ _ _ _ (work-fine _ _ _ _
         (c .before .before .before .before .before .before .before .before .before .before .before .before .before .before .before .before .before .before .before .before .before .before .before .before .before .before .before .before .before .before .before .before .before .before .before .before .before .before .if1 .left)
         (c .before .before .before .before .before .before .before .before .before .before .before .before .before .before .before .before .before .before .before .before .before .before .before .before .before .before .before .before .before .before .before .before .before .before .before .before .before .if2 .left)
         (c .before .before .before .before .before .before .before .before .before .before .before .before .before .before .before .before .before .before .before .before .before .before .before .before .before .before .before .before .before .before .before .before .before .before .before .before .if3 .left)
         (c .before .before .before .before .before .before .before .before .before .before .before .before .before .before .before .before .before .before .before .before .before .before .before .before .before .before .before .before .before .before .before .before .before .before .before .if4 .left))
         _ (c .before .before .before .before .before .before .before .before .before .before .before .before .before .before .before .before .before .before .before .before .before .before .before .before .before .before .before .before .before .before .before .before .before .before .lent-in .ensures)
         (c .before .before .before .before .before .before .before .before .before .before .before .before .before .before .before .before .before .before .before .before .before .before .before .before .before .before .before .before .before .before .before .before .enum-told .given .1)
-    (rests-refused _ _ _ _ _ _ _ _ _ _ _ _
+    (rests-refused _ _ _ _ _ _ _ _ _ _ _ _ _
         (c .before .before .before .before .before .before .before .before .before .before .before .before .before .before .before .before .before .before .before .before .before .before .before .before .before .before .before .decide-rest .ensures)
         (c .before .before .before .before .before .before .before .before .before .before .before .before .before .before .before .before .before .found .given .1))
     (cleared (a .source .now) (a .fragments .now) (a .columns .now) (a .copies .now)
-        (c .before .before .before .before .before .before .before .before .before .before .before .before .before .before .before .before .before .before .before .before .before .before .before .before .before .before .before .decide-rest .last .1 .1 .1 .0)
         (c .before .before .before .before .before .before .before .before .before .before .before .before .before .before .before .before .before .before .before .before .before .before .before .before .before .before .before .decide-rest .last .1 .1 .1 .1 .0)
         (c .before .before .before .before .before .before .before .before .before .before .before .before .before .before .before .before .before .before .before .before .before .before .before .before .before .before .before .decide-rest .last .1 .1 .1 .1 .1 .0)
         (c .before .before .before .before .before .before .before .before .before .before .before .before .before .before .before .before .before .before .before .before .before .before .before .before .before .before .before .decide-rest .last .1 .1 .1 .1 .1 .1 .0)
+        (c .before .before .before .before .before .before .before .before .before .before .before .before .before .before .before .before .before .before .before .before .before .before .before .before .before .before .before .decide-rest .last .1 .1 .1 .1 .1 .1 .1 .0)
         _ _ _ _ (omega arith) (omega arith) (omega arith) (omega arith)
     (c .before .before .before .before .before .before .before .before .before .before .before .before .before .before .clear .ensures)
         (c .before .before .before .before .before .before .before .before .before .before .clear2 .ensures)
@@ -146,10 +146,10 @@ returns-7 : tie.Need-returns-7
 returns-7 c =
     let a = c .before .before .before .before .before .before .before .before .before .before .before .before .before .before .before .before .before .before .before .before .before .before .before .before .before .before .before .before .before .args
         in
-    decides-some _ _ _ _ _ _ _ _ _ _ _ _ _
+    decides-some _ _ _ _ _ _ _ _ _ _ _ _ _ _
         (c .before .before .before .before .before .before .before .before .before .before .decide-rest .ensures)
         (c .enum-told2 .given .1)
-    (λ t. rest-decided _ _ _ _ _ (work-fine (a .source .now) (a .fragments .now) (a .columns .now) (a .copies .now)
+    (λ t. rest-decided _ _ _ _ _ _ (work-fine (a .source .now) (a .fragments .now) (a .columns .now) (a .copies .now)
         (c .before .before .before .before .before .before .before .before .before .before .before .before .before .before .before .before .before .before .before .before .before .if1 .left)
         (c .before .before .before .before .before .before .before .before .before .before .before .before .before .before .before .before .before .before .before .before .if2 .left)
         (c .before .before .before .before .before .before .before .before .before .before .before .before .before .before .before .before .before .before .before .if3 .left)

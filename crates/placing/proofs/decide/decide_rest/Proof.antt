@@ -1,5 +1,6 @@
 -- 2, 3, planning, layout.
-use Rattle.placing.specs.DecisionLaws.{PlannedIn, plans-done, plans-refused, lays-few, lays-within, laid-plan, rest-empty, rest-large, rest-unplanned, rest-unlaid, unlaid, rest-in}
+use Rattle.placing.specs.DecisionLaws.{PlannedIn, chosen-refused, chosen-fine, rest-unchosen, plans-done, plans-refused, lays-few, lays-within, laid-plan, rest-empty, rest-large, rest-unplanned, rest-unlaid, unlaid, rest-in}
+use Rattle.payload_laws.specs.UnitLaws.{unit-is}
 use native.Mathlib.Omega.{arith}
 use lib.ListN.{length, length-set}
 use borrow.Author.Needs.{needs}
@@ -12,11 +13,23 @@ use Rattle.planning.proofs.recording.plan.Reads as plan-reads
 
 -- src/decide.rt:58:9
 returns : tie.Need-returns
-returns c = rest-empty _ _ _ (c .if1 .taken)
+returns c = rest-empty _ _ _ _ (c .if1 .taken)
+
+choices-in-requires : tie.Need-choices-in-requires
+choices-in-requires c κs = search needs
+
+enum-known-chosen : tie.Need-enum-known-chosen
+enum-known-chosen c = search needs
+
+returns-2 : tie.Need-returns-2
+returns-2 c = rest-unchosen _ _ _ _ (c .before .before .before .before .if1 .left) (chosen-refused _ (c .before .before .before .choices-in .ensures) (c .before .chosen .given .1))
+
+enum-told : tie.Need-enum-told
+enum-told c = search needs
 
 -- src/decide.rt:61:9
-returns-2 : tie.Need-returns-2
-returns-2 c = rest-large _ _ _ (c .before .if1 .left) (c .if2 .taken)
+returns-3 : tie.Need-returns-3
+returns-3 c = rest-large _ _ _ _ (c .before .before .before .before .if1 .left) (chosen-fine _ (c .before .before .before .choices-in .ensures) (c .before .enum-told .given .1)) (c .if2 .taken)
 
 -- src/decide.rt:63:9
 plan-requires : tie.Need-plan-requires
@@ -35,20 +48,22 @@ lay-out-requires : tie.Need-lay-out-requires
 lay-out-requires c κs =
     let t = plans-done _ _ _ _ _ _ _ _ _
         (c .before .before .before .before .before .before .before .before .before .before .before .before .plan .ensures)
-        (c .before .before .before .before .before .before .before .before .before .before .before .before .before .before .before .before .before .before .before .before .before .before .before .pre .0)
-        (c .before .before .before .before .before .before .before .before .before .before .before .before .before .before .before .before .before .before .before .before .before .before .before .pre .1)
-        (c .before .before .before .before .before .before .before .before .before .before .before .before .before .before .before .before .before .before .before .before .before .before .before .pre .2)
+        (c .before .before .before .before .before .before .before .before .before .before .before .before .before .before .before .before .before .before .before .before .before .before .before .before .before .before .pre .0)
+        (c .before .before .before .before .before .before .before .before .before .before .before .before .before .before .before .before .before .before .before .before .before .before .before .before .before .before .pre .1)
+        (c .before .before .before .before .before .before .before .before .before .before .before .before .before .before .before .before .before .before .before .before .before .before .before .before .before .before .pre .2)
         (c .before .before .before .before .planned2 .given .1) in
     let h = c .before .before .before .before .before .before .before .before .before .before .before .before .before .before .before .before .if2 .left
         in
     (lays-few t h
-        (c .before .before .before .before .before .before .before .before .before .before .before .before .before .before .before .before .before .before .before .before .before .before .before .pre .1)
-        (c .before .before .before .before .before .before .before .before .before .before .before .before .before .before .before .before .before .before .before .before .before .before .before .pre .2),
-        c .before .before .before .before .before .before .before .before .before .before .before .before .before .before .before .before .before .before .before .before .before .before .before .pre .3,
-        h, c .before .before .before .before .before .before .before .before .before .before .before .before .before .before .before .before .before .before .before .before .before .before .before .pre .4,
+        (c .before .before .before .before .before .before .before .before .before .before .before .before .before .before .before .before .before .before .before .before .before .before .before .before .before .before .pre .1)
+        (c .before .before .before .before .before .before .before .before .before .before .before .before .before .before .before .before .before .before .before .before .before .before .before .before .before .before .pre .2),
+        c .before .before .before .before .before .before .before .before .before .before .before .before .before .before .before .before .before .before .before .before .before .before .before .before .before .before .pre .3,
+        h, c .before .before .before .before .before .before .before .before .before .before .before .before .before .before .before .before .before .before .before .before .before .before .before .before .before .before .pre .4,
         lays-within t h
-        (c .before .before .before .before .before .before .before .before .before .before .before .before .before .before .before .before .before .before .before .before .before .before .before .pre .1)
-        (c .before .before .before .before .before .before .before .before .before .before .before .before .before .before .before .before .before .before .before .before .before .before .before .pre .2))
+        (c .before .before .before .before .before .before .before .before .before .before .before .before .before .before .before .before .before .before .before .before .before .before .before .before .before .before .pre .1)
+        (c .before .before .before .before .before .before .before .before .before .before .before .before .before .before .before .before .before .before .before .before .before .before .before .before .before .before .pre .2),
+        unit-is _ (chosen-fine _ (c .before .before .before .before .before .before .before .before .before .before .before .before .before .before .before .before .before .before .before .choices-in .ensures) (c .before .before .before .before .before .before .before .before .before .before .before .before .before .before .before .before .before .enum-told .given .1)) .least,
+        unit-is _ (chosen-fine _ (c .before .before .before .before .before .before .before .before .before .before .before .before .before .before .before .before .before .before .before .choices-in .ensures) (c .before .before .before .before .before .before .before .before .before .before .before .before .before .before .before .before .before .enum-told .given .1)) .most)
 
 -- src/decide.rt:69:33
 enum-known-laid : tie.Need-enum-known-laid
@@ -71,14 +86,13 @@ same-length-3 : tie.Need-same-length-3
 same-length-3 c = search needs
 
 -- src/decide.rt:50:1
-returns-3 : tie.Need-returns-3
-returns-3 c = rest-unplanned _ _ _
-    (c .before .before .before .before .before .before .before .before .before .before .before .before .before .before .if1 .left)
+returns-4 : tie.Need-returns-4
+returns-4 c = rest-unplanned _ _ _ _ (c .before .before .before .before .before .before .before .before .before .before .before .before .before .before .before .before .before .if1 .left) (chosen-fine _ (c .before .before .before .before .before .before .before .before .before .before .before .before .before .before .before .before .choices-in .ensures) (c .before .before .before .before .before .before .before .before .before .before .before .before .before .before .enum-told .given .1))
     (c .before .before .before .before .before .before .before .before .before .before .before .before .before .if2 .left)
     (plans-refused _ _ _ _ _ _ _ _ _ (c .before .before .before .before .before .before .before .before .before .plan .ensures)
-    (c .before .before .before .before .before .before .before .before .before .before .before .before .before .before .before .before .before .before .before .before .pre .0)
-    (c .before .before .before .before .before .before .before .before .before .before .before .before .before .before .before .before .before .before .before .before .pre .1)
-    (c .before .before .before .before .before .before .before .before .before .before .before .before .before .before .before .before .before .before .before .before .pre .2)
+    (c .before .before .before .before .before .before .before .before .before .before .before .before .before .before .before .before .before .before .before .before .before .before .before .pre .0)
+    (c .before .before .before .before .before .before .before .before .before .before .before .before .before .before .before .before .before .before .before .before .before .before .before .pre .1)
+    (c .before .before .before .before .before .before .before .before .before .before .before .before .before .before .before .before .before .before .before .before .before .before .before .pre .2)
     (c .before .planned .given .1))
 
 -- src/decide.rt:50:1
@@ -98,21 +112,20 @@ same-length-7 : tie.Need-same-length-7
 same-length-7 c = search needs
 
 -- src/decide.rt:50:1
-returns-4 : tie.Need-returns-4
-returns-4 c =
+returns-5 : tie.Need-returns-5
+returns-5 c =
     let t = plans-done _ _ _ _ _ _ _ _ _
         (c .before .before .before .before .before .before .before .before .before .before .before .before .before .before .before .before .before .before .plan .ensures)
-        (c .before .before .before .before .before .before .before .before .before .before .before .before .before .before .before .before .before .before .before .before .before .before .before .before .before .before .before .before .before .pre .0)
-        (c .before .before .before .before .before .before .before .before .before .before .before .before .before .before .before .before .before .before .before .before .before .before .before .before .before .before .before .before .before .pre .1)
-        (c .before .before .before .before .before .before .before .before .before .before .before .before .before .before .before .before .before .before .before .before .before .before .before .before .before .before .before .before .before .pre .2)
+        (c .before .before .before .before .before .before .before .before .before .before .before .before .before .before .before .before .before .before .before .before .before .before .before .before .before .before .before .before .before .before .before .before .pre .0)
+        (c .before .before .before .before .before .before .before .before .before .before .before .before .before .before .before .before .before .before .before .before .before .before .before .before .before .before .before .before .before .before .before .before .pre .1)
+        (c .before .before .before .before .before .before .before .before .before .before .before .before .before .before .before .before .before .before .before .before .before .before .before .before .before .before .before .before .before .before .before .before .pre .2)
         (c .before .before .before .before .before .before .before .before .before .before .planned2 .given .1) in
-    rest-unlaid _ _ _
-        (c .before .before .before .before .before .before .before .before .before .before .before .before .before .before .before .before .before .before .before .before .before .before .before .if1 .left)
+    rest-unlaid _ _ _ _ (c .before .before .before .before .before .before .before .before .before .before .before .before .before .before .before .before .before .before .before .before .before .before .before .before .before .before .if1 .left) (chosen-fine _ (c .before .before .before .before .before .before .before .before .before .before .before .before .before .before .before .before .before .before .before .before .before .before .before .before .before .choices-in .ensures) (c .before .before .before .before .before .before .before .before .before .before .before .before .before .before .before .before .before .before .before .before .before .before .before .enum-told .given .1))
         (c .before .before .before .before .before .before .before .before .before .before .before .before .before .before .before .before .before .before .before .before .before .before .if2 .left)
         (t .is) (unlaid _ _ _ _ (laid-plan t
         (c .before .before .before .before .before .before .before .before .before .before .before .before .before .before .before .before .before .before .before .before .before .before .if2 .left)
-        (c .before .before .before .before .before .before .before .before .before .before .before .before .before .before .before .before .before .before .before .before .before .before .before .before .before .before .before .before .before .pre .1)
-        (c .before .before .before .before .before .before .before .before .before .before .before .before .before .before .before .before .before .before .before .before .before .before .before .before .before .before .before .before .before .pre .2)
+        (c .before .before .before .before .before .before .before .before .before .before .before .before .before .before .before .before .before .before .before .before .before .before .before .before .before .before .before .before .before .before .before .before .pre .1)
+        (c .before .before .before .before .before .before .before .before .before .before .before .before .before .before .before .before .before .before .before .before .before .before .before .before .before .before .before .before .before .before .before .before .pre .2)
         (c .before .before .before .before .before .lay-out .ensures)) (c .before .laid .given .1))
 
 -- src/decide.rt:50:1
@@ -132,21 +145,20 @@ same-length-11 : tie.Need-same-length-11
 same-length-11 c = search needs
 
 -- src/decide.rt:50:1
-returns-5 : tie.Need-returns-5
-returns-5 c =
+returns-6 : tie.Need-returns-6
+returns-6 c =
     let t = plans-done _ _ _ _ _ _ _ _ _
         (c .before .before .before .before .before .before .before .before .before .before .before .before .before .before .before .before .before .before .plan .ensures)
-        (c .before .before .before .before .before .before .before .before .before .before .before .before .before .before .before .before .before .before .before .before .before .before .before .before .before .before .before .before .before .pre .0)
-        (c .before .before .before .before .before .before .before .before .before .before .before .before .before .before .before .before .before .before .before .before .before .before .before .before .before .before .before .before .before .pre .1)
-        (c .before .before .before .before .before .before .before .before .before .before .before .before .before .before .before .before .before .before .before .before .before .before .before .before .before .before .before .before .before .pre .2)
+        (c .before .before .before .before .before .before .before .before .before .before .before .before .before .before .before .before .before .before .before .before .before .before .before .before .before .before .before .before .before .before .before .before .pre .0)
+        (c .before .before .before .before .before .before .before .before .before .before .before .before .before .before .before .before .before .before .before .before .before .before .before .before .before .before .before .before .before .before .before .before .pre .1)
+        (c .before .before .before .before .before .before .before .before .before .before .before .before .before .before .before .before .before .before .before .before .before .before .before .before .before .before .before .before .before .before .before .before .pre .2)
         (c .before .before .before .before .before .before .before .before .before .before .planned2 .given .1) in
-    rest-in _ _ _
-        (c .before .before .before .before .before .before .before .before .before .before .before .before .before .before .before .before .before .before .before .before .before .before .before .if1 .left)
+    rest-in _ _ _ _ (c .before .before .before .before .before .before .before .before .before .before .before .before .before .before .before .before .before .before .before .before .before .before .before .before .before .before .if1 .left) (chosen-fine _ (c .before .before .before .before .before .before .before .before .before .before .before .before .before .before .before .before .before .before .before .before .before .before .before .before .before .choices-in .ensures) (c .before .before .before .before .before .before .before .before .before .before .before .before .before .before .before .before .before .before .before .before .before .before .before .enum-told .given .1))
         (c .before .before .before .before .before .before .before .before .before .before .before .before .before .before .before .before .before .before .before .before .before .before .if2 .left)
         t (laid-plan t
         (c .before .before .before .before .before .before .before .before .before .before .before .before .before .before .before .before .before .before .before .before .before .before .if2 .left)
-        (c .before .before .before .before .before .before .before .before .before .before .before .before .before .before .before .before .before .before .before .before .before .before .before .before .before .before .before .before .before .pre .1)
-        (c .before .before .before .before .before .before .before .before .before .before .before .before .before .before .before .before .before .before .before .before .before .before .before .before .before .before .before .before .before .pre .2)
+        (c .before .before .before .before .before .before .before .before .before .before .before .before .before .before .before .before .before .before .before .before .before .before .before .before .before .before .before .before .before .before .before .before .pre .1)
+        (c .before .before .before .before .before .before .before .before .before .before .before .before .before .before .before .before .before .before .before .before .before .before .before .before .before .before .before .before .before .before .before .before .pre .2)
         (c .before .before .before .before .before .lay-out .ensures)) (c .before .laid2 .given .1)
 
 pub decide-rest-spec : {M : Type 1} → statement M
@@ -154,7 +166,11 @@ decide-rest-spec =
     tie.close
     (tie.spec
     returns
+    choices-in-requires
+    enum-known-chosen
     returns-2
+    enum-told
+    returns-3
     plan-requires
     enum-known-planned
     enum-known-planned-2
@@ -164,14 +180,14 @@ decide-rest-spec =
     same-length
     same-length-2
     same-length-3
-    returns-3
+    returns-4
     same-length-4
     same-length-5
     same-length-6
     same-length-7
-    returns-4
+    returns-5
     same-length-8
     same-length-9
     same-length-10
     same-length-11
-    returns-5)
+    returns-6)

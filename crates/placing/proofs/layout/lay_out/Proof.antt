@@ -25,8 +25,8 @@ add-fh c = let o = begins-at _ _ _ _ (c .before .before .before .before .before 
     (c .before .before .before .before .before .before .before .before .before .before .before .before .before .pre .3) in omega
     arith
 
-add-t27 : tie.Need-add-t27
-add-t27 c = let o = begins-at _ _ _ _ (c .before .before .before .before .before .before .before .before .first-copies .ensures)
+add-t28 : tie.Need-add-t28
+add-t28 c = let o = begins-at _ _ _ _ (c .before .before .before .before .before .before .before .before .first-copies .ensures)
     (c .before .before .before .before .begun .given .1) in let z = first-near o (c .before .before .aligned .ensures) _
     (c .before .md-bytes .ensures)
     (c .before .before .before .before .before .before .before .before .before .before .before .before .before .before .pre .3)
@@ -62,7 +62,7 @@ place-rest-requires c κs = let o = begins-at _ _ _ _
     c .before .before .before .before .before .before .copy-columns .kept .1 .1 .1 .0),
     c .before .before .before .before .before .before .before .before .before .before .before .before .before .before .before .before .before .before .before .before .before .pre .2,
     omega (arith, y .most), omega (arith, y .most, y .near, z .near),
-    c .before .before .before .before .before .before .before .before .before .before .before .before .before .before .before .before .before .before .before .before .before .pre .4)
+    c .before .before .before .before .before .before .before .before .before .before .before .before .before .before .before .before .before .before .before .before .before .pre .4, c .before .before .before .before .before .before .before .before .before .before .before .before .before .before .before .before .before .before .before .before .before .pre .5, c .before .before .before .before .before .before .before .before .before .before .before .before .before .before .before .before .before .before .before .before .before .pre .6)
 
 enum-known-rest : tie.Need-enum-known-rest
 enum-known-rest c = search needs
@@ -74,15 +74,15 @@ returns : tie.Need-returns
 returns c = let o = begins-at _ _ _ _
     (c .before .before .before .before .before .before .before .before .before .before .before .before .before .before .before .before .before .before .before .before .before .first-copies .ensures)
     (c .before .before .before .before .before .before .before .before .before .before .before .before .before .before .before .before .before .begun .given .1)
-    in whole-done _ _ _ _ _ _ _ o
+    in whole-done _ _ _ _ _ _ _ _ o
     (c .before .before .before .before .before .before .before .before .before .before .before .before .before .before .before .aligned .ensures)
     (c .before .before .before .before .before .before .before .before .before .before .before .before .before .before .md-bytes .ensures)
     (c .before .before .before .before .before .before .before .before .before .before .before .before .copy-columns .ensures .0)
-    (c .before .before .before .before .before .before .before .before .got .given .1) (rests-at _ _ _ _ _ _ _ _ _
+    (c .before .before .before .before .before .before .before .before .got .given .1) (rests-at _ _ _ _ _ _ _ _ _ _
     (c .before .before .before .before .before .place-rest .ensures) (c .before .rest .given .1))
     (c .before .before .before .before .before .before .before .before .before .before .before .before .before .before .before .before .before .before .before .before .before .first-copies .kept .1 .0)
     (c .before .before .before .before .before .before .before .before .before .before .before .before .copy-columns .kept .1 .1 .1 .0)
-    (c .before .before .before .before .before .place-rest .kept .1 .1 .1 .1 .1 .0)
+    (c .before .before .before .before .before .place-rest .kept .1 .1 .1 .1 .1 .1 .0)
     (c .before .before .before .before .before .before .before .before .before .before .before .before .before .before .before .before .before .before .before .before .before .before .before .before .before .before .before .pre .1)
     (c .before .before .before .before .before .before .before .before .before .before .before .before .copy-columns .ensures .1)
 
@@ -96,7 +96,7 @@ returns-2 : tie.Need-returns-2
 returns-2 c = let o = begins-at _ _ _ _
     (c .before .before .before .before .before .before .before .before .before .before .before .before .before .before .before .before .before .before .before .before .before .first-copies .ensures)
     (c .before .before .before .before .before .before .before .before .before .before .before .before .before .before .before .before .before .begun .given .1)
-    in whole-rest _ _ _ _ _ _ _ o
+    in whole-rest _ _ _ _ _ _ _ _ o
     (c .before .before .before .before .before .before .before .before .before .before .before .before .before .before .before .aligned .ensures)
     (c .before .before .before .before .before .before .before .before .before .before .before .before .before .before .md-bytes .ensures)
     (c .before .before .before .before .before .before .before .before .before .before .before .before .copy-columns .ensures .0)
@@ -112,7 +112,7 @@ same-length-3 c = search needs
 returns-3 : tie.Need-returns-3
 returns-3 c = let o = begins-at _ _ _ _
     (c .before .before .before .before .before .before .before .before .before .before .before .before .before .before .first-copies .ensures)
-    (c .before .before .before .before .before .before .before .before .before .before .begun .given .1) in whole-columns _ _ _ _
+    (c .before .before .before .before .before .before .before .before .before .before .begun .given .1) in whole-columns _ _ _ _ _
     _ _ _ o (c .before .before .before .before .before .before .before .before .aligned .ensures)
     (c .before .before .before .before .before .before .before .md-bytes .ensures)
     (c .before .before .before .before .before .copy-columns .ensures .0) (c .before .got2 .given .1)
@@ -124,7 +124,7 @@ same-length-4 : tie.Need-same-length-4
 same-length-4 c = search needs
 
 returns-4 : tie.Need-returns-4
-returns-4 c = whole-first _ _ _ _ _ _ _ _ _ (c .before .before .before .before .before .first-copies .ensures)
+returns-4 c = whole-first _ _ _ _ _ _ _ _ _ _ (c .before .before .before .before .before .first-copies .ensures)
     (c .before .begun2 .given .1)
 
 pub lay-out-spec : {M : Type 1} → statement M
@@ -136,7 +136,7 @@ lay-out-spec =
     aligned-requires
     md-bytes-requires
     add-fh
-    add-t27
+    add-t28
     copy-columns-requires
     enum-known-got
     place-rest-requires

@@ -65,7 +65,7 @@ same-length-4 c = search needs
 
 -- src/convert.rt:99:1
 returns : tie.Need-returns
-returns c = let e = refused-left _ _ _ _ _ _ _ _ _ _ _ (decides-refused
+returns c = let e = refused-left _ _ _ _ _ _ _ _ _ _ _ _ (decides-refused
     (c .before .before .before .before .before .before .before .before .before .before .before .decide .ensures)
     (c .before .decision .given .1)) in (e, promised-by _ _ _ _
     (c .before .before .before .before .before .before .before .before .before .before .before .before .before .before .before .before .are-bytes .ensures)
@@ -106,7 +106,7 @@ same-length-10 c = search needs
 
 -- src/convert.rt:99:1
 returns-2 : tie.Need-returns-2
-returns-2 c = let e = done-left _ _ _ _ _ _ _ _ _ _ _ _ _ _ (decides-done
+returns-2 c = let e = done-left _ _ _ _ _ _ _ _ _ _ _ _ _ _ _ (decides-done
     (c .before .before .before .before .before .before .before .before .before .before .before .before .before .before .before .before .before .before .before .before .before .before .before .before .before .before .before .before .before .before .before .before .before .before .before .before .before .before .decide .ensures)
     (c .before .before .before .before .before .before .before .before .before .before .before .before .before .before .before .before .before .before .before .before .before .before .before .before .before .before .before .before .decision2 .given .1))
     (c .before .before .before .before .before .before .before .before .before .before .before .before .before .before .before .before .before .before .before .before .finish .ensures)

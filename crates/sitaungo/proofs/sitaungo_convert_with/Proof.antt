@@ -4,10 +4,10 @@ use Rattle.sitaungo.specs.ReadableLaws.{readable-by}
 use native.Mathlib.Omega.{arith}
 use lib.ListN.{length, length-set}
 use borrow.Author.Needs.{needs}
-use Rattle.sitaungo.proofs.sitaungo_convert.Statement.{statement}
-use Rattle.sitaungo.proofs.sitaungo_convert.Tie as tie
-use Rattle.sitaungo.proofs.sitaungo_convert.Reads as reads
-use Rattle.sitaungo.proofs.sitaungo_convert.Lts as lts
+use Rattle.sitaungo.proofs.sitaungo_convert_with.Statement.{statement}
+use Rattle.sitaungo.proofs.sitaungo_convert_with.Tie as tie
+use Rattle.sitaungo.proofs.sitaungo_convert_with.Reads as reads
+use Rattle.sitaungo.proofs.sitaungo_convert_with.Lts as lts
 use Rattle.writing.proofs.convert.convert.Reads as convert-reads
 
 are-bytes-requires : tie.Need-are-bytes-requires
@@ -89,8 +89,8 @@ returns-2 c = (
   ),
 )
 
-pub sitaungo-convert-spec : {M : Type 1} → statement M
-sitaungo-convert-spec =
+pub sitaungo-convert-with-spec : {M : Type 1} → statement M
+sitaungo-convert-with-spec =
     tie.close
     (tie.spec
     are-bytes-requires
