@@ -9,7 +9,6 @@ use lib.Seq.{drop-append-seam}
 use Rattle.mdf.specs.Block.{sizeAt}
 use Rattle.plan.specs.Geometry.{align8}
 use Rattle.plan.specs.Copies.{Copy, Copies, withCopy}
-use Rattle.result.specs.Guarantee.{In, here, there}
 use Rattle.copies_laws.specs.AnswerLaws.{Whole}
 
 -- the copies stand in order from a on, each made of a whole block, and end by e
@@ -73,20 +72,6 @@ laid-ends s a e (c ∷ cs) l =
     let h : a ≤ c .to = l .0 in
     let k : c .to + sizeAt s (c .from) ≤ e = laid-ends s _ e cs (l .2) in
     omega arith
-
--- each of them is made of a whole block and stands between a and e
-pub record Within (s : List ℕ) (a e : ℕ) (c : Copy) : Type 0 where
-  pub whole : Whole s (c .from)
-  pub begins : a ≤ c .to
-  pub ends : c .to + sizeAt s (c .from) ≤ e
-
-pub laid-within : {c : Copy} (s : List ℕ) (a e : ℕ) (cs : List Copy) → Laid s a cs e → In c cs → Within s a e c
-unfolding Laid
-laid-within s a e (c ∷ cs) l here = record { whole = l .1; begins = l .0; ends = laid-ends s _ e cs (l .2) }
-laid-within s a e (c ∷ cs) l (there i) =
-    let h : a ≤ c .to = l .0 in
-    let w = laid-within s (c .to + sizeAt s (c .from)) e cs (l .2) i in
-    record { whole = w .whole; begins = omega arith; ends = w .ends }
 
 -- m' has more copies than m, laid past those of m. The copies and the k blocks on the way down stay at most 2,048; each copy takes at most its
 -- greatest length and 7 bytes before it

@@ -1,6 +1,6 @@
 -- What is known of an accepted layout: its parts, the order of its blocks, and how far they reach.
 use Prim.{Unit}
-use Prim.Native.Nat.{ℕ, _+_, _*_, _^_, _≤_, _<_}
+use Prim.Native.Nat.{ℕ, _+_, _*_, _≤_}
 use mathlib.Core.List.{List, []}
 use mathlib.Core.Path.{_≡_, refl, sym, ap, subst}
 use native.Mathlib.Nat.{le-refl, mul-le-mul-right}
@@ -130,9 +130,6 @@ module _ {r : Rules} {s : List ℕ} {size n : ℕ} {cs : List Column} {l : Layou
       let k : length (h .new) + length (l .past .made .memo) ≤ 2048 = omega (arith, few-copies, simp length-append at (ap length (h .memo))) in
       let j : length (l .past .made .memo) ≡ length (g .new) = ap length (g .memo) in
       omega (arith, g .near, h .near, o .md, o .fh, align-near (l .past .made .next), md-near n)
-
-  pub metadata-below : n ≤ 4096 → l .metadata .next < 2 ^ 40
-  metadata-below h = omega (arith, metadata-near)
 
   -- past the columns' DG, CG, CN and DL, under the limit of blocks
   pub metadataEnd-near : {u : Unit {0}} → blocksIn s size cs ≡ ok u → l .metadataEnd ≤ 549755828494 + n + length cs * 34359738744

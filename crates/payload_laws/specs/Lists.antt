@@ -1,9 +1,8 @@
 -- Lists of lists of one length, their joining, and membership.
-use Prim.Native.Nat.{ℕ, zero, suc, _+_, _≤_}
+use Prim.Native.Nat.{ℕ, zero, suc, _+_}
 use mathlib.Core.List.{List, [], _∷_, _++_}
 use mathlib.Core.Path.{_≡_}
-use native.Mathlib.Omega.{arith}
-use lib.ListN.{length, take, drop, length-append}
+use lib.ListN.{length, take, drop}
 use Rattle.result.specs.Guarantee.{In, here, there}
 pub use Rattle.base.specs.BlitLaws.{length-part}
 
@@ -16,12 +15,6 @@ pub data Long (n : ℕ) : List (List ℕ) → Type 0 where
 unfoldable pub together : List (List ℕ) → List ℕ
 together [] = []
 together (p ∷ ps) = p ++ together ps
-
--- each is no longer than all
-pub each-within : {p : List ℕ} {ps : List (List ℕ)} → In p ps → length p ≤ length (together ps)
-unfolding together
-each-within {p} (here {bs}) = rw length-append (omega arith)
-each-within {p} (there {c} {bs} i) = rw length-append (omega (arith, each-within i))
 
 pub long-append : {n : ℕ} {rs : List (List ℕ)} (ts : List (List ℕ)) → Long n rs → Long n ts → Long n (rs ++ ts)
 long-append ts none t = t
@@ -36,11 +29,6 @@ pub long-take : {n : ℕ} {rs : List (List ℕ)} (i : ℕ) → Long n rs → Lon
 long-take zero l = none
 long-take (suc i) none = none
 long-take (suc i) (next e l) = next e (long-take i l)
-
--- so each of them has
-pub long-each : {n : ℕ} {rs : List (List ℕ)} {r : List ℕ} → Long n rs → In r rs → length r ≡ n
-long-each (next e l) here = e
-long-each (next e l) (there i) = long-each l i
 
 -- an element of two lists joined is in one of them
 pub in-append : {A B : Type 0} {x : A} (as' bs : List A) → (In x as' → B) → (In x bs → B) → In x (as' ++ bs) → B

@@ -1,5 +1,4 @@
 -- Membership and the number of occurrences in lists.
-use Prim.{Unit, tt}
 use Prim.Native.Nat.{ℕ, suc, _+_, _≤_}
 use mathlib.Core.List.{List, [], _∷_, _++_}
 use mathlib.Core.Path.{_≡_, refl, sym, ap, _∙_, subst}
@@ -78,17 +77,6 @@ in-occurs a (b ∷ l) h = go (in-occurs a l) (eqb b a) refl
     go : (1 ≤ occurs a l → In a l) → (t : Bool) → eqb b a ≡ t → In a (b ∷ l)
     go ih true q = subst (λ (c : ℕ). In a (c ∷ l)) (sym (eqb-true b a q)) here
     go ih false q = there (ih (omega (arith, same-no b a (eqb-false b a q))))
-
--- ---- lists without repetition
-unfoldable pub Distinct : List ℕ → Type 0
-Distinct [] = Unit {0}
-Distinct (a ∷ l) = (In a l → ⊥) × Distinct l
-
-pub distinct-of : (l : List ℕ) → ((a : ℕ) → occurs a l ≤ 1) → Distinct l
-unfolding Distinct occurs
-distinct-of [] h = tt
-distinct-of (b ∷ l) h =
-    ((λ i. omega (arith, h b, same-yes b b refl, occurs-in b l i)), distinct-of l (λ a. omega (arith, h a)))
 
 -- ---- a list with no more occurrences of anything is no longer
 

@@ -571,9 +571,6 @@ module _ (s : List ℕ) (all : List SrcGroup) (n : ℕ) (p : Plan) (once : (x : 
               )
 
   -- the fragments of signal data and of the walk together keep within the limit
-  pub plan-fragments : p .fragments ≤ 1024
-  plan-fragments = plan-known .few
-
   pub plan-signals : (c : Column) → In c (p .columns) → n + sizeOfSignal (c .signalOf) ≤ 1024
   plan-signals c i = omega (arith, plan-known .signals, plan-known .few, signal-within (p .columns) c i)
 

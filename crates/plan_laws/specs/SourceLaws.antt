@@ -16,7 +16,7 @@ use Rattle.mdf.specs.Count.{countGroups, counts}
 use Rattle.plan.specs.Columns.{SrcGroup, withCounts, srcGroups}
 use Rattle.result.specs.Member.{In, here, there}
 use Rattle.result.specs.Recording.{groupPlaces, countedPlaces, groupNumber, Recorded, Met}
-use Rattle.plan_laws.specs.Lists.{in-left, in-right, in-cases, in-none, same-yes, occurs, occurs-append, occurs-in, Distinct, distinct-of}
+use Rattle.plan_laws.specs.Lists.{in-left, in-right, in-cases, in-none, same-yes, occurs, occurs-append, occurs-in}
 use Rattle.plan_laws.specs.WalkLaws.{Sound, walk-sound, walk-open}
 use Rattle.plan_laws.specs.LinkLaws.{Walked, walk-linked}
 use Rattle.plan_laws.specs.OrderLaws.{walkOf-follows, cn-is-in}
@@ -323,9 +323,6 @@ one-group (k ∷ gs) once (there a) (there b) x i j =
     one-group gs (λ y. omega (arith, once y, occurs-append y (ownAddresses k) (allAddresses gs))) a b x i j
 
 module _ (gs : List SrcGroup) (once : (x : ℕ) → occurs x (allAddresses gs) ≤ 1) where
-  pub all-distinct : Distinct (allAddresses gs)
-  all-distinct = distinct-of (allAddresses gs) once
-
   pub group-unique : {g h : SrcGroup} → In g gs → In h gs → g .at ≡ h .at → g ≡ h
   group-unique {g} {h} a b e = one-group gs once a b (g .at) here (rw e here)
 
@@ -343,16 +340,3 @@ module _ (gs : List SrcGroup) (once : (x : ℕ) → occurs x (allAddresses gs) �
       let q : h ≡ g = one-group gs once b a (h .at) here (there (rw e i)) in
       let p : g .at ≡ c = ap (λ (k : SrcGroup). k .at) (sym q) ∙ e in
       omega (arith, once c, own-within c gs a, occurs-in c (g .channels) i, same-yes (g .at) c p)
-
-dg-occurs-in : (x : ℕ) (ds : List DataGroup) {d : DataGroup} → In d ds → d .at ≡ x → 1 ≤ occurs x (dgAddresses ds)
-unfolding dgAddresses occurs
-dg-occurs-in x (k ∷ ds) here e = omega (arith, same-yes (k .at) x e)
-dg-occurs-in x (k ∷ ds) (there i) e = omega (arith, dg-occurs-in x ds i e)
-
--- DG with one address are one
-pub dg-unique : (ds : List DataGroup) → ((x : ℕ) → occurs x (dgAddresses ds) ≤ 1) → {d e : DataGroup} → In d ds → In e ds → d .at ≡ e .at → d ≡ e
-unfolding dgAddresses occurs
-dg-unique (k ∷ ds) once here here q = refl
-dg-unique (k ∷ ds) once {e = e} here (there b) q = absurd (omega (arith, once (k .at), same-yes (k .at) (k .at) refl, dg-occurs-in (k .at) ds b (sym q)))
-dg-unique (k ∷ ds) once {d = d} (there a) here q = absurd (omega (arith, once (k .at), same-yes (k .at) (k .at) refl, dg-occurs-in (k .at) ds a q))
-dg-unique (k ∷ ds) once (there a) (there b) q = dg-unique ds (λ x. omega (arith, once x)) a b q

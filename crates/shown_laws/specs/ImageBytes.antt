@@ -9,7 +9,6 @@ use lib.ListN.{getD}
 use Rattle.base.specs.Choice.{pick, ifEq}
 use Rattle.base.specs.Field.{leAt}
 use Rattle.mdf.specs.Block.{kindAt, sizeAt, linksAt, dataAt}
-use Rattle.mdf.specs.Group.{groupFlags}
 use Rattle.plan.specs.Channel.{bitOffset, bitCount, channelBytes}
 
 pub choice-small : (m n a b k : ℕ) → a < k → b < k → ifEq m n a b < k
@@ -41,10 +40,6 @@ module _ (s : List ℕ) (bytes : (i : ℕ) → getD s i 0 < 256) where
   pub links-below : (a : ℕ) → linksAt s a < 256 ^ 8
   unfolding linksAt
   links-below a = field-below s bytes 8 (a + 16)
-
-  pub flags-below : (g : ℕ) → groupFlags s g < 65536
-  unfolding groupFlags
-  flags-below g = field-below s bytes 2 _
 
   pub bytes-below : (c : ℕ) → channelBytes s c < 256 ^ 4
   unfolding channelBytes bitOffset bitCount

@@ -6,7 +6,7 @@ use Prim.Native.Nat.{ℕ, suc, _+_, _-_, _*_, _^_, _≤_, _<_}
 use native.Mathlib.Omega.{arith}
 use lib.Dec.{lit<}
 use borrow.Author.Tests.{ne-eqb}
-use lib.ListN.{length, getD, length-append, length-take, length-drop}
+use lib.ListN.{length, length-append, length-take, length-drop}
 use Rattle.base.specs.Choice.{ifEq}
 use Rattle.base.specs.ChoiceLaws.{lt-yes, lt-no, le-yes, eq-yes, eq-no}
 use Rattle.base.specs.Checked.{fine}
@@ -47,13 +47,6 @@ unfoldable pub EqualBut : ℕ → List (List ℕ) → Type 0
 EqualBut pay [] = Unit {0}
 EqualBut pay (p ∷ []) = Unit {0}
 EqualBut pay (p ∷ q ∷ ps) = (length p ≡ pay) × EqualBut pay (q ∷ ps)
-
--- from the lengths by number
-pub equal-but : (pay : ℕ) (ps : List (List ℕ)) → ((i : ℕ) → i + 1 < length ps → length (getD ps i []) ≡ pay) → EqualBut pay ps
-unfolding EqualBut
-equal-but pay [] h = tt
-equal-but pay (p ∷ []) h = tt
-equal-but pay (p ∷ q ∷ ps) h = (h 0 (omega arith), equal-but pay (q ∷ ps) (λ i b. h (suc i) (omega arith)))
 
 -- what stands in a file ends in it
 pub stands-inside : {f : List ℕ} {a : ℕ} (bs : List ℕ) → Stands f a bs → 0 < length bs → a + length bs ≤ length f
