@@ -104,11 +104,10 @@ module _ (u : ℕ) (i : IsUnit u) where
       → Near u (p .dg) (structureBlocks s size memo all (p ∷ ps)) e
   unfolding structureBlocks structureSize
   column-near s size memo all ps p e j o =
-      let w : dlOf p + dlSize (columnBlocks s size (p .column)) ≡ p .dg + (64 + cgSize (p .column .master) + 160 + dlSize (columnBlocks s size (p .column))) =
-      omega arith in
-      near-cons u i (p .dg) 64 e _ _ (here-near _) (length-dg s size memo p (nextDG ps))
+      let w : dlOf p + dlSize (columnBlocks s size (p .column)) ≡ p .dg + structureSize s size (p .column) = omega arith in
+      near-cons u i (p .dg) _ e _ _ (here-near _) (length-dg s size memo p (nextDG ps))
       (near-cons u i (cgOf p) (cgSize (p .column .master)) e _ _ (here-near _) (length-cg s memo all p j)
-      (near-cons u i (cnOf p) 160 e _ _ (here-near _) (length-cn s memo p j)
+      (near-cons u i (cnOf p) _ e _ _ (here-near _) (length-cn s memo p j)
       (near-append u i (dlOf p) (dlOf p + dlSize (columnBlocks s size (p .column))) e (dlBlocks s size p) _ (dl-near s size p) (rw w o))))
 
   structure-near : (o : Rules) (s : List ℕ) (size : ℕ) (memo : List Copy) (all : List Placed) (a d : ℕ) (cs : List Column)
