@@ -33,6 +33,7 @@ extern "C" {
 #define SITAUNGO_LISTING_BYTES 119354 /* bytes that are enough for every listing */
 #define SITAUNGO_IDENT_BYTES 64       /* bytes of the identification, exactly */
 #define SITAUNGO_TEXT_BYTES 4096      /* bytes that the history text has at most */
+#define SITAUNGO_TYPES_BYTES 15       /* bytes that a table of treatments has at most */
 
 /* ---- limits of a recording; past one of them it is refused */
 
@@ -102,8 +103,11 @@ enum {
     SITAUNGO_REFUSED_FORM = 24,
     /* A plot has over 256 entries, or an entry's bytes leave the destination; 0. */
     SITAUNGO_REFUSED_PLOT = 25,
-    /* The unit is no power of two from 8 to 4096; 0. Of a conversion, after 2 and before 3. */
-    SITAUNGO_REFUSED_UNIT = 26
+    /* The unit is no power of two from 8 to 4096; 0. Of a conversion, after 2 and before 27 and 3. */
+    SITAUNGO_REFUSED_UNIT = 26,
+    /* The table of treatments has a wrong count or length, a type over 6 or twice, a treatment over 2, or one that its type can't have; 0.
+     * Of a conversion, after 26 and before 3. */
+    SITAUNGO_REFUSED_TYPES = 27
 };
 
 /* ---- why a channel is left out */
@@ -112,16 +116,17 @@ enum {
     SITAUNGO_OMITTED_REMOTE_MASTER = 1, /* its group's remote master has another count; the address is the CG's */
     SITAUNGO_OMITTED_NO_FIT = 2,        /* it doesn't fit into its record */
     SITAUNGO_OMITTED_MASTER = 3,        /* it is a further master of its group */
-    SITAUNGO_OMITTED_SYNC = 4,          /* it is a synchronization channel (type 4) */
+    SITAUNGO_OMITTED_SYNC = 4,          /* it is a synchronization channel (type 4), and no table lists that type */
     SITAUNGO_OMITTED_ARRAY = 5,         /* it is an array (CA) */
     SITAUNGO_OMITTED_STRUCTURE = 6,     /* it is a structure of channels */
-    SITAUNGO_OMITTED_STORAGE = 7        /* its values lie in a VLSD storage group (CG) */
+    SITAUNGO_OMITTED_STORAGE = 7,       /* its values lie in a VLSD storage group (CG) */
+    SITAUNGO_OMITTED_TYPE = 8           /* the table of treatments omits its type */
 };
 
 /* What a conversion answers: where accepted, the report's seven counts, number and place 0; else number and place, the counts 0. */
 struct sitaungo_outcome {
     bool accepted;
-    uint64_t number;             /* the refusal: 1 to 21, 26 */
+    uint64_t number;             /* the refusal: 1 to 21, 26, 27 */
     uint64_t place;              /* its place */
     uint64_t source_groups;      /* groups of the recording, those of VLSD storage not counted */
     uint64_t time_groups;        /* time columns */
@@ -151,12 +156,27 @@ struct sitaungo_options {
     uint64_t unit; /* each column's first data block and each SD start on the next multiple of it: a power of two from 8 to 4096 (26); built in is 8 */
 };
 
-/* The same by what is chosen: sitaungo_convert is this call with unit 8. Payloads, signal data, omissions and the report but for `file_size` don't depend on
- * the unit. Blocks of one column stay 24 bytes plus payload apart, metadata and what follows the last block stay at multiples of 8, a column without
- * blocks and SD moves nothing; gaps have under `unit` bytes and are zero. */
+/* What a table of treatments says of a channel type. */
+enum {
+    SITAUNGO_KEEP = 0,      /* its channels become columns of their type */
+    SITAUNGO_OMIT = 1,      /* they are left out, with reason 8 */
+    SITAUNGO_STORE_AS_0 = 2 /* they become columns of type 0 with the same records, those of type 1 without their signal data */
+};
+
+/* The same by what is chosen: sitaungo_convert is this call with unit 8 and no table.
+ *
+ * Payloads, signal data, omissions and the report but for `file_size` don't depend on the unit. Blocks of one column stay 24 bytes plus payload apart,
+ * metadata and what follows the last block stay at multiples of 8, a column without blocks and SD moves nothing; gaps have under `unit` bytes and are
+ * zero.
+ *
+ * `types` is the table of treatments: a count n from 1 to 7, then n channel types, then n treatments, a byte each. Types that it doesn't list are treated
+ * as built in, and with a length of 0 all are: type 4 is omitted (reason 4), type 5 stored as type 0, any other kept. Types 2 and 3 can only be kept, type 5
+ * can't be kept, type 6 can't be stored as 0, and types over 6 can't be listed (27). Only a kept channel of type 1 has signal data: link 6 of one that is
+ * stored as 0 isn't read, so it has no reason 7. Reason 8 is tested after all others, before an SD chain is read. */
 struct sitaungo_outcome sitaungo_convert_with(
     const uint8_t *image, size_t image_length, uint64_t size,
     const uint8_t *ident, size_t ident_length, const uint8_t *text, size_t text_length, uint64_t time, struct sitaungo_options options,
+    const uint8_t *types, size_t types_length,
     uint64_t *source, size_t source_length, uint64_t *fragments, size_t fragments_length,
     uint64_t *columns, size_t columns_length, uint64_t *copies, size_t copies_length,
     uint8_t *out, size_t out_length, uint64_t *list, size_t list_length);
@@ -172,10 +192,11 @@ size_t sitaungo_list(
     uint64_t *columns, size_t columns_length, uint64_t *copies, size_t copies_length,
     uint8_t *lines, size_t lines_length);
 
-/* The same of the conversion by what is chosen: sitaungo_list is this call with unit 8. */
+/* The same of the conversion by what is chosen: sitaungo_list is this call with unit 8 and no table. */
 size_t sitaungo_list_with(
     const uint8_t *image, size_t image_length, uint64_t size,
     const uint8_t *ident, size_t ident_length, const uint8_t *text, size_t text_length, struct sitaungo_options options,
+    const uint8_t *types, size_t types_length,
     uint64_t out, uint64_t list_words,
     uint64_t *source, size_t source_length, uint64_t *fragments, size_t fragments_length,
     uint64_t *columns, size_t columns_length, uint64_t *copies, size_t copies_length,

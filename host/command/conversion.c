@@ -42,9 +42,9 @@ uint64_t present_time(void)
     return (uint64_t)now.tv_sec * 1000000000u + (uint64_t)now.tv_nsec;
 }
 
-struct lent lend(uint64_t block_size, uint64_t unit, const char *version, uint64_t time)
+struct lent lend(const struct choices *choices, const char *version, uint64_t time)
 {
-    struct lent l = {.block_size = block_size, .unit = unit, .time = time};
+    struct lent l = {.choices = *choices, .time = time};
     char when[WHEN];
     write_time(when, time);
     l.text_length = (size_t)snprintf(l.text, sizeof l.text, history, version, when, version);
@@ -89,15 +89,17 @@ uint8_t *map_output(int file, uint64_t size)
     return bytes;
 }
 
-static struct sitaungo_options choices_of(const struct lent *l)
+static struct sitaungo_options options_of(const struct choices *c)
 {
-    return (struct sitaungo_options){.unit = l->unit};
+    return (struct sitaungo_options){.unit = c->unit};
 }
 
 struct sitaungo_outcome convert(const struct recording *r, const struct lent *l, uint8_t *out, size_t length)
 {
+    const struct choices *c = &l->choices;
     return sitaungo_convert_with(
-        r->bytes, r->length, l->block_size, ident, sizeof ident, (const uint8_t *)l->text, l->text_length, l->time, choices_of(l),
+        r->bytes, r->length, c->block_size, ident, sizeof ident, (const uint8_t *)l->text, l->text_length, l->time, options_of(c),
+        c->types, c->types_length,
         work[0], SITAUNGO_WORK_WORDS, work[1], SITAUNGO_WORK_WORDS, work[2], SITAUNGO_WORK_WORDS, work[3], SITAUNGO_WORK_WORDS,
         out, length, omissions, SITAUNGO_LIST_WORDS);
 }
@@ -122,8 +124,10 @@ static void take_omissions(const char *listing)
 
 const char *list_columns(const struct recording *r, const struct lent *l, uint64_t size)
 {
+    const struct choices *c = &l->choices;
     size_t length = sitaungo_list_with(
-        r->bytes, r->length, l->block_size, ident, sizeof ident, (const uint8_t *)l->text, l->text_length, choices_of(l), size, SITAUNGO_LIST_WORDS,
+        r->bytes, r->length, c->block_size, ident, sizeof ident, (const uint8_t *)l->text, l->text_length, options_of(c),
+        c->types, c->types_length, size, SITAUNGO_LIST_WORDS,
         work[0], SITAUNGO_WORK_WORDS, work[1], SITAUNGO_WORK_WORDS, work[2], SITAUNGO_WORK_WORDS, work[3], SITAUNGO_WORK_WORDS,
         lines, sizeof lines - 1);
     lines[length < sizeof lines ? length : sizeof lines - 1] = '\0';

@@ -9,9 +9,19 @@
 #include "recording.h"
 #include "sitaungo.h"
 
+/* One byte more than a table of treatments can have is enough to have it refused. */
+enum { TYPES_KEPT = SITAUNGO_TYPES_BYTES + 1 };
+
+/* What the words choose of a result. */
+struct choices {
+    uint64_t block_size, unit;
+    uint8_t types[TYPES_KEPT]; /* the table of treatments */
+    size_t types_length;
+};
+
 /* What a result depends on besides the recording. */
 struct lent {
-    uint64_t block_size, unit;
+    struct choices choices;
     uint64_t time; /* of the history entry, nanoseconds since 1970 */
     char text[SITAUNGO_TEXT_BYTES];
     size_t text_length;
@@ -21,7 +31,7 @@ enum { WHEN = 40, VERSION_KEPT = 32 };
 
 /* The history text of a conversion by this version of the command (or another) at this time. The text has version and time a second time, so
  * that damage to either shows. */
-struct lent lend(uint64_t block_size, uint64_t unit, const char *version, uint64_t time);
+struct lent lend(const struct choices *choices, const char *version, uint64_t time);
 
 /* A time as 2026-11-16T01:35:00.123456789Z. */
 void write_time(char to[WHEN], uint64_t time);

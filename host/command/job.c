@@ -184,7 +184,7 @@ static int convert_recording(struct job *j)
 {
     j->result.replaces = j->o->force;
     check_target(&j->result);
-    j->lent = lend(j->o->block_size, j->o->unit, SITAUNGO_VERSION, present_time());
+    j->lent = lend(&j->o->choices, SITAUNGO_VERSION, present_time());
     forget_report(j);
     j->done = (struct done){.recording = &j->recording, .result = j->result.path, .lent = &j->lent};
     int status = plan(j);
@@ -211,13 +211,13 @@ static struct lent lent_of(const struct job *j, int descriptor, uint64_t length)
     uint64_t time = 0;
     void *bytes = length == 0 ? MAP_FAILED : mmap(NULL, (size_t)length, PROT_READ, MAP_SHARED, descriptor, 0);
     if (bytes == MAP_FAILED)
-        return lend(j->o->block_size, j->o->unit, SITAUNGO_VERSION, 0);
+        return lend(&j->o->choices, SITAUNGO_VERSION, 0);
     watch_mapping(MAPPED_RESULT, bytes, (size_t)length, "%s can't be read to its end: it was cut off meanwhile, or its disk failed", j->result.path);
     if (!read_lent(bytes, (size_t)length, version, &time))
         strcpy(version, SITAUNGO_VERSION);
     forget_mapping(MAPPED_RESULT);
     munmap(bytes, (size_t)length); /* pages that are mapped would stay in the cache */
-    return lend(j->o->block_size, j->o->unit, version, time);
+    return lend(&j->o->choices, version, time);
 }
 
 static void check_result_unchanged(const struct job *j, int descriptor, const struct stat *before)

@@ -18,7 +18,7 @@ enum { LINE = 16384 };
 
 static bool quiet;
 
-/* The refusals of document 01 in plain words. A place is a byte of the recording, where the number has one. */
+/* The refusals of documents 01 and 02 in plain words. A place is a byte of the recording, where the number has one. */
 static const char *const refusals[] = {
     [SITAUNGO_REFUSED_LENT] = "the converter was called wrongly: work words, identification or history text",
     [SITAUNGO_REFUSED_BLOCK_SIZE] = "the block size is 0",
@@ -47,6 +47,8 @@ static const char *const refusals[] = {
     [SITAUNGO_REFUSED_FORM] = "the file lacks the form of a column file, or the buffer has another length",
     [SITAUNGO_REFUSED_PLOT] = "a plot has over 256 entries, or an entry's bytes leave the destination",
     [SITAUNGO_REFUSED_UNIT] = "the unit is no power of two from 8 to 4096",
+    [SITAUNGO_REFUSED_TYPES] = "the table of treatments has a wrong count or length, a type over 6 or twice, a treatment over 2, or one that its type "
+        "can't have",
 };
 
 static const char *const reasons[] = {
@@ -57,6 +59,7 @@ static const char *const reasons[] = {
     [SITAUNGO_OMITTED_ARRAY] = "the channel is an array",
     [SITAUNGO_OMITTED_STRUCTURE] = "the channel is a structure of other channels",
     [SITAUNGO_OMITTED_STORAGE] = "the channel's values of variable length lie in a group of their own",
+    [SITAUNGO_OMITTED_TYPE] = "the table of treatments omits the channel's type",
 };
 
 const char *words_of_refusal(uint64_t number)

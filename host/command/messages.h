@@ -27,7 +27,7 @@ __attribute__((format(printf, 1, 2))) bool say(const char *format, ...);
 /* The message; temporary files are removed; status 1, or 3 with the word that RESULT stands. */
 __attribute__((format(printf, 1, 2), noreturn)) void fail(const char *format, ...);
 
-/* Document 01's refusals and reasons in plain words. */
+/* The refusals and reasons of documents 01 and 02 in plain words. */
 const char *words_of_refusal(uint64_t number);
 const char *words_of_reason(uint64_t reason);
 

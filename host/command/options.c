@@ -1,7 +1,9 @@
 #define _GNU_SOURCE
 #include "options.h"
 
+#include <errno.h>
 #include <getopt.h>
+#include <stdio.h>
 #include <stdlib.h>
 #include <string.h>
 #include <unistd.h>
@@ -31,6 +33,8 @@ static const char usage[] =
     "  --quiet             print neither phases nor the line of success\n"
     "  --resume            pass over a RESULT that is there and is the conversion of RECORDING\n"
     "  --sha256            print the digest of the stored bytes, read back, as sha256sum does\n"
+    "  --types FILE        treat channel types as the table in FILE says: a count from 1 to 7, as many types, as many treatments,\n"
+    "                      a byte each: 0 keep, 1 omit, 2 store as type 0; else type 4 is omitted, 5 stored as 0, any other kept\n"
     "  --unit BYTES        columns and signal data start on multiples of it, a power of two from 8 to 4096; 8 if not given\n"
     "  --verify            check before RESULT gets its name\n"
     "  --help, --version   print this, or the version\n"
@@ -63,14 +67,25 @@ static uint64_t parse_bytes(const char *option, const char *text)
     return bytes;
 }
 
-enum { WORD = 1, BLOCK_SIZE = 256, CHECK, COMPLETE, FORCE, JSON, LISTING, QUIET, RESUME, SHA256, UNIT, VERIFY, HELP, VERSION };
+/* The table's bytes as they are: a wrong one is left to the conversion. */
+static void read_types(struct choices *c, const char *path)
+{
+    FILE *file = fopen(path, "re");
+    if (file)
+        c->types_length = fread(c->types, 1, sizeof c->types, file);
+    if (!file || ferror(file))
+        fail("can't read the table of treatments %s: %s", path, strerror(errno));
+    fclose(file);
+}
+
+enum { WORD = 1, BLOCK_SIZE = 256, CHECK, COMPLETE, FORCE, JSON, LISTING, QUIET, RESUME, SHA256, TYPES, UNIT, VERIFY, HELP, VERSION };
 
 static const struct option known[] = {
     {"block-size", required_argument, NULL, BLOCK_SIZE}, {"check", no_argument, NULL, CHECK}, {"complete", no_argument, NULL, COMPLETE},
     {"folder", required_argument, NULL, 'd'}, {"force", no_argument, NULL, FORCE}, {"json", required_argument, NULL, JSON},
     {"listing", no_argument, NULL, LISTING}, {"quiet", no_argument, NULL, QUIET}, {"resume", no_argument, NULL, RESUME},
-    {"sha256", no_argument, NULL, SHA256}, {"unit", required_argument, NULL, UNIT}, {"verify", no_argument, NULL, VERIFY},
-    {"help", no_argument, NULL, HELP}, {"version", no_argument, NULL, VERSION}, {NULL, 0, NULL, 0},
+    {"sha256", no_argument, NULL, SHA256}, {"types", required_argument, NULL, TYPES}, {"unit", required_argument, NULL, UNIT},
+    {"verify", no_argument, NULL, VERIFY}, {"help", no_argument, NULL, HELP}, {"version", no_argument, NULL, VERSION}, {NULL, 0, NULL, 0},
 };
 
 static void take(struct options *o, int option)
@@ -78,7 +93,7 @@ static void take(struct options *o, int option)
     switch (option) {
     case WORD: o->recordings[o->count++] = optarg; break;
     case 'd': o->folder = optarg; break;
-    case BLOCK_SIZE: o->block_size = parse_bytes("--block-size", optarg); break;
+    case BLOCK_SIZE: o->choices.block_size = parse_bytes("--block-size", optarg); break;
     case CHECK: o->check = true; break;
     case COMPLETE: o->complete = true; break;
     case FORCE: o->force = true; break;
@@ -87,7 +102,8 @@ static void take(struct options *o, int option)
     case QUIET: o->quiet = true; break;
     case RESUME: o->resume = true; break;
     case SHA256: o->digest = true; break;
-    case UNIT: o->unit = parse_bytes("--unit", optarg); break;
+    case TYPES: o->types = optarg; break;
+    case UNIT: o->choices.unit = parse_bytes("--unit", optarg); break;
     case VERIFY: o->verify = true; break;
     case HELP: print(usage, sizeof usage - 1); exit(0);
     case VERSION: print_line("mdf-columns %s", SITAUNGO_VERSION); exit(0);
@@ -110,7 +126,9 @@ static void check_options(const struct options *o)
 /* A leading - takes the words in their order, whether or not POSIXLY_CORRECT is set. */
 struct options parse(int count, char **words)
 {
-    struct options o = {.block_size = DEFAULT_BLOCK_SIZE, .unit = DEFAULT_UNIT, .recordings = calloc((size_t)count + 1, sizeof *words)};
+    struct options o = {
+        .choices = {.block_size = DEFAULT_BLOCK_SIZE, .unit = DEFAULT_UNIT}, .recordings = calloc((size_t)count + 1, sizeof *words),
+    };
     if (!o.recordings)
         fail("no memory for the words");
     for (int c; (c = getopt_long(count, words, "-d:", known, NULL)) != -1;)
@@ -118,6 +136,8 @@ struct options parse(int count, char **words)
     for (; optind < count; optind++)
         o.recordings[o.count++] = words[optind];
     check_options(&o);
+    if (o.types)
+        read_types(&o.choices, o.types);
     if (!o.folder)
         o.result = o.recordings[--o.count];
     return o;

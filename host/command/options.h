@@ -3,7 +3,8 @@
 #define OPTIONS_H
 
 #include <stdbool.h>
-#include <stdint.h>
+
+#include "conversion.h"
 
 struct options {
     char **recordings;
@@ -11,7 +12,8 @@ struct options {
     const char *result; /* NULL: each goes into the folder under its own name */
     const char *folder;
     const char *json;
-    uint64_t block_size, unit;
+    const char *types; /* the file of the table of treatments, or NULL */
+    struct choices choices;
     bool force, resume, check, verify, complete, digest, listing, quiet;
 };
 

@@ -168,6 +168,18 @@ static void put_difference(FILE *to, const struct difference *d)
     fputc('}', to);
 }
 
+/* The table of treatments as a list of its bytes, empty without one. */
+static void put_choices(FILE *to, const struct choices *c)
+{
+    json_number(to, "block_size", c->block_size);
+    json_number(to, "unit", c->unit);
+    json_name(to, "types");
+    fputc('[', to);
+    for (size_t i = 0; i < c->types_length; i++)
+        fprintf(to, "%s%u", i > 0 ? ", " : "", c->types[i]);
+    fputc(']', to);
+}
+
 static void put_report(FILE *to, const struct done *d)
 {
     char when[WHEN];
@@ -178,8 +190,7 @@ static void put_report(FILE *to, const struct done *d)
     json_text(to, "recording", d->recording->path);
     json_number(to, "recording_bytes", (uint64_t)d->recording->found.st_size);
     json_text(to, "result", d->result);
-    json_number(to, "block_size", d->lent->block_size);
-    json_number(to, "unit", d->lent->unit);
+    put_choices(to, &d->lent->choices);
     json_text(to, "time", when);
     if (d->answer.accepted)
         put_counts(to, &d->answer);

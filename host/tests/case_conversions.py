@@ -185,7 +185,9 @@ def over_4_gib():
             refuses(run(path, os.path.join(here, "r.mf4")), 3, 0)
             refuses(run(path, os.path.join(here, "r.mf4"), "--unit", 4096), 3, 0)
             refuses(run(path, os.path.join(here, "r.mf4"), "--unit", 12), 26, 0)
-            holds(here)
+            table = write(os.path.join(here, "table"), b"\0")
+            refuses(run(path, os.path.join(here, "r.mf4"), "--types", table), 27, 0)
+            holds(here, "table")
     os.remove(path)
 
 
@@ -213,6 +215,6 @@ def refusal_keeps_an_old_result():
 
 @test
 def every_refusal_was_met():
-    expect(MET == set(range(1, 27)), "not met:", sorted(set(range(1, 27)) - MET))
+    expect(MET == set(range(1, 28)), "not met:", sorted(set(range(1, 28)) - MET))
 
 

@@ -530,6 +530,13 @@ def converting(recording, sample, refused, folder):
     expect(sitaungo.convert(recording, result, resume=True)["outcome"] == "done already", "resume")
     report = sitaungo.convert(recording, result, force=True, block_size=64, verify=True, sha256=True, complete=False)
     expect(report["block_size"] == 64 and len(report["sha256"]) == 64, report)
+    table = os.path.join(folder, "table")
+    with open(table, "wb") as file:
+        file.write(bytes((1, 0, 1)))
+    report = sitaungo.convert(recording, result, force=True, types=table, unit=64)
+    expect(report["types"] == [1, 0, 1] and report["unit"] == 64 and [o["reason"] for o in report["omissions"]] == [8], report)
+    why = raises(sitaungo.Refused, lambda: sitaungo.convert(recording, result, force=True, types=recording))
+    expect(why.number == 27 and why.place == 0 and "table of treatments" in why.words, why)
     before = got(result)
     why = raises(sitaungo.Refused, lambda: sitaungo.convert(refused, result, force=True))
     expect(why.number == 5 and why.place == 0 and "not an MDF recording" in why.words, why)

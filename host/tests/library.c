@@ -23,6 +23,8 @@ struct call {
     size_t image, ident, text, work[4], out, list;
     uint64_t size, unit;
     bool chooses;
+    const uint8_t *types;
+    size_t types_length;
 };
 
 static size_t image_length;
@@ -59,8 +61,8 @@ static struct sitaungo_outcome run(struct call c)
     memset(list, GUARD, sizeof list);
     memset(work, GUARD, sizeof work);
     if (c.chooses)
-        return sitaungo_convert_with(image, c.image, c.size, ident, c.ident, text, c.text, 0, (struct sitaungo_options){c.unit}, work[0], c.work[0],
-            work[1], c.work[1], work[2], c.work[2], work[3], c.work[3], out, c.out, list, c.list);
+        return sitaungo_convert_with(image, c.image, c.size, ident, c.ident, text, c.text, 0, (struct sitaungo_options){c.unit}, c.types, c.types_length,
+            work[0], c.work[0], work[1], c.work[1], work[2], c.work[2], work[3], c.work[3], out, c.out, list, c.list);
     return sitaungo_convert(image, c.image, c.size, ident, c.ident, text, c.text, 0, work[0], c.work[0], work[1], c.work[1], work[2], c.work[2],
         work[3], c.work[3], out, c.out, list, c.list);
 }
@@ -221,24 +223,98 @@ static void try_bad_units(void)
     }
 }
 
-static void lists_with(uint64_t unit, uint64_t room, const char *expected)
+/* ---- tables of treatments */
+
+struct table {
+    size_t length;
+    uint8_t bytes[SITAUNGO_TYPES_BYTES + 2];
+};
+
+static struct call with_table(const struct table *t)
+{
+    struct call c = with_unit(8);
+    c.types = t->bytes;
+    c.types_length = t->length;
+    return c;
+}
+
+/* Tables that change nothing of the worked example, whose channels have types 2 and 0. */
+static const struct table none = {0, {0}};
+static const struct table without_effect[] = {
+    {3, {1, 0, 0}}, {3, {1, 0, 2}}, {3, {1, 1, 0}}, {3, {1, 1, 1}}, {3, {1, 1, 2}}, {3, {1, 2, 0}}, {3, {1, 3, 0}}, {3, {1, 4, 0}},
+    {3, {1, 4, 1}}, {3, {1, 4, 2}}, {3, {1, 5, 1}}, {3, {1, 5, 2}}, {3, {1, 6, 0}}, {3, {1, 6, 1}}, {5, {2, 6, 0, 1, 2}},
+    {13, {6, 6, 5, 4, 3, 2, 1, 1, 1, 0, 0, 0, 2}}, {15, {7, 0, 1, 2, 3, 4, 5, 6, 2, 2, 0, 0, 0, 2, 1}},
+    {15, {7, 6, 5, 4, 3, 2, 1, 0, 0, 1, 2, 0, 0, 1, 0}},
+};
+
+/* Each condition of 27; their neighbours stand above. */
+static const struct table bad_tables[] = {
+    {1, {0}}, {1, {1}}, {2, {1, 0}}, {4, {1, 0, 0, 0}}, {3, {0, 0, 0}}, {3, {2, 0, 0}}, {5, {1, 0, 1, 0, 0}}, {15, {1, 0, 0}},
+    {14, {7, 0, 1, 2, 3, 4, 5, 6, 2, 2, 0, 0, 0, 2}}, {16, {7, 0, 1, 2, 3, 4, 5, 6, 2, 2, 0, 0, 0, 2, 1, 0}},
+    {17, {8, 0, 1, 2, 3, 4, 5, 6, 7, 2, 2, 0, 0, 0, 2, 1, 0}}, {3, {255, 0, 0}}, {3, {129, 0, 0}},
+    {3, {1, 7, 0}}, {3, {1, 255, 0}}, {5, {2, 0, 0, 0, 0}}, {5, {2, 4, 4, 0, 1}}, {7, {3, 0, 1, 0, 0, 0, 0}}, {3, {1, 0, 3}}, {3, {1, 4, 255}},
+    {3, {1, 2, 1}}, {3, {1, 2, 2}}, {3, {1, 3, 1}}, {3, {1, 3, 2}}, {3, {1, 5, 0}}, {3, {1, 6, 2}},
+    {15, {7, 6, 5, 4, 3, 2, 1, 0, 0, 1, 2, 0, 1, 1, 0}},
+};
+
+static void try_tables(void)
+{
+    static uint8_t usual_bytes[WIDE];
+    const struct table omitting = {3, {1, 0, 1}};
+    check(run(usual()).accepted, "the worked example without a choice");
+    memcpy(usual_bytes, out, sizeof out);
+    check(run(with_table(&none)).accepted && memcmp(out, usual_bytes, sizeof out) == 0 && list[0] == 0, "a table without bytes");
+    for (size_t i = 0; i < sizeof without_effect / sizeof *without_effect; i++)
+        check(run(with_table(&without_effect[i])).accepted && memcmp(out, usual_bytes, sizeof out) == 0 && list[0] == 0, "a table without effect here");
+    struct sitaungo_outcome a = run(with_table(&omitting));
+    check(a.accepted && a.time_groups == 1 && a.signal_groups == 0 && a.data_blocks == 2, "a table that omits the signal");
+    check(list[0] == 1 && list[2] == SITAUNGO_OMITTED_TYPE && all(list + 3, sizeof list - 24, GUARD), "its omission");
+}
+
+/* 27, after 1, 2 and 26. */
+static void try_bad_tables(void)
+{
+    for (size_t i = 0; i < sizeof bad_tables / sizeof *bad_tables; i++) {
+        struct call c = with_table(&bad_tables[i]);
+        refuses(c, SITAUNGO_REFUSED_TYPES, 0, "a bad table");
+        c.out = c.list = c.image = 0;
+        refuses(c, SITAUNGO_REFUSED_TYPES, 0, "a bad table with nothing lent");
+        c.unit = 12;
+        refuses(c, SITAUNGO_REFUSED_UNIT, 0, "a bad unit before the table");
+        c.size = 0;
+        refuses(c, SITAUNGO_REFUSED_BLOCK_SIZE, 0, "block size 0 before the table");
+        c.work[i % 4]--;
+        refuses(c, SITAUNGO_REFUSED_LENT, 0, "a short slice before the table");
+    }
+}
+
+/* ---- listings by what is chosen */
+
+static void lists_with(uint64_t unit, const struct table *t, uint64_t room, const char *expected)
 {
     size_t n = strlen(expected);
     memset(lines, GUARD, sizeof lines);
-    size_t length = sitaungo_list_with(image, image_length, 64, ident, SITAUNGO_IDENT_BYTES, text, 7, (struct sitaungo_options){unit}, room, 2049, work[0],
-        SITAUNGO_WORK_WORDS, work[1], SITAUNGO_WORK_WORDS, work[2], SITAUNGO_WORK_WORDS, work[3], SITAUNGO_WORK_WORDS, lines, sizeof lines);
+    size_t length = sitaungo_list_with(image, image_length, 64, ident, SITAUNGO_IDENT_BYTES, text, 7, (struct sitaungo_options){unit}, t->bytes, t->length,
+        room, 2049, work[0], SITAUNGO_WORK_WORDS, work[1], SITAUNGO_WORK_WORDS, work[2], SITAUNGO_WORK_WORDS, work[3], SITAUNGO_WORK_WORDS, lines,
+        sizeof lines);
     check(length == n && memcmp(lines, expected, n) == 0 && all(lines + n, sizeof lines - n, GUARD), expected);
     for (int i = 0; i < 4; i++)
         check(all(work[i], 8 * SITAUNGO_WORK_WORDS, 0), "work words after a listing");
 }
 
-static void try_listed_units(const char *listing)
+static void try_listed(const char *listing)
 {
-    lists_with(8, 1288, listing);
-    lists_with(4096, 8304, listing);
-    lists_with(4096, 8303, "refused 20 place 8304\n");
-    lists_with(12, 8304, "refused 26 place 0\n");
-    lists_with(0, 0, "refused 26 place 0\n");
+    const struct table omitting = {3, {1, 0, 1}}, bad = {1, {0}};
+    char due[100];
+    lists_with(8, &none, 1288, listing);
+    lists_with(4096, &none, 8304, listing);
+    lists_with(4096, &none, 8303, "refused 20 place 8304\n");
+    lists_with(12, &none, 8304, "refused 26 place 0\n");
+    lists_with(0, &bad, 0, "refused 26 place 0\n");
+    lists_with(8, &bad, 0, "refused 27 place 0\n");
+    check(run(with_table(&omitting)).accepted, "the omission's address");
+    snprintf(due, sizeof due, "columns 1\n0 t 4 0 20 2 80 -\nomitted 1\n%" PRIu64 " 8\n", list[1]);
+    lists_with(8, &omitting, 1288, due);
 }
 
 /* ---- plots */
@@ -323,7 +399,9 @@ int main(int count, char **arguments)
     lists(1288, 0, "refused 21 place 1\n");
     try_units();
     try_bad_units();
-    try_listed_units(listing);
+    try_tables();
+    try_bad_tables();
+    try_listed(listing);
     try_plot();
     printf("%d checks, %d wrong\n", checks, wrong);
     return wrong != 0;

@@ -179,6 +179,7 @@ fn compare(
         text,
         time,
         Choices { unit: 8 },
+        b"",
         &mut source,
         &mut fragments,
         &mut columns,

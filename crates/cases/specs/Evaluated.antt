@@ -11,6 +11,7 @@ use Rattle.mdf.specs.Identification as mdfIdentification
 use Rattle.mdf.specs.Name as mdfName
 use Rattle.mdf.specs.Records as mdfRecords
 use Rattle.mdf.specs.Walk as mdfWalk
+use Rattle.plan.specs.Table as planTable
 use Rattle.plan.specs.Channel as planChannel
 use Rattle.plan.specs.Columns as planColumns
 use Rattle.plan.specs.Copies as planCopies
@@ -43,27 +44,29 @@ unfolding
     mdfWalk.tally mdfWalk.visit mdfWalk.entered mdfWalk.level mdfWalk.belowCN mdfWalk.belowCG mdfWalk.idSize mdfWalk.idSizeIn mdfWalk.belowDG
     mdfWalk.walkOf planChannel.channelType planChannel.bitOffset planChannel.byteOffset planChannel.bitCount planChannel.channelFlags
     planChannel.invalPosition planChannel.channelBytes planChannel.fits planChannel.isMasterType planChannel.keepsInval planChannel.width
-    planChannel.invalBit planChannel.treatment planColumns.withCounts planColumns.srcGroups planColumns.firstMaster planColumns.masterOf
+    planChannel.invalBit planTable.countIn planTable.typeAt planTable.treatedAt planTable.entryOf planTable.isSized planTable.isAllowed planTable.isEntry
+    planTable.areEntries planTable.tableIn planTable.builtInFor planTable.chosenBy planTable.treatment planColumns.withCounts planColumns.srcGroups planColumns.firstMaster planColumns.masterOf
     planColumns.remoteLink planColumns.groupAt planColumns.remoteTime planColumns.timeOf planColumns.timeColumn planColumns.withTime
-    planColumns.decideSignal planColumns.decideComposition planColumns.decide planColumns.planChannels planColumns.planGroup planColumns.planGroups
+    planColumns.unfit planColumns.furtherMaster planColumns.omittedType planColumns.composed planColumns.signalLink planColumns.storedAt
+    planColumns.decideChain planColumns.unless planColumns.decide planColumns.planChannels planColumns.planGroup planColumns.planGroups
     planColumns.plan planColumns.omissionAddresses planColumns.omissionReasons planColumns.omissionWords planCopies.copyOf planCopies.withCopy
     planCopies.isCopied planCopies.lostLinks planCopies.copyLinks planCopies.copyAt planCopies.copyRoot planCopies.copyRoots planCopies.historyFrom
     planCopies.historyOf planCopies.columnCopies planCopies.isAttached planCopies.attachmentIn planCopies.attach planCopies.attachmentsFrom
     planCopies.attachmentsOf planData.isNonempty planData.anyNonempty planData.signalsIn planData.dataIn planData.allDataIn planData.blocksIn
-    planGeometry.align8 planGeometry.alignTo planRules.isAmong planRules.unitIn planGeometry.powerIn planGeometry.stepOf planGeometry.perBlock planGeometry.fullPayload planGeometry.blockCount
+    planGeometry.align8 planGeometry.alignTo planRules.isAmong planRules.unitIn planRules.choicesIn planGeometry.powerIn planGeometry.stepOf planGeometry.perBlock planGeometry.fullPayload planGeometry.blockCount
     planGeometry.perFull planGeometry.blockPayload planLayout.columnWidth planLayout.columnBlocks planLayout.dlSize planLayout.structureSize
     planLayout.payloadSize planLayout.firstAt planLayout.blocksEnd planLayout.placesFrom planLayout.structuresEnd planLayout.placesEnd planLayout.sizesOf planLayout.withPlaces planLayout.mdSize
     planLayout.pastCopies planLayout.fhPlace planLayout.layout resultFill.header resultFill.words resultFill.newLink resultFill.newLinks
     resultFill.historyLink resultFill.copiedLinks resultFill.dataOf resultFill.copiedBytes resultFill.copiedBlocks resultFill.mdBytes
-    resultFill.fhBytes resultFill.dgBytes resultFill.cgAt resultFill.cgData resultFill.cgBytes resultFill.cnData resultFill.cnBytes
+    resultFill.fhBytes resultFill.dgBytes resultFill.cgAt resultFill.cgData resultFill.cgBytes resultFill.storedType resultFill.cnData resultFill.cnBytes
     resultFill.blockLinks resultFill.columnPayload resultFill.dlBytes resultFill.dlBlocks resultFill.structureBlocks resultFill.blockOf
     resultFill.payloadBlocks resultFill.dataBlocks resultFill.atBytes resultFill.attachmentBlocks resultFill.hdData resultFill.hdBytes
     resultListing.digitsOf resultListing.decimal resultListing.columnLine resultListing.columnLines resultListing.omissionLines
     resultListing.planLines resultPayload.recordsOf resultPayload.cell resultPayload.cells resultPayload.payloads resultPayload.columnPayloads
     resultResult.hdBlock resultResult.blocksOf resultResult.flat resultResult.fileOf resultResult.sourceGroupsOf resultResult.timeColumns
-    resultResult.blocksWritten resultResult.report resultResult.lentIn resultResult.choicesIn resultResult.decided resultResult.answer resultResult.workIn resultResult.zeros
+    resultResult.blocksWritten resultResult.report resultResult.lentIn resultResult.decided resultResult.answer resultResult.workIn resultResult.zeros
     resultResult.convert resultLinks.headAt resultLinks.groupFields resultLinks.channelFields resultLinks.listAt resultLinks.listShown
     resultLinks.shownAt resultLinks.shownFrom resultLinks.shown resultDue.duePayload resultDue.evenBlocks resultDue.blocksDue resultDue.equalDue
     resultDue.fragmentsDue resultDue.listDue resultDue.placedCGs resultDue.groupFlagsDue resultDue.channelFlagsDue resultDue.keptByte
-    resultDue.groupDue resultDue.channelDue resultDue.due resultDue.dueAll
+    resultDue.groupDue resultDue.typeDue resultDue.channelDue resultDue.due resultDue.dueAll
 evaluated = 0

@@ -43,12 +43,12 @@ payloadsIn (c ∷ cs) = bytesIn (c .payload) ∷ payloadsIn cs
 
 -- what links are to show
 abbrev dueIn : resultResult.Args → baseChecked.Checked resultResult.Decided → List resultLinks.Shown
-dueIn x (baseChecked.ok d) = resultDue.dueAll (x .image) (x .blockSize) (d .laidOut .placed) (d .laidOut .placed)
+dueIn x (baseChecked.ok d) = resultDue.dueAll (resultResult.rulesOf x) (x .image) (x .blockSize) (d .laidOut .placed) (d .laidOut .placed)
 dueIn x (baseChecked.refused number place) = []
 
 -- the recording with its first sample changed
 abbrev pub other : resultResult.Args
-other = record { image = set image 192 9; blockSize = args .blockSize; ident = args .ident; text = args .text; time = args .time; unit = args .unit }
+other = record { image = set image 192 9; blockSize = args .blockSize; ident = args .ident; text = args .text; time = args .time; unit = args .unit; table = args .table }
 
 abbrev pub Excluded : Type 0
 Excluded =

@@ -4,3 +4,5 @@ pub mod Excluded
 pub mod Refuted
 pub mod Lost
 pub mod Units
+pub mod Tables
+pub mod Treated

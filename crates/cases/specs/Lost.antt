@@ -18,7 +18,7 @@ use Rattle.plan.specs.Layout as planLayout
 use Rattle.result.specs.Result as resultResult
 use Rattle.result.specs.Links as resultLinks
 use Rattle.result.specs.Names.{isTX, LinkDue, HistoryDue, AttachmentsDue}
-use Rattle.result.specs.Recording.{Leads, Followed, isAT, attachedFrom}
+use Rattle.result.specs.Recording.{hasSignal, Leads, Followed, isAT, attachedFrom}
 use Rattle.result.specs.Guarantee.{In, here, there, omissionAt, Guaranteed}
 use Rattle.cases.specs.Evaluated.{evaluated}
 use Rattle.cases.specs.Starred.{image, args}
@@ -26,7 +26,7 @@ use Rattle.cases.specs.Excluded.{fileIn}
 use Rattle.cases.specs.Refuted.{Refuted, in-none}
 
 abbrev withImage : List ℕ → resultResult.Args
-withImage s = record { image = s; blockSize = args .blockSize; ident = args .ident; text = args .text; time = args .time; unit = args .unit }
+withImage s = record { image = s; blockSize = args .blockSize; ident = args .ident; text = args .text; time = args .time; unit = args .unit; table = args .table }
 
 -- a block of that kind, with so many links, all 0
 abbrev blockWith : ℕ → ℕ → ℕ → ℕ → List ℕ → List ℕ
@@ -78,7 +78,7 @@ loses = (
 abbrev signalled : planColumns.Signal → planColumns.Column → planColumns.Column
 signalled g c = record { group = c .group; channel = c .channel; isTime = c .isTime; master = c .master; signalOf = g }
 
-abbrev allSignalled : planColumns.Signal → List planColumns.Column → List planColumns.Column
+abbrev pub allSignalled : planColumns.Signal → List planColumns.Column → List planColumns.Column
 allSignalled g [] = []
 allSignalled g (c ∷ cs) = signalled g c ∷ allSignalled g cs
 
@@ -96,7 +96,7 @@ no-fragments true x fs gs number place e = let z : _≡_ {A = ℕ} 0 1 = cc in o
 no-fragments false x fs gs number place e = let z : _≡_ {A = ℕ} 0 1 = cc in omega (arith, z)
 
 pub silent : Silent planColumns.noSignal (resultResult.decided rich) × Silent (planColumns.signalData []) (resultResult.decided rich)
-unfolding evaluated
+unfolding evaluated hasSignal
 silent = (
   λ os n p f l g. let z : _≡_ {A = ℕ} 824 0 = g .signals _ (there here) .0 refl in omega (arith, z),
   λ os n p f l g. let r = g .signals _ (there here) .0 in no-fragments (ltb (r .1 + 0) 1024) _ _ _ _ _ (r .2),

@@ -19,7 +19,7 @@ use Rattle.result.specs.Result as resultResult
 use Rattle.result.specs.Links as resultLinks
 use Rattle.mdf.specs.Chain as mdfChain
 use Rattle.result.specs.Member.{In, here, there}
-use Rattle.result.specs.Recording.{leadsTo, reasonFor, OmissionDue}
+use Rattle.result.specs.Recording.{leadsTo, hasSignal, reasonFor, OmissionDue}
 use Rattle.result.specs.Guarantee.{omissionsOf, columnsOf, Guaranteed}
 use Rattle.cases.specs.Evaluated.{evaluated}
 use Rattle.cases.specs.Starred.{image, args}
@@ -186,12 +186,12 @@ about c (o ∷ os) e = go (about c os) (eqb (o .at) c) refl
 
 -- the signal, at 336 in the group at 656, is omitted for no reason
 no-reason : (gs : List planColumns.SrcGroup) (o : planColumns.Omission) → ((h : planColumns.SrcGroup) → In h gs → h .at ≡ 656) → o .at ≡ 336
-    → reasonFor image 656 336 ≡ 0 → OmissionDue image gs o → ⊥
-no-reason gs o k a r (OmissionDue.ofChannel h i s c e z) = z (e ∙ ap (λ (x : ℕ). reasonFor image x (o .at)) (k h i) ∙ ap (reasonFor image 656) a ∙ r)
+    → reasonFor [] image 656 336 ≡ 0 → OmissionDue [] image gs o → ⊥
+no-reason gs o k a r (OmissionDue.ofChannel h i s c e z) = z (e ∙ ap (λ (x : ℕ). reasonFor [] image x (o .at)) (k h i) ∙ ap (reasonFor [] image 656) a ∙ r)
 no-reason gs o k a r (OmissionDue.ofGroup h i s q e d) = omega (arith, a, q, k h i)
 
 -- the only member
-one-at : (g h : planColumns.SrcGroup) → In h (g ∷ []) → h .at ≡ g .at
+pub one-at : (g h : planColumns.SrcGroup) → In h (g ∷ []) → h .at ≡ g .at
 one-at g h here = refl
 
 -- whatever omissions, places, bytes and list
@@ -202,7 +202,7 @@ OmitsEach (baseChecked.ok d) =
 OmitsEach (baseChecked.refused number place) = ⊥
 
 pub omits-each : OmitsEach (resultResult.decided args)
-unfolding evaluated columnsOf leadsTo reasonFor
+unfolding evaluated columnsOf leadsTo hasSignal reasonFor
 omits-each os n p f l g =
     let r = about 336 os (omega (arith, g .once _ here refl 336 (there here))) in
     no-reason _ (r .omission) (λ h i. one-at _ h i) (r .isAt) refl (g .omitted (r .omission) (r .isIn))

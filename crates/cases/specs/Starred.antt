@@ -83,7 +83,7 @@ image =
 
 -- `columns` lends block size 64, history text `convert`, time 0
 abbrev pub args : resultResult.Args
-args = record { image = image; blockSize = 64; ident = ident; text = 99 ∷ 111 ∷ 110 ∷ 118 ∷ 101 ∷ 114 ∷ 116 ∷ []; time = 0; unit = 8 }
+args = record { image = image; blockSize = 64; ident = ident; text = 99 ∷ 111 ∷ 110 ∷ 118 ∷ 101 ∷ 114 ∷ 116 ∷ []; time = 0; unit = 8; table = [] }
   where
     ident : List ℕ
     ident = 77 ∷ 68 ∷ 70 ∷ 32 ∷ 32 ∷ 32 ∷ 32 ∷ 32 ∷ 52 ∷ 46 ∷ 50 ∷ 48 ∷ 32 ∷ 32 ∷ 32 ∷ 32 ∷ 83 ∷ 105 ∷ 116 ∷ 97 ∷ 117 ∷ 110 ∷ 103 ∷ 111 ∷ replicate 40 0

@@ -1,12 +1,12 @@
--- Ways through the test of a unit.
+-- Ways through the test of a unit, and of all choices.
 use Prim.Native.Nat.{ℕ}
 use mathlib.Core.List.{List, [], _∷_}
 use mathlib.Core.Bool.{Bool, true, false}
-use mathlib.Core.Path.{_≡_, refl, sym, ap, _∙_}
-use Rattle.base.specs.Choice.{pick}
+use mathlib.Core.Path.{_≡_, refl}
 use Rattle.base.specs.ChoiceLaws.{eq-yes, eq-no}
-use Rattle.base.specs.Checked.{refused, Verdict, fine}
-use Rattle.plan.specs.Rules.{units, isAmong, unitIn}
+use Rattle.base.specs.Checked.{refused, Verdict}
+use Rattle.plan.specs.Table.{tableIn}
+use Rattle.plan.specs.Rules.{Rules, units, isAmong, unitIn, choicesIn}
 
 pub among-yes : (u v : ℕ) (vs : List ℕ) → u ≡ v → true ≡ isAmong u (v ∷ vs)
 unfolding isAmong
@@ -20,10 +20,10 @@ pub among-none : (u : ℕ) → false ≡ isAmong u []
 unfolding isAmong
 among-none u = refl
 
-pub unit-fine : (u : ℕ) → isAmong u units ≡ true → fine ≡ unitIn u
-unfolding unitIn
-unit-fine u e = rw e
+pub choices-past : (o : Rules) {b : Bool} {v : Verdict} → b ≡ isAmong (o .unit) units → b ≡ true → v ≡ tableIn (o .table) → v ≡ choicesIn o
+unfolding choicesIn unitIn
+choices-past o e p q = rw (← e, p) q
 
-pub unit-refused : (u : ℕ) → isAmong u units ≡ false → refused 26 0 ≡ unitIn u
-unfolding unitIn
-unit-refused u e = rw e
+pub choices-refused : (o : Rules) {b : Bool} → b ≡ isAmong (o .unit) units → b ≡ false → refused 26 0 ≡ choicesIn o
+unfolding choicesIn unitIn
+choices-refused o e p = rw (← e, p)

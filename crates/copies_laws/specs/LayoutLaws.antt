@@ -112,7 +112,7 @@ module _ {r : Rules} {s : List ℕ} {size n : ℕ} {cs : List Column} {l : Layou
 
   -- "Then per column DG 64, CG 104 (112 with a master), CN 160", DL
   pub structures-ordered : (memo : List Copy) (all : List Placed) → ((c : Column) → In c cs → InImage s c)
-      → Ordered (pastCopies (l .metadata)) (structureBlocks s size memo all (l .placed)) (l .metadataEnd)
+      → Ordered (pastCopies (l .metadata)) (structureBlocks r s size memo all (l .placed)) (l .metadataEnd)
   structures-ordered memo all f =
       rw (o .placed, o .metadataEnd) (structure-ordered r s size memo all (pastCopies (l .metadata)) _ cs f)
 

@@ -12,6 +12,7 @@ use Rattle.mdf.specs.Block.{sizeAt, linksAt, dataAt}
 use Rattle.plan.specs.Columns.{Column}
 use Rattle.plan.specs.Geometry.{align8}
 use Rattle.plan.specs.Copies.{Copy}
+use Rattle.plan.specs.Rules.{Rules}
 use Rattle.plan.specs.Layout.{columnBlocks, cgSize, dlSize, Placed, mdSize}
 use Rattle.result.specs.Fill.{
   newLinks,
@@ -103,9 +104,9 @@ unfolding cgBytes
 length-cg s memo ps p i =
     simp (length-append, length-header, length-le, length-cgData s (p .column) (i .group)) (length-masterLink ps (p .column .master))
 
-length-cnData : (s : List ℕ) (g c : ℕ) → dataAt s c + 72 ≤ length s → length (cnData s g c) ≡ 72
+length-cnData : (table s : List ℕ) (g c : ℕ) → dataAt s c + 72 ≤ length s → length (cnData table s g c) ≡ 72
 unfolding cnData
-length-cnData s g c h =
+length-cnData table s g c h =
     simp (
       length-append,
       length-le,
@@ -115,10 +116,10 @@ length-cnData s g c h =
       length-part (dataAt s c + 24) 48 s (omega arith),
     )
 
-pub length-cn : (s : List ℕ) (memo : List Copy) (p : Placed) → InImage s (p .column) → length (cnBytes s memo p) ≡ 160
+pub length-cn : (o : Rules) (s : List ℕ) (memo : List Copy) (p : Placed) → InImage s (p .column) → length (cnBytes o s memo p) ≡ 160
 unfolding cnBytes
-length-cn s memo p i =
-    simp (length-append, length-header, length-le, length-cnData s (p .column .group .at) (p .column .channel) (i .channel))
+length-cn o s memo p i =
+    simp (length-append, length-header, length-le, length-cnData (o .table) s (p .column .group .at) (p .column .channel) (i .channel))
 
 pub length-dl : (s : List ℕ) (size : ℕ) (p : Placed) → (columnBlocks s size (p .column) ≡ 0 → ⊥)
     → length (dlBytes s size p) ≡ dlSize (columnBlocks s size (p .column))

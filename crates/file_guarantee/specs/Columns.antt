@@ -48,9 +48,9 @@ pub record Good (s : List ℕ) (size : ℕ) (p : Placed) : Type 0 where
   pub long : length (duePayload s (p .column)) ≡ payloadSize s (p .column)
 
 -- ---- one column
-module _ {f : List ℕ} (s : List ℕ) (size : ℕ) (memo : List Copy) (all : List Placed) (p : Placed) (next : ℕ) (g : Good s size p)
+module _ {f : List ℕ} (o : Rules) (s : List ℕ) (size : ℕ) (memo : List Copy) (all : List Placed) (p : Placed) (next : ℕ) (g : Good s size p)
     (small : (a : ℕ) → newLink memo a < 256 ^ 8) (named : (a : ℕ) → nameAt f (newLink memo a) ≡ fine)
-    (dg : Stands f (p .dg) (dgBytes s size memo p next)) (cg : Stands f (cgOf p) (cgBytes s memo all p)) (cn : Stands f (cnOf p) (cnBytes s memo p))
+    (dg : Stands f (p .dg) (dgBytes s size memo p next)) (cg : Stands f (cgOf p) (cgBytes s memo all p)) (cn : Stands f (cnOf p) (cnBytes o s memo p))
     (list : (b : Block) → In b (dlBlocks s size p) → Stands f (b .at) (b .bytes))
     (blocks : (b : Block) → In b (blocksAt s size p) → Stands f (b .at) (b .bytes)) where
   k : ColumnSound s size p
@@ -72,9 +72,9 @@ module _ {f : List ℕ} (s : List ℕ) (size : ℕ) (memo : List Copy) (all : Li
 
   cn-fine : blockAt CN f (cnOf p) ≡ fine
   cn-fine =
-      let long = length-cn s memo p (g .inside) in
-      block-fine f (cnOf p) _ (cn-head s size memo all p next k cn) CN refl (lit< tt) (lit< tt) (lit< tt)
-      (omega (arith, long, stands-inside (cnBytes s memo p) cn (omega arith)))
+      let long = length-cn o s memo p (g .inside) in
+      block-fine f (cnOf p) _ (cn-head o s size memo p k cn) CN refl (lit< tt) (lit< tt) (lit< tt)
+      (omega (arith, long, stands-inside (cnBytes o s memo p) cn (omega arith)))
 
   cg-name : linkAt f (cgOf p) 2 ≡ newLink memo (linkAt s (p .column .group .at) 2)
   unfolding cgWords
@@ -82,7 +82,7 @@ module _ {f : List ℕ} (s : List ℕ) (size : ℕ) (memo : List Copy) (all : Li
 
   cn-name : linkAt f (cnOf p) 2 ≡ newLink memo (linkAt s (p .column .channel) 2)
   unfolding cnLinks
-  cn-name = cn-link s size memo all p next k cn 2 (lit< tt) (small _)
+  cn-name = cn-link o s size memo p k cn 2 (lit< tt) (small _)
 
   cg-after : cgOf p < cnOf p
   cg-after = omega (arith, cg-bytes (p .column .master))
@@ -101,7 +101,7 @@ module _ {f : List ℕ} (s : List ℕ) (size : ℕ) (memo : List Copy) (all : Li
         dgGroup = dg-cg s size memo all p next k dg;
         cgNext = cg-next s size memo all p next k cg;
         cgChannel = cg-cn s size memo all p next k cg;
-        cnNext = cn-next s size memo all p next k cn;
+        cnNext = cn-next o s size memo p k cn;
         cgName = rw cg-name (named _);
         cnName = rw cn-name (named _);
         chained = λ n m. rw (dg-dl s size memo all p next k dg) (column-chain s size p k list blocks n (omega (arith, fragments-many s size p)));
@@ -132,7 +132,7 @@ module _ {f : List ℕ} (o : Rules) (s : List ℕ) (size : ℕ) (memo : List Cop
     (small : (a : ℕ) → newLink memo a < 256 ^ 8) (named : (a : ℕ) → nameAt f (newLink memo a) ≡ fine) where
   pub columns-stand : (cs : List Column) (a d : ℕ)
       → ((p : Placed) → In p (placedFrom o s size a d cs) → Good s size p)
-      → ((b : Block) → In b (structureBlocks s size memo all (placedFrom o s size a d cs)) → Stands f (b .at) (b .bytes))
+      → ((b : Block) → In b (structureBlocks o s size memo all (placedFrom o s size a d cs)) → Stands f (b .at) (b .bytes))
       → ((b : Block) → In b (dataBlocks s size (placedFrom o s size a d cs)) → Stands f (b .at) (b .bytes))
       → AllStand f a (fileColumns s size (placedFrom o s size a d cs))
   unfolding withPlaces placesFrom sizesOf structureBlocks AllStand fileColumns fileColumn structureSize
@@ -142,12 +142,12 @@ module _ {f : List ℕ} (o : Rules) (s : List ℕ) (size : ℕ) (memo : List Cop
       let p : Placed = placedAt c (placesAt (o .unit) a d z) in
       let ps : List Placed = placedFrom o s size (a + structureSize s size c) (pastData (o .unit) z d) cs in
       let one : ColumnStands f (fileColumn s size p) (nextDG ps) =
-      column-stands s size memo all p (nextDG ps) (good p here) small named (made _ here) (made _ (there here)) (made _ (there (there here)))
-      (λ b i. made b (in-list s size memo all p ps i)) (λ b i. filled b (in-payload s size p ps i))
+      column-stands o s size memo all p (nextDG ps) (good p here) small named (made _ here) (made _ (there here)) (made _ (there (there here)))
+      (λ b i. made b (in-list o s size memo all p ps i)) (λ b i. filled b (in-payload s size p ps i))
       (next-below s size ps (λ q i. good q (there i))) in
       let more : AllStand f (a + structureSize s size c) (fileColumns s size ps) =
       columns-stand cs (a + structureSize s size c) (pastData (o .unit) z d) (λ q i. good q (there i))
-      (λ b i. made b (in-later s size memo all p ps i)) (λ b i. filled b (in-data-later s size p ps i)) in
+      (λ b i. made b (in-later o s size memo all p ps i)) (λ b i. filled b (in-data-later s size p ps i)) in
       (le-refl a, rw (first-same s size ps) one, stand-from f (suc (cnOf p)) (a + structureSize s size c) (fileColumns s size ps) (omega arith) more)
 
 -- ---- what is read of a column
@@ -156,22 +156,22 @@ pub record ColumnRead (f s : List ℕ) (size : ℕ) (p : Placed) : Type 0 where
   pub width : recordBytes f (cgOf p) ≡ columnWidth s (p .column)
   pub payload : joined f (fragmentsDue s size p) ≡ duePayload s (p .column)
 
-pub columns-read : {f : List ℕ} (s : List ℕ) (size : ℕ) (memo : List Copy) (all ps : List Placed)
+pub columns-read : {f : List ℕ} (o : Rules) (s : List ℕ) (size : ℕ) (memo : List Copy) (all ps : List Placed)
     → ((p : Placed) → In p ps → Good s size p)
-    → ((b : Block) → In b (structureBlocks s size memo all ps) → Stands f (b .at) (b .bytes))
+    → ((b : Block) → In b (structureBlocks o s size memo all ps) → Stands f (b .at) (b .bytes))
     → ((b : Block) → In b (dataBlocks s size ps) → Stands f (b .at) (b .bytes)) → (p : Placed) → In p ps → ColumnRead f s size p
 unfolding structureBlocks
-columns-read {f} s size memo all (q ∷ ps) good made filled p here =
+columns-read {f} o s size memo all (q ∷ ps) good made filled p here =
     let k : ColumnSound s size p = good p here .sound in
-    let list : (b : Block) → In b (dlBlocks s size p) → Stands f (b .at) (b .bytes) = λ b i. made b (in-list s size memo all p ps i) in
+    let list : (b : Block) → In b (dlBlocks s size p) → Stands f (b .at) (b .bytes) = λ b i. made b (in-list o s size memo all p ps i) in
     let blocks : (b : Block) → In b (blocksAt s size p) → Stands f (b .at) (b .bytes) = λ b i. filled b (in-payload s size p ps i) in
     record {
       cycles = due-cycles s size memo all p (nextDG ps) k (made _ here) (made _ (there here)) list blocks;
       width = due-width s size memo all p (nextDG ps) k (made _ here) (made _ (there here)) list blocks;
       payload = column-joined s size p k list blocks;
     }
-columns-read s size memo all (q ∷ ps) good made filled p (there j) =
-    columns-read s size memo all ps (λ r i. good r (there i)) (λ b i. made b (in-later s size memo all q ps i))
+columns-read o s size memo all (q ∷ ps) good made filled p (there j) =
+    columns-read o s size memo all ps (λ r i. good r (there i)) (λ b i. made b (in-later o s size memo all q ps i))
     (λ b i. filled b (in-data-later s size q ps i)) p j
 
 -- as many columns and blocks as the limits allow

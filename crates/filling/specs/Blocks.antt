@@ -9,9 +9,9 @@ use Rattle.base.specs.Field.{le}
 use Rattle.base.specs.Blit.{part, blit}
 use Rattle.mdf.specs.Block.{kindDG, kindCG, kindCN, kindDL, dataAt}
 use Rattle.mdf.specs.Group.{groupFlags}
-use Rattle.plan.specs.Channel.{channelType, channelFlags, treatment}
+use Rattle.plan.specs.Channel.{channelFlags}
 use Rattle.plan.specs.Layout.{dlSize}
-use Rattle.result.specs.Fill.{header, one, storedType, cnFlags, blockLinks}
+use Rattle.result.specs.Fill.{header, one, cnFlags, blockLinks}
 
 -- bs laid over d₀ from index at on gives d; r is the index past bs, no more than most
 pub record Laid (at : ℕ) (bs : List ℕ) (most : ℕ) (d₀ d : List ℕ) (r : ℕ) : Type 0 where
@@ -52,19 +52,18 @@ unfoldable pub cnLinks : ℕ → ℕ → ℕ → ℕ → ℕ → List ℕ
 cnLinks name source conversion sd unit =
     header kindCN 160 8 ++ le 8 0 ++ le 8 0 ++ le 8 name ++ le 8 source ++ le 8 conversion ++ le 8 sd ++ le 8 unit
 
--- the data up to the bit count, and from the flags on
-unfoldable pub cnTypes : List ℕ → ℕ → List ℕ
-cnTypes s c =
-    le 1 (storedType (treatment (channelType s c)) (channelType s c)) ++ part (dataAt s c + 1) 3 s ++ le 4 0 ++ part (dataAt s c + 8) 4 s
+-- the data up to the bit count, with the type stored, and from the flags on
+unfoldable pub cnTypes : List ℕ → ℕ → ℕ → List ℕ
+cnTypes s c stored = le 1 stored ++ part (dataAt s c + 1) 3 s ++ le 4 0 ++ part (dataAt s c + 8) 4 s
 
 unfoldable pub cnRest : List ℕ → ℕ → Bool → List ℕ
 cnRest s c keeps =
     le 4 (cnFlags (channelFlags s c) keeps) ++ le 4 0 ++ part (dataAt s c + 20) 2 s ++ le 2 0 ++ part (dataAt s c + 24) 48 s
 
 -- the CN that is made from the CN at c
-unfoldable pub cnFrom : List ℕ → ℕ → Bool → ℕ → ℕ → ℕ → ℕ → ℕ → ℕ → List ℕ
-cnFrom s c keeps name source conversion sd unit comment =
-    cnLinks name source conversion sd unit ++ le 8 comment ++ cnTypes s c ++ cnRest s c keeps
+unfoldable pub cnFrom : List ℕ → ℕ → ℕ → Bool → ℕ → ℕ → ℕ → ℕ → ℕ → ℕ → List ℕ
+cnFrom s c stored keeps name source conversion sd unit comment =
+    cnLinks name source conversion sd unit ++ le 8 comment ++ cnTypes s c stored ++ cnRest s c keeps
 
 -- the DL of n blocks, the first at a
 unfoldable pub dlFrom : ℕ → ℕ → ℕ → List ℕ

@@ -8,9 +8,9 @@ use native.Mathlib.Numerals.{sub-one}
 use native.Mathlib.Omega.{arith}
 use lib.ListN.{length, take, drop, replicate, length-append, length-take, length-drop}
 use lib.Seq.{take-all}
-use lib.Dec.{ltb, eqb}
-use borrow.Author.Tests.{ltb-true, ltb-false, ne-eqb}
-use Rattle.base.specs.Choice.{pick, ifEq}
+use lib.Dec.{ltb}
+use borrow.Author.Tests.{ltb-true, ltb-false}
+use Rattle.base.specs.Choice.{pick}
 use Rattle.base.specs.ChoiceLaws.{eq-yes, eq-no}
 use Rattle.base.specs.Field.{le, Field}
 use Rattle.base.specs.FieldLaws.{length-le}
@@ -18,11 +18,11 @@ use Rattle.base.specs.Blit.{part, blit}
 use Rattle.base.specs.BlitLaws.{blit-append}
 use Rattle.mdf.specs.Block.{kindMD, kindDL, sizeAt, linksAt, dataAt}
 use Rattle.mdf.specs.Group.{groupFlags}
-use Rattle.plan.specs.Channel.{channelType, channelFlags, Treatment, treatment}
+use Rattle.plan.specs.Channel.{channelFlags}
 use Rattle.plan.specs.Layout.{mdSize, dlSize}
 use Rattle.plan.specs.Geometry.{align8}
 use Rattle.puts.specs.PutLaws.{blit-past, le-add, le-wrap, take-min, take-replicate, part-past, length-header}
-use Rattle.result.specs.Fill.{header, mdBytes, storedType, cnFlags, blockLinks, dataOf, hdData}
+use Rattle.result.specs.Fill.{header, mdBytes, cnFlags, blockLinks, dataOf, hdData}
 use Rattle.filling.specs.Blocks.{Laid, flagsFrom, cgHeader, cgFront, cgDataFrom, cgFrom, cnLinks, dlFrom}
 
 -- cs laid just past bs
@@ -145,27 +145,6 @@ module _ (s : List ℕ) (g cn name source comment : ℕ) (remote : Bool) (master
       rw (none, append-nil) (blit-next 0 72 _ _ d₀ d₁ d₂ a f (simp (cg-front remote cn name source comment)))
 
 -- ---- CN
-stored-five : (t : ℕ) → t ≡ 5 → 0 ≡ storedType (treatment t) t
-unfolding treatment ifEq
-stored-five t e = rw e
-
-stored-other : (t : ℕ) → (t ≡ 5 → ⊥) → t ≡ storedType (treatment t) t
-unfolding treatment ifEq
-stored-other t n = go (eqb t 4)
-  where
-    go : (b : Bool) → t ≡ storedType (pick b Treatment.omit (pick (eqb t 5) Treatment.asFixed Treatment.keep)) t
-    go true = refl
-    go false = rw (ne-eqb t 5 n)
-
-pub type-five : (s : List ℕ) (c t : ℕ) → Field 1 s (dataAt s c + 0) t → t ≡ 5 → 0 ≡ storedType (treatment (channelType s c)) (channelType s c)
-unfolding channelType
-type-five s c t k e = rw (← add-zero (dataAt s c), ← k .is) (stored-five t e)
-
-pub type-other : (s : List ℕ) (c t : ℕ) → Field 1 s (dataAt s c + 0) t → (t ≡ 5 → ⊥)
-    → t ≡ storedType (treatment (channelType s c)) (channelType s c)
-unfolding channelType
-type-other s c t k e = rw (← add-zero (dataAt s c), ← k .is) (stored-other t e)
-
 pub flags-kept : (s : List ℕ) (c f : ℕ) (keeps : Bool) → Field 4 s (dataAt s c + 12) f → keeps ≡ true
     → f - f / 4096 % 2 * 4096 ≡ cnFlags (channelFlags s c) keeps
 unfolding channelFlags

@@ -9,10 +9,11 @@ use Rattle.base.specs.Field.{le}
 use Rattle.base.specs.Blit.{part}
 use Rattle.mdf.specs.Block.{kindCG, linkAt, dataAt}
 use Rattle.mdf.specs.Group.{groupFlags}
-use Rattle.plan.specs.Channel.{channelBytes, keepsInval}
+use Rattle.plan.specs.Rules.{Rules}
+use Rattle.plan.specs.Channel.{channelType, channelBytes, keepsInval}
 use Rattle.plan.specs.Copies.{Copy}
 use Rattle.plan.specs.Layout.{columnBlocks, cgLinks, cgSize, Placed, cgOf, cnOf, dlOf}
-use Rattle.result.specs.Fill.{header, newLink, dgBytes, cgFlags, cgAt, masterLink, cgData, cgBytes, sdLink, cnData, cnBytes, columnPayload, dlBytes, one}
+use Rattle.result.specs.Fill.{header, newLink, dgBytes, cgFlags, cgAt, masterLink, cgData, cgBytes, sdLink, storedType, cnData, cnBytes, columnPayload, dlBytes, one}
 use Rattle.filling.specs.Blocks.{dgFrom, cgHeader, cgFront, cgCounts, cgDataFrom, cgFrom, cnLinks, cnTypes, cnRest, cnFrom, dlFrom}
 
 -- whether a column has a master, and its CG
@@ -34,12 +35,14 @@ module _ (s : List ℕ) (size : ℕ) (memo : List Copy) (p : Placed) where
   unfolding dlBytes dlFrom
   dl-from = refl
 
-  pub cn-from : cnBytes s memo p
-      ≡ cnFrom s (p .column .channel) (keepsInval s (p .column .group .at) (p .column .channel)) (newLink memo (linkAt s (p .column .channel) 2))
-      (newLink memo (linkAt s (p .column .channel) 3)) (newLink memo (linkAt s (p .column .channel) 4)) (sdLink (p .column .signalOf) (p .sd))
-      (newLink memo (linkAt s (p .column .channel) 6)) (newLink memo (linkAt s (p .column .channel) 7))
-  unfolding cnBytes cnData cnFrom cnLinks cnTypes cnRest
-  cn-from = simp append-assoc
+-- its CN, at the type that is stored
+pub cn-from : (o : Rules) (s : List ℕ) (memo : List Copy) (p : Placed) (stored : ℕ) → stored ≡ storedType (o .table) (channelType s (p .column .channel))
+    → cnBytes o s memo p
+    ≡ cnFrom s (p .column .channel) stored (keepsInval s (p .column .group .at) (p .column .channel)) (newLink memo (linkAt s (p .column .channel) 2))
+    (newLink memo (linkAt s (p .column .channel) 3)) (newLink memo (linkAt s (p .column .channel) 4)) (sdLink (p .column .signalOf) (p .sd))
+    (newLink memo (linkAt s (p .column .channel) 6)) (newLink memo (linkAt s (p .column .channel) 7))
+unfolding cnBytes cnData cnFrom cnLinks cnTypes cnRest
+cn-from o s memo p stored e = rw e (simp append-assoc)
 
 -- with the master's number taken apart
 cg-made : (s : List ℕ) (ps : List Placed) (g cn name source comment records bytes : ℕ) (inval : Bool) (m : Option ℕ)

@@ -6,7 +6,6 @@ use blocks::block::DL;
 use blocks::block::HD;
 use blocks::block::MD;
 use blocks::block::data_at;
-use blocks::block::data_u8;
 use blocks::block::data_u16;
 use blocks::block::data_u32;
 use blocks::block::links_at;
@@ -27,9 +26,9 @@ ghost use Rattle.base.specs.Field.{le};
 ghost use Rattle.base.specs.Blit.{blit, part};
 ghost use Rattle.mdf.specs.Block.{sizeAt, linksAt, dataAt};
 ghost use Rattle.mdf.specs.Group.{groupFlags};
-ghost use Rattle.plan.specs.Channel.{channelType, channelFlags, treatment};
+ghost use Rattle.plan.specs.Channel.{channelFlags};
 ghost use Rattle.plan.specs.Layout.{dlSize};
-ghost use Rattle.result.specs.Fill.{one, mdBytes, fhBytes, hdData, hdBytes, storedType, cnFlags, blockLinks};
+ghost use Rattle.result.specs.Fill.{one, mdBytes, fhBytes, hdData, hdBytes, cnFlags, blockLinks};
 ghost use Rattle.filling.specs.Blocks.{Laid, dgFrom, flagsFrom, cgHeader, cgFront, cgCounts, cgDataFrom, cgFrom};
 ghost use Rattle.filling.specs.Blocks.{cnLinks, cnTypes, cnRest, cnFrom, dlFrom};
 
@@ -232,18 +231,7 @@ pub fn put_cg(
     put_cg_data(d, 72, image, g, remote, records, bytes, inval);
 }
 
-// The type of a column's CN, from the CN at c: 5 becomes 0.
-fn stored_type(image: &[u8], c: u64) -> u64
-    ensures { λ r. ⌜ r ≡ storedType (treatment (channelType (now (image .entry)) c)) (channelType (now (image .entry)) c) ⌝ }
-{
-    let t = data_u8(image, c, 0);
-    if t == 5 {
-        return 0;
-    }
-    t
-}
-
-// Its flags: bit 12 is cleared, and bit 1 where no invalidation bit is kept.
+// The flags of a column's CN, from the CN at c: bit 12 is cleared, and bit 1 where no invalidation bit is kept.
 fn cn_flags(image: &[u8], c: u64, keeps: bool) -> u64
     ensures { λ r. ⌜ r ≡ cnFlags (channelFlags (now (image .entry)) c) keeps ⌝ }
 {
@@ -268,11 +256,11 @@ fn put_cn_links(d: &mut [u8], name: u64, source: u64, conversion: u64, sd: u64, 
     put_u64(d, 72, unit);
 }
 
-// Its data up to the bit count; the index past that.
-fn put_cn_types(d: &mut [u8], image: &[u8], c: u64) -> usize
-    ensures { λ r. ⌜ Laid 88 (cnTypes (now (image .entry)) c) 100 (now (d .entry)) (now (d .exit)) r ⌝ }
+// Its data up to the bit count, with the type stored; the index past that.
+fn put_cn_types(d: &mut [u8], image: &[u8], c: u64, stored: u64) -> usize
+    ensures { λ r. ⌜ Laid 88 (cnTypes (now (image .entry)) c stored) 100 (now (d .entry)) (now (d .exit)) r ⌝ }
 {
-    put_u8(d, 88, stored_type(image, c));
+    put_u8(d, 88, stored);
     let p = put_data(d, 89, image, c, 1, 3);
     put_u32(d, p, 0);
     put_data(d, p + 4, image, c, 8, 4)
@@ -290,11 +278,12 @@ fn put_cn_rest(d: &mut [u8], at: usize, image: &[u8], c: u64, keeps: bool)
     put_data(d, p + 2, image, c, 24, 48);
 }
 
-// A column's CN, from the CN at c.
+// A column's CN, from the CN at c, with the type stored.
 pub fn put_cn(
     d: &mut [u8],
     image: &[u8],
     c: u64,
+    stored: u64,
     keeps: bool,
     name: u64,
     source: u64,
@@ -303,11 +292,11 @@ pub fn put_cn(
     unit: u64,
     comment: u64,
 )
-    ensures { λ _. ⌜ now (d .exit) ≡ blit 0 (cnFrom (now (image .entry)) c keeps name source conversion sd unit comment) (now (d .entry)) ⌝ }
+    ensures { λ _. ⌜ now (d .exit) ≡ blit 0 (cnFrom (now (image .entry)) c stored keeps name source conversion sd unit comment) (now (d .entry)) ⌝ }
 {
     put_cn_links(d, name, source, conversion, sd, unit);
     put_u64(d, 80, comment);
-    let p = put_cn_types(d, image, c);
+    let p = put_cn_types(d, image, c, stored);
     put_cn_rest(d, p, image, c, keeps);
 }
 

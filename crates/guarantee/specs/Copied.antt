@@ -7,6 +7,7 @@ use lib.Dec.{lit<}
 use lib.ListN.{length, drop, getD}
 use lib.Seq.{drop-append-seam}
 use Rattle.mdf.specs.Block.{linkAt}
+use Rattle.plan.specs.Rules.{Rules}
 use Rattle.plan.specs.Columns.{Column}
 use Rattle.plan.specs.Copies.{Copy, Attachment, columnLinks}
 use Rattle.plan.specs.Layout.{Layout, Placed, cgOf, cnOf}
@@ -50,23 +51,23 @@ module _ (s chain : List ℕ) (memo : List Copy) (fh : ℕ) {c : Copy} where
       in-either (t .own) i (λ j. in-front _ (copied-in (t .own) j)) (λ j. in-back (copiedBlocks s chain memo fh (t .own)) (there (attached-in ts j)))
 
 -- DG, CG and CN of a placed column
-pub record Structured (s : List ℕ) (size : ℕ) (memo : List Copy) (all : List Placed) (bs : List Block) (p : Placed) : Type 0 where
+pub record Structured (o : Rules) (s : List ℕ) (size : ℕ) (memo : List Copy) (all : List Placed) (bs : List Block) (p : Placed) : Type 0 where
   pub next : ℕ
   pub dg : In (block (p .dg) (dgBytes s size memo p next)) bs
   pub cg : In (block (cgOf p) (cgBytes s memo all p)) bs
-  pub cn : In (block (cnOf p) (cnBytes s memo p)) bs
+  pub cn : In (block (cnOf p) (cnBytes o s memo p)) bs
 
-pub structured : (s : List ℕ) (size : ℕ) (memo : List Copy) (all ps : List Placed) (p : Placed) → In p ps
-    → Structured s size memo all (structureBlocks s size memo all ps) p
+pub structured : (o : Rules) (s : List ℕ) (size : ℕ) (memo : List Copy) (all ps : List Placed) (p : Placed) → In p ps
+    → Structured o s size memo all (structureBlocks o s size memo all ps) p
 unfolding structureBlocks
-structured s size memo all (q ∷ ps) p here = record { next = nextDG ps; dg = here; cg = there here; cn = there (there here) }
-structured s size memo all (q ∷ ps) p (there i) =
-    let r = structured s size memo all ps p i in
+structured o s size memo all (q ∷ ps) p here = record { next = nextDG ps; dg = here; cg = there here; cn = there (there here) }
+structured o s size memo all (q ∷ ps) p (there i) =
+    let r = structured o s size memo all ps p i in
     record {
       next = r .next;
-      dg = in-later s size memo all q ps (r .dg);
-      cg = in-later s size memo all q ps (r .cg);
-      cn = in-later s size memo all q ps (r .cn);
+      dg = in-later o s size memo all q ps (r .dg);
+      cg = in-later o s size memo all q ps (r .cg);
+      cn = in-later o s size memo all q ps (r .cn);
     }
 
 module _ (x : Args) (cs : List Column) (l : Layout) (o : LaidOut (rulesOf x) (x .image) (x .blockSize) (length (x .text)) cs l) where
@@ -158,8 +159,8 @@ module _ (x : Args) (cs : List Column) (l : Layout) (o : LaidOut (rulesOf x) (x 
 
     -- "per column the copies of CG links 3, 4, 6, CN links 3, 4, 5, 7, 8, the DG comment"
     module _ (p : Placed) (i : In p (l .placed)) (c : In (p .column) cs) (sound : ColumnSound (x .image) (x .blockSize) p) where
-      parts : Structured (x .image) (x .blockSize) (memoOf l) (l .placed) (structure x l) p
-      parts = structured (x .image) (x .blockSize) (memoOf l) (l .placed) (l .placed) p i
+      parts : Structured (rulesOf x) (x .image) (x .blockSize) (memoOf l) (l .placed) (structure x l) p
+      parts = structured (rulesOf x) (x .image) (x .blockSize) (memoOf l) (l .placed) (l .placed) p i
 
       abbrev Led : ℕ → ℕ → ℕ → Type 0
       Led k a b = LinkDue k (x .image) f (l .past .chain) a b
@@ -173,7 +174,7 @@ module _ (x : Args) (cs : List Column) (l : Layout) (o : LaidOut (rulesOf x) (x 
           let s : List ℕ = x .image in
           let dg = dg-link s (x .blockSize) (memoOf l) (l .placed) p (parts .next) sound (filled _ (in-structure x l (parts .dg))) in
           let cg = cg-link s (x .blockSize) (memoOf l) (l .placed) p (parts .next) sound (filled _ (in-structure x l (parts .cg))) in
-          let cn = cn-link s (x .blockSize) (memoOf l) (l .placed) p (parts .next) sound (filled _ (in-structure x l (parts .cn))) in
+          let cn = cn-link (rulesOf x) s (x .blockSize) (memoOf l) p sound (filled _ (in-structure x l (parts .cn))) in
           record {
             groupName = led k _ _ here (cg 2 (lit< tt) (led-small _));
             groupSource = led k _ _ (there here) (cg 3 (lit< tt) (led-small _));

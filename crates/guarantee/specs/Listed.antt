@@ -6,10 +6,11 @@ use mathlib.Core.Path.{_≡_, refl, sym, _∙_, ap, subst}
 use lib.ListN.{length}
 use Rattle.base.specs.Blit.{blit}
 use Rattle.base.specs.Checked.{Checked, ok, andThen}
+use Rattle.plan.specs.Rules.{Rules}
 use Rattle.plan.specs.Columns.{Column}
 use Rattle.plan.specs.Layout.{Placed, payloadSize}
 use Rattle.result.specs.Listing.{listedBytes}
-use Rattle.result.specs.Result.{Args, Decided, answer, fileOf}
+use Rattle.result.specs.Result.{Args, rulesOf, Decided, answer, fileOf}
 use Rattle.result.specs.Links.{Shown, shown}
 use Rattle.result.specs.Due.{due, dueAll, duePayload}
 use Rattle.result.specs.Guarantee.{In, here, there, columnsPlaced}
@@ -30,11 +31,11 @@ due-bytes x d k c i =
     let r = sized x d k c i .ready in
     ap length (sym (column-joined (x .image) (x .blockSize) c r)) ∙ column-bytes (x .image) (x .blockSize) c r
 
-all-due : (s : List ℕ) (size : ℕ) (all ps : List Placed) → ((c : Column) → In c (columnsPlaced ps) → length (duePayload s c) ≡ payloadSize s c)
-    → map shownBytes (dueAll s size all ps) ≡ map (dueBytes s) (columnsPlaced ps)
+all-due : (o : Rules) (s : List ℕ) (size : ℕ) (all ps : List Placed) → ((c : Column) → In c (columnsPlaced ps) → length (duePayload s c) ≡ payloadSize s c)
+    → map shownBytes (dueAll o s size all ps) ≡ map (dueBytes s) (columnsPlaced ps)
 unfolding dueAll due columnsPlaced
-all-due s size all [] h = refl
-all-due s size all (p ∷ ps) h = rw (h (p .column) here, all-due s size all ps (λ c i. h c (there i)))
+all-due o s size all [] h = refl
+all-due o s size all (p ∷ ps) h = rw (h (p .column) here, all-due o s size all ps (λ c i. h c (there i)))
 
 -- of every accepted call: the fields, in order, are the bytes that its file shows
 pub listed-shown : (x : Args) (out list : List ℕ) (d : Decided) → AllBytes (x .image) → answer x (length out) (length list) ≡ ok d
@@ -43,6 +44,6 @@ pub listed-shown : (x : Args) (out list : List ℕ) (d : Decided) → AllBytes (
 listed-shown x out list d bytes e k h =
     let g = guaranteed x out list d bytes e in
     ap (map shownBytes) (g .shows k h)
-    ∙ all-due (x .image) (x .blockSize) (d .laidOut .placed) (d .laidOut .placed)
+    ∙ all-due (rulesOf x) (x .image) (x .blockSize) (d .laidOut .placed) (d .laidOut .placed)
     (λ c i. due-bytes x d (answer-known x (length out) (length list) d e) c (subst (In c) (g .planned) i))
     ∙ ap (map (dueBytes (x .image))) (g .planned)

@@ -33,6 +33,7 @@ use Rattle.guarantee.specs.Close.{blocks-close, all-start}
 use Rattle.payload_laws.specs.SignalLaws.{column-signal, length-signal, data-ordered}
 use Rattle.plan_laws.specs.Decision.{answer-accepted, blocks-few}
 use Rattle.plan_laws.specs.Known.{Known, answer-known}
+use Rattle.plan_laws.specs.TableLaws.{treats, choices-unit, choices-table}
 use Rattle.plan_laws.specs.PlanLaws.{made-kinded}
 use Rattle.plan_laws.specs.FileOrderLaws.{plan-in-order}
 use Rattle.shown_laws.specs.ColumnShown.{ColumnSound}
@@ -78,7 +79,7 @@ module _ (x : Args) (d : Decided) (k : Known x d) where
       }
 
   unit : IsUnit (x .unit)
-  unit = unit-is (x .unit) (k .steps .chosen)
+  unit = unit-is (x .unit) (choices-unit (rulesOf x) (k .steps .chosen))
 
   data-in-order : Ordered (d .laidOut .metadataEnd) (dataBlocks (x .image) (x .blockSize) (d .laidOut .placed))
       (dataEnd (rulesOf x) (x .image) (x .blockSize) (d .laidOut .metadataEnd) (d .planned .columns))
@@ -184,7 +185,7 @@ pub guaranteed : (x : Args) (out list : List ℕ) (d : Decided) → AllBytes (x 
 guaranteed x out list d bytes e =
     let k = answer-known x (length out) (length list) d e in
     let a = answer-accepted x (length out) (length list) d e in
-    let q = plan-in-order (x .image) (length (k .steps .source .fragments)) (d .groups) (d .planned) (λ y. omega (arith, k .groups .once y)) (k .steps .planned) in
+    let q = plan-in-order (rulesOf x) (x .image) (length (k .steps .source .fragments)) (d .groups) (d .planned) (λ y. omega (arith, k .groups .once y)) (k .steps .planned) in
     let filled = file-filled x (d .laidOut) out (ordered x d k) (a .outputFits) in
     record {
       planned = columns-placed (o x d k);
@@ -204,7 +205,8 @@ guaranteed x out list d bytes e =
       met = met x d k;
       once = k .once;
       source = k .source;
-      kinded = λ c i. made-kinded (x .image) c (c .isTime) (k .planned .sourced c i .made);
+      treated = treats (x .table) (choices-table (rulesOf x) (k .steps .chosen));
+      kinded = λ c i. made-kinded (rulesOf x) (x .image) c (c .isTime) (k .planned .sourced c i .made);
       omitted = k .planned .omitted;
       differing = q .differing;
       columnsInOrder = q .columns;

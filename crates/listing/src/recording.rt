@@ -6,6 +6,7 @@ use placing::decide::Decision;
 use placing::decide::decide;
 use reading::recording::clear;
 ghost use Prim.Native.Nat.{_≤_};
+ghost use Rattle.choices.specs.Chosen.{rules};
 ghost use Rattle.placing.specs.Decision.{untimed, four};
 ghost use Rattle.listing.specs.Lines.{Laid, AllCount};
 ghost use Rattle.listing.specs.Listed.{answerIn, Listed};
@@ -37,7 +38,7 @@ fn put_answer(
     put_plan_lines(lines, 0, image, size, columns, fragments, n, m)
 }
 
-// The listing for an output of so many bytes and a list of so many words, and its length. The four work slices hold 8,192 words each.
+// The listing by what is chosen, for an output of so many bytes and a list of so many words, and its length. The table says how types are treated. The four work slices hold 8,192 words each.
 pub fn list(
     lines: &mut [u8],
     image: &[u8],
@@ -45,6 +46,7 @@ pub fn list(
     ident: &[u8],
     text: &[u8],
     choices: Choices,
+    table: &[u8],
     out: u64,
     list_words: u64,
     source: &mut [u64],
@@ -52,11 +54,22 @@ pub fn list(
     columns: &mut [u64],
     copies: &mut [u64],
 ) -> usize
-    ensures { λ r. ⌜ Listed (untimed (now (image .entry)) size (now (ident .entry)) (now (text .entry)) choices) out «list_words»
+    ensures { λ r. ⌜ Listed (untimed (now (image .entry)) size (now (ident .entry)) (now (text .entry)) (rules choices (now (table .entry)))) out «list_words»
         (four (now (source .entry)) (now (fragments .entry)) (now (columns .entry)) (now (copies .entry))) (now (lines .entry))
         r (now (lines .exit)) (four (now (source .exit)) (now (fragments .exit)) (now (columns .exit)) (now (copies .exit))) ⌝ }
 {
-    let decision = decide(image, size, ident, text, choices, source, fragments, columns, copies);
+    let decision = decide(
+        image,
+        size,
+        ident,
+        text,
+        choices,
+        table,
+        source,
+        fragments,
+        columns,
+        copies,
+    );
     match decision {
         Decision::Refused { number, place } => put_refusal(lines, 0, number, place),
         Decision::Done {

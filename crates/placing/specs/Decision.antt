@@ -11,9 +11,8 @@ use Rattle.mdf.specs.Group.{dataGroups}
 use Rattle.mdf.specs.Count.{counts}
 use Rattle.work_words.specs.Words.{countsAt, laidItems, fragmentWords}
 use Rattle.plan.specs.Columns.{srcGroups}
-use Rattle.plan.specs.Rules.{unitIn}
+use Rattle.plan.specs.Rules.{Rules, choicesIn}
 use Rattle.plan.specs.Layout.{layout}
-use Rattle.choices.specs.declared.Choices.{Choices}
 use Rattle.work_words.specs.PlanWords.{signalFragments, laidPlan}
 use Rattle.result.specs.Result.{Args, Decided, lentIn, decided, workIn, workLeft}
 use Rattle.planning.specs.Answer.{plannedOf}
@@ -23,21 +22,21 @@ use Rattle.placing.specs.declared.decide.Decision.{Decision}
 use Rattle.placing.specs.declared.decide.Decision.the-variants.{Refused, Done}
 
 -- a call's arguments but the time
-abbrev pub untimed : List ℕ → ℕ → List ℕ → List ℕ → Choices → Args
-untimed image size ident text c = record { image = image; blockSize = size; ident = ident; text = text; time = 0; unit = c .unit }
+abbrev pub untimed : List ℕ → ℕ → List ℕ → List ℕ → Rules → Args
+untimed image size ident text rs = record { image = image; blockSize = size; ident = ident; text = text; time = 0; unit = rs .unit; table = rs .table }
 
 -- the four work slices
 abbrev pub four : List ℕ → List ℕ → List ℕ → List ℕ → List (List ℕ)
 four a b c d = a ∷ b ∷ c ∷ d ∷ []
 
--- all but the first: what is decided of the image, for a unit, a block size and a history text of n bytes
-unfoldable pub rest : ℕ → List ℕ → ℕ → ℕ → Checked Decided
-rest u s size n =
+-- all but the first: what is decided of the image, by what is chosen, for a block size and a history text of n bytes
+unfoldable pub rest : Rules → List ℕ → ℕ → ℕ → Checked Decided
+rest rs s size n =
     andThen (ifEq size 0 (refused 2 0) fine) (λ _.
-    andThen (unitIn u) (λ _.
+    andThen (choicesIn rs) (λ _.
     andThen (ifLt 4294967296 (length s) (refused 3 0) fine) (λ _.
-    andThen (plannedOf s size) (λ a.
-    andThen (layout (onUnit u) s size n (a .planned .columns)) (λ l.
+    andThen (plannedOf rs s size) (λ a.
+    andThen (layout (onUnit (rs .unit)) s size n (a .planned .columns)) (λ l.
     ok (record { groups = srcGroups (dataGroups (a .source)) (a .numbers); planned = a .planned; laidOut = l }))))))
 
 -- what was decided stands in the words: of reading, of the fragments, of the plan and of the layout (the numbers have the last), each laid over what they were
@@ -62,9 +61,9 @@ pub record DecidedIn (x : Args) (i f k o : ℕ) (n : Numbers) (a b c d a' b' c' 
   pub inColumns : c' ≡ laidPlan (length (source .fragments)) (told .planned) c
 
 -- the same of all but the first
-pub record RestIn (u : ℕ) (s : List ℕ) (size text : ℕ) (i f k o : ℕ) (n : Numbers) (a b c d a' b' c' d' : List ℕ) : Type 0 where
+pub record RestIn (rs : Rules) (s : List ℕ) (size text : ℕ) (i f k o : ℕ) (n : Numbers) (a b c d a' b' c' d' : List ℕ) : Type 0 where
   pub told : Decided
-  pub is : rest u s size text ≡ ok told
+  pub is : rest rs s size text ≡ ok told
   pub source : Source
   pub walked : walk s ≡ ok source
   pub numbers : List ℕ
@@ -88,6 +87,6 @@ Decides x a b c d (Refused number place) a' b' c' d' = RefusedIn x number place 
 Decides x a b c d (Done items fragments columns omissions n) a' b' c' d' = DecidedIn x items fragments columns omissions n a b c d a' b' c' d'
 
 -- of all but the first; after a refusal the words are not said
-abbrev pub DecidesRest : ℕ → List ℕ → ℕ → ℕ → List ℕ → List ℕ → List ℕ → List ℕ → Decision → List ℕ → List ℕ → List ℕ → List ℕ → Type 0
-DecidesRest u s size text a b c d (Refused number place) a' b' c' d' = rest u s size text ≡ refused number place
-DecidesRest u s size text a b c d (Done items fragments columns omissions n) a' b' c' d' = RestIn u s size text items fragments columns omissions n a b c d a' b' c' d'
+abbrev pub DecidesRest : Rules → List ℕ → ℕ → ℕ → List ℕ → List ℕ → List ℕ → List ℕ → Decision → List ℕ → List ℕ → List ℕ → List ℕ → Type 0
+DecidesRest rs s size text a b c d (Refused number place) a' b' c' d' = rest rs s size text ≡ refused number place
+DecidesRest rs s size text a b c d (Done items fragments columns omissions n) a' b' c' d' = RestIn rs s size text items fragments columns omissions n a b c d a' b' c' d'

@@ -18,10 +18,9 @@ use Rattle.work_words.specs.Words.{countsAt, laidItems, fragmentWords}
 use Rattle.plan.specs.Columns.{SrcGroup, srcGroups, Column, Signal, noSignal, signalData, sizeOfSignal, plan}
 use Rattle.work_words.specs.PlanWords.{fragmentsIn, signalFragments, laidPlan}
 use Rattle.plan.specs.Data.{allDataIn, blocksIn}
-use Rattle.plan.specs.Rules.{unitIn}
+use Rattle.plan.specs.Rules.{Rules, builtIn, choicesIn}
 use Rattle.plan.specs.Layout.{Layout, layout}
-use Rattle.choices.specs.declared.Choices.{Choices}
-use Rattle.result.specs.Result.{Args, Decided, lentIn, choicesIn, decided, workIn, zeros}
+use Rattle.result.specs.Result.{Args, rulesOf, Decided, lentIn, decided, workIn, zeros}
 use Rattle.result.specs.Guarantee.{In}
 use Rattle.fields.specs.declared.Check.{Check}
 use Rattle.fields.specs.declared.Check.the-variants as check
@@ -58,8 +57,8 @@ same-steps (ok x) f g h = h x
 same-steps (refused n p) f g h = refl
 
 -- what is decided, the lent slices apart
-pub decided-rest : (x : Args) → decided x ≡ andThen (lentIn x) (λ _. rest (x .unit) (x .image) (x .blockSize) (length (x .text)))
-unfolding decided choicesIn rest plannedOf
+pub decided-rest : (x : Args) → decided x ≡ andThen (lentIn x) (λ _. rest (rulesOf x) (x .image) (x .blockSize) (length (x .text)))
+unfolding decided rest plannedOf layout
 decided-rest x =
     let s = x .image in
     let k : Arranged → Checked Decided = λ a.
@@ -67,20 +66,20 @@ decided-rest x =
     ok (record { groups = srcGroups (dataGroups (a .source)) (a .numbers); planned = a .planned; laidOut = l })) in
     sym (same-steps (lentIn x) _ _ (λ _.
     same-steps (ifEq (x .blockSize) 0 (refused 2 0) fine) _ _ (λ _.
-    same-steps (unitIn (x .unit)) _ _ (λ _.
+    same-steps (choicesIn (rulesOf x)) _ _ (λ _.
     same-steps (ifLt 4294967296 (length s) (refused 3 0) fine) _ _ (λ _.
     steps (identified s) _ k ∙ same-steps (identified s) _ _ (λ _.
     steps (walk s) _ k ∙ same-steps (walk s) _ _ (λ st.
     steps (counts s (dataGroups st)) _ k ∙ same-steps (counts s (dataGroups st)) _ _ (λ ns.
-    steps (plan s (length (st .fragments)) (srcGroups (dataGroups st) ns)) _ k
-    ∙ same-steps (plan s (length (st .fragments)) (srcGroups (dataGroups st) ns)) _ _ (λ p.
+    steps (plan (rulesOf x) s (length (st .fragments)) (srcGroups (dataGroups st) ns)) _ k
+    ∙ same-steps (plan (rulesOf x) s (length (st .fragments)) (srcGroups (dataGroups st) ns)) _ _ (λ p.
     steps (allDataIn s (p .columns) (dataGroups st)) _ k ∙ same-steps (allDataIn s (p .columns) (dataGroups st)) _ _ (λ _.
     steps (blocksIn s (x .blockSize) (p .columns)) _ k))))))))))
 
 -- ---- the lent slices
 module _ (ident text : List ℕ) where
   abbrev lent : Verdict
-  lent = lentIn (untimed [] 0 ident text (record { unit = 8 }))
+  lent = lentIn (untimed [] 0 ident text builtIn)
 
   pub lent-short : (length ident ≡ 64 → ⊥) → refused 1 0 ≡ lent
   unfolding lentIn
@@ -106,10 +105,10 @@ module _ (ident text : List ℕ) where
         lent-fine m = eq-yes _ _ _ _ h (eq-yes _ _ _ _ (sym e ∙ k) (eq-yes _ _ _ _ (sym f ∙ l) (lt-no _ _ _ _ m refl)))
 
 -- ---- planning's answer
-plan-into : (s : List ℕ) (size : ℕ) (w f c : List ℕ) → 8192 ≤ length w → 8192 ≤ length f → 8192 ≤ length c
-    → leftBy (plannedOf s size) w f c ≡ planInto s size w f c
+plan-into : (rs : Rules) (s : List ℕ) (size : ℕ) (w f c : List ℕ) → 8192 ≤ length w → 8192 ≤ length f → 8192 ≤ length c
+    → leftBy (plannedOf rs s size) w f c ≡ planInto rs s size w f c
 unfolding planInto
-plan-into s size w f c l m n = lt-no _ _ _ _ (omega arith) (lt-no _ _ _ _ (omega arith) (lt-no _ _ _ _ (omega arith) refl))
+plan-into rs s size w f c l m n = lt-no _ _ _ _ (omega arith) (lt-no _ _ _ _ (omega arith) (lt-no _ _ _ _ (omega arith) refl))
 
 done≢refused : {i nf nc no' x y : ℕ} {a b c d e f : List ℕ} → planLeft (planned.Done i nf nc no') a b c ≡ planLeft (planned.Refused x y) d e f → ⊥
 done≢refused e = let z : _≡_ {A = ℕ} 0 1 = cc in omega arith
@@ -118,9 +117,9 @@ refused≢done : {i nf nc no' x y : ℕ} {a b c d e f : List ℕ} → planLeft (
 refused≢done e = let z : _≡_ {A = ℕ} 0 1 = cc in omega arith
 
 -- a recording that was planned, and its words
-pub record PlannedIn (s : List ℕ) (size i nf nc no' : ℕ) (w f c w' f' c' : List ℕ) : Type 0 where
+pub record PlannedIn (rs : Rules) (s : List ℕ) (size i nf nc no' : ℕ) (w f c w' f' c' : List ℕ) : Type 0 where
   pub told : Arranged
-  pub is : plannedOf s size ≡ ok told
+  pub is : plannedOf rs s size ≡ ok told
   pub items : i ≡ length (told .source .items)
   pub fragments : nf ≡ length (told .source .fragments)
   pub columns : nc ≡ length (told .planned .columns)
@@ -129,44 +128,44 @@ pub record PlannedIn (s : List ℕ) (size i nf nc no' : ℕ) (w f c w' f' c' : L
   pub inFragments : f' ≡ blit 0 (fragmentWords (told .source .fragments ++ signalFragments (told .planned .columns))) f
   pub inColumns : c' ≡ laidPlan (length (told .source .fragments)) (told .planned) c
 
-planned-by : (s : List ℕ) (size i nf nc no' : ℕ) (w f c w' f' c' : List ℕ) (v : Checked Arranged) → plannedOf s size ≡ v
-    → planLeft (planned.Done i nf nc no') w' f' c' ≡ leftBy v w f c → PlannedIn s size i nf nc no' w f c w' f' c'
-planned-by s size i nf nc no' w f c w' f' c' (refused x y) p z = absurd (done≢refused z)
-planned-by s size i nf nc no' w f c w' f' c' (ok a) p z =
+planned-by : (rs : Rules) (s : List ℕ) (size i nf nc no' : ℕ) (w f c w' f' c' : List ℕ) (v : Checked Arranged) → plannedOf rs s size ≡ v
+    → planLeft (planned.Done i nf nc no') w' f' c' ≡ leftBy v w f c → PlannedIn rs s size i nf nc no' w f c w' f' c'
+planned-by rs s size i nf nc no' w f c w' f' c' (refused x y) p z = absurd (done≢refused z)
+planned-by rs s size i nf nc no' w f c w' f' c' (ok a) p z =
     record { told = a; is = p; items = cc; fragments = cc; columns = cc; omissions = cc; inSource = cc; inFragments = cc; inColumns = cc }
 
-refused-by : (s : List ℕ) (size x y : ℕ) (w f c w' f' c' : List ℕ) (v : Checked Arranged) → plannedOf s size ≡ v
-    → planLeft (planned.Refused x y) w' f' c' ≡ leftBy v w f c → plannedOf s size ≡ refused x y
-refused-by s size x y w f c w' f' c' (refused n m) p z = let a : n ≡ x = cc in let b : m ≡ y = cc in p ∙ rw (a, b)
-refused-by s size x y w f c w' f' c' (ok a) p z = absurd (refused≢done z)
+refused-by : (rs : Rules) (s : List ℕ) (size x y : ℕ) (w f c w' f' c' : List ℕ) (v : Checked Arranged) → plannedOf rs s size ≡ v
+    → planLeft (planned.Refused x y) w' f' c' ≡ leftBy v w f c → plannedOf rs s size ≡ refused x y
+refused-by rs s size x y w f c w' f' c' (refused n m) p z = let a : n ≡ x = cc in let b : m ≡ y = cc in p ∙ rw (a, b)
+refused-by rs s size x y w f c w' f' c' (ok a) p z = absurd (refused≢done z)
 
-module _ (s : List ℕ) (size : ℕ) (w f c w' f' c' : List ℕ) (r : answer.Planned) (e : planLeft r w' f' c' ≡ planInto s size w f c)
+module _ (rs : Rules) (s : List ℕ) (size : ℕ) (w f c w' f' c' : List ℕ) (r : answer.Planned) (e : planLeft r w' f' c' ≡ planInto rs s size w f c)
     (l : 8192 ≤ length w) (m : 8192 ≤ length f) (n : 8192 ≤ length c) where
-  pub plans-done : {i nf nc no' : ℕ} → r ≡ planned.Done i nf nc no' → PlannedIn s size i nf nc no' w f c w' f' c'
-  plans-done {i} {nf} {nc} {no'} q = planned-by s size i nf nc no' w f c w' f' c' (plannedOf s size) refl (rw q at (e ∙ sym (plan-into s size w f c l m n)))
+  pub plans-done : {i nf nc no' : ℕ} → r ≡ planned.Done i nf nc no' → PlannedIn rs s size i nf nc no' w f c w' f' c'
+  plans-done {i} {nf} {nc} {no'} q = planned-by rs s size i nf nc no' w f c w' f' c' (plannedOf rs s size) refl (rw q at (e ∙ sym (plan-into rs s size w f c l m n)))
 
-  pub plans-refused : {x y : ℕ} → r ≡ planned.Refused x y → plannedOf s size ≡ refused x y
-  plans-refused {x} {y} q = refused-by s size x y w f c w' f' c' (plannedOf s size) refl (rw q at (e ∙ sym (plan-into s size w f c l m n)))
+  pub plans-refused : {x y : ℕ} → r ≡ planned.Refused x y → plannedOf rs s size ≡ refused x y
+  plans-refused {x} {y} q = refused-by rs s size x y w f c w' f' c' (plannedOf rs s size) refl (rw q at (e ∙ sym (plan-into rs s size w f c l m n)))
 
 -- ---- the steps of planning
-pub record ArrangedBy (s : List ℕ) (size : ℕ) (a : Arranged) : Type 0 where
+pub record ArrangedBy (rs : Rules) (s : List ℕ) (size : ℕ) (a : Arranged) : Type 0 where
   pub walked : walk s ≡ ok (a .source)
   pub counted : counts s (dataGroups (a .source)) ≡ ok (a .numbers)
-  pub planned : plan s (length (a .source .fragments)) (srcGroups (dataGroups (a .source)) (a .numbers)) ≡ ok (a .planned)
+  pub planned : plan rs s (length (a .source .fragments)) (srcGroups (dataGroups (a .source)) (a .numbers)) ≡ ok (a .planned)
   pub dataFine : allDataIn s (a .planned .columns) (dataGroups (a .source)) ≡ fine
   pub blocksFine : blocksIn s size (a .planned .columns) ≡ fine
 
-arranged-by : (s : List ℕ) (size : ℕ) (a : Arranged) → plannedOf s size ≡ ok a → ArrangedBy s size a
+arranged-by : (rs : Rules) (s : List ℕ) (size : ℕ) (a : Arranged) → plannedOf rs s size ≡ ok a → ArrangedBy rs s size a
 unfolding plannedOf
-arranged-by s size a e =
+arranged-by rs s size a e =
     let b = then-fine (identified s) _ e in
     let c = then-ok (walk s) _ (b .1) in
     let d = then-ok (counts s (dataGroups (c .0))) _ (c .2) in
-    let f = then-ok (plan s (length (c .0 .fragments)) (srcGroups (dataGroups (c .0)) (d .0))) _ (d .2) in
+    let f = then-ok (plan rs s (length (c .0 .fragments)) (srcGroups (dataGroups (c .0)) (d .0))) _ (d .2) in
     let g = then-fine (allDataIn s (f .0 .columns) (dataGroups (c .0))) _ (f .2) in
     let h = then-fine (blocksIn s size (f .0 .columns)) _ (g .1) in
     let k = ok-same (h .1) in
-    subst (ArrangedBy s size) k (record { walked = c .1; counted = d .1; planned = f .1; dataFine = g .0; blocksFine = h .0 })
+    subst (ArrangedBy rs s size) k (record { walked = c .1; counted = d .1; planned = f .1; dataFine = g .0; blocksFine = h .0 })
 
 pub signals-length : (cs : List Column) → length (signalFragments cs) ≡ signalsOf cs
 unfolding signalFragments signalsOf
@@ -177,9 +176,9 @@ signals-length (c ∷ cs) = let r = signals-length cs in simp length-append (rw 
     size-of noSignal = refl
     size-of (signalData fs) = refl
 
-module _ {s : List ℕ} {size i nf nc no' : ℕ} {w f c w' f' c' : List ℕ} (t : PlannedIn s size i nf nc no' w f c w' f' c') where
-  abbrev by : ArrangedBy s size (t .told)
-  by = arranged-by s size (t .told) (t .is)
+module _ {rs : Rules} {s : List ℕ} {size i nf nc no' : ℕ} {w f c w' f' c' : List ℕ} (t : PlannedIn rs s size i nf nc no' w f c w' f' c') where
+  abbrev by : ArrangedBy rs s size (t .told)
+  by = arranged-by rs s size (t .told) (t .is)
 
   abbrev all : List SrcGroup
   all = srcGroups (dataGroups (t .told .source)) (t .told .numbers)
@@ -192,11 +191,11 @@ module _ {s : List ℕ} {size i nf nc no' : ℕ} {w f c w' f' c' : List ℕ} (t 
 
   few-columns : length (t .told .planned .columns) ≤ 512
   few-columns =
-      omega (arith, plan-few s all (length (t .told .source .fragments)) (t .told .planned) one (known .nonzero) (known .fewFragments) (by .planned), known .fewChannels)
+      omega (arith, plan-few rs s all (length (t .told .source .fragments)) (t .told .planned) one (known .nonzero) (known .fewFragments) (by .planned), known .fewChannels)
 
   few-fragments : length (t .told .source .fragments) + length (signalFragments (t .told .planned .columns)) ≤ 1024
   few-fragments =
-      let p = plan-known s all (length (t .told .source .fragments)) (t .told .planned) one (known .nonzero) (known .fewFragments) (by .planned) in
+      let p = plan-known rs s all (length (t .told .source .fragments)) (t .told .planned) one (known .nonzero) (known .fewFragments) (by .planned) in
       omega (arith, signals-length (t .told .planned .columns), p .signals, p .few)
 
   -- a column whose data was read
@@ -204,14 +203,14 @@ module _ {s : List ℕ} {size i nf nc no' : ℕ} {w f c w' f' c' : List ℕ} (t 
   unfolding dataGroups
   column-known c j =
       let n = length (t .told .source .fragments) in
-      let source = plan-source s all n (t .told .planned) one (known .nonzero) (known .fewFragments) (by .planned) c j in
-      let fit = plan-fits s all n (t .told .planned) one (known .nonzero) (known .fewFragments) (by .planned) c j in
+      let source = plan-source rs s all n (t .told .planned) one (known .nonzero) (known .fewFragments) (by .planned) c j in
+      let fit = plan-fits rs s all n (t .told .planned) one (known .nonzero) (known .fewFragments) (by .planned) c j in
       let m = member s (dataGroups (t .told .source)) (by .counted) (c .group) (source .0) in
       record {
         ready = ready s (dataGroups (t .told .source)) (t .told .planned .columns) (by .counted) (by .dataFine) c j (source .0) fit (source .1);
         signals = column-signal s (dataGroups (t .told .source)) (t .told .planned .columns) (by .counted) (by .dataFine) c j (source .0);
         few = omega (arith, fragments-few (t .told .source .fragments) (t .told .source .items) (c .group .dataGroup) (m .listed), known .fewFragments);
-        fewSignals = omega (arith, plan-signals s all n (t .told .planned) one (known .nonzero) (known .fewFragments) (by .planned) c j);
+        fewSignals = omega (arith, plan-signals rs s all n (t .told .planned) one (known .nonzero) (known .fewFragments) (by .planned) c j);
       }
 
   module _ (h : length s ≤ 4294967296) (lf : 8192 ≤ length f) (lc : 8192 ≤ length c) where
@@ -233,59 +232,59 @@ module _ {s : List ℕ} {size i nf nc no' : ℕ} {w f c w' f' c' : List ℕ} (t 
         (subst (λ (y : List ℕ). LaysOut u s size text c' y nc m m' r) (t .inFragments) z))
 
 -- ---- the choices
-pub chosen-refused : (u : ℕ) {r : Check} → verdictOf r ≡ unitIn u → {n p : ℕ} → r ≡ check.Refused n p → unitIn u ≡ refused n p
-chosen-refused u e q = sym e ∙ rw q
+pub chosen-refused : (rs : Rules) {r : Check} → verdictOf r ≡ choicesIn rs → {n p : ℕ} → r ≡ check.Refused n p → choicesIn rs ≡ refused n p
+chosen-refused rs e q = sym e ∙ rw q
 
-pub chosen-fine : (u : ℕ) {r : Check} → verdictOf r ≡ unitIn u → r ≡ check.Fine → unitIn u ≡ fine
-chosen-fine u e q = sym e ∙ rw q
+pub chosen-fine : (rs : Rules) {r : Check} → verdictOf r ≡ choicesIn rs → r ≡ check.Fine → choicesIn rs ≡ fine
+chosen-fine rs e q = sym e ∙ rw q
 
 -- ---- all but the lent slices
-module _ (u : ℕ) (s : List ℕ) (size text : ℕ) where
-  pub rest-empty : size ≡ 0 → rest u s size text ≡ refused 2 0
+module _ (rs : Rules) (s : List ℕ) (size text : ℕ) where
+  pub rest-empty : size ≡ 0 → rest rs s size text ≡ refused 2 0
   unfolding rest
   rest-empty h = rw (← (eq-yes size 0 (refused 2 0) fine h refl))
 
   module _ (h : size ≡ 0 → ⊥) where
-    pub rest-unchosen : {n p : ℕ} → unitIn u ≡ refused n p → rest u s size text ≡ refused n p
+    pub rest-unchosen : {n p : ℕ} → choicesIn rs ≡ refused n p → rest rs s size text ≡ refused n p
     unfolding rest
     rest-unchosen e = rw (← (eq-no size 0 (refused 2 0) fine h refl), e)
 
-    module _ (k : unitIn u ≡ fine) where
-      pub rest-large : 4294967296 < length s → rest u s size text ≡ refused 3 0
+    module _ (k : choicesIn rs ≡ fine) where
+      pub rest-large : 4294967296 < length s → rest rs s size text ≡ refused 3 0
       unfolding rest
       rest-large l = rw (← (eq-no size 0 (refused 2 0) fine h refl), k, ← (lt-yes 4294967296 (length s) (refused 3 0) fine l refl))
 
       module _ (l : length s ≤ 4294967296) where
-        opened : rest u s size text ≡ andThen (plannedOf s size) (λ a.
-            andThen (layout (onUnit u) s size text (a .planned .columns)) (λ l.
+        opened : rest rs s size text ≡ andThen (plannedOf rs s size) (λ a.
+            andThen (layout (onUnit (rs .unit)) s size text (a .planned .columns)) (λ l.
             ok (record { groups = srcGroups (dataGroups (a .source)) (a .numbers); planned = a .planned; laidOut = l })))
         unfolding rest
         opened = rw (← (eq-no size 0 (refused 2 0) fine h refl), k, ← (lt-no 4294967296 (length s) (refused 3 0) fine l refl))
 
-        pub rest-unplanned : {n p : ℕ} → plannedOf s size ≡ refused n p → rest u s size text ≡ refused n p
+        pub rest-unplanned : {n p : ℕ} → plannedOf rs s size ≡ refused n p → rest rs s size text ≡ refused n p
         rest-unplanned e = opened ∙ rw e
 
-        pub rest-unlaid : {a : Arranged} {n p : ℕ} → plannedOf s size ≡ ok a → layout (onUnit u) s size text (a .planned .columns) ≡ refused n p
-            → rest u s size text ≡ refused n p
+        pub rest-unlaid : {a : Arranged} {n p : ℕ} → plannedOf rs s size ≡ ok a → layout (onUnit (rs .unit)) s size text (a .planned .columns) ≡ refused n p
+            → rest rs s size text ≡ refused n p
         rest-unlaid e f = opened ∙ rw (e, f)
 
-        pub rest-laid : {a : Arranged} {v : Layout} → plannedOf s size ≡ ok a → layout (onUnit u) s size text (a .planned .columns) ≡ ok v
-            → rest u s size text ≡ ok (record { groups = srcGroups (dataGroups (a .source)) (a .numbers); planned = a .planned; laidOut = v })
+        pub rest-laid : {a : Arranged} {v : Layout} → plannedOf rs s size ≡ ok a → layout (onUnit (rs .unit)) s size text (a .planned .columns) ≡ ok v
+            → rest rs s size text ≡ ok (record { groups = srcGroups (dataGroups (a .source)) (a .numbers); planned = a .planned; laidOut = v })
         rest-laid e f = opened ∙ rw (e, f)
 
 -- ---- what the layout gives
 pub unlaid : (m m' : List ℕ) (r : Laid) (v : Checked Layout) {n p : ℕ} → Lays m m' r v → r ≡ laid.Refused n p → v ≡ refused n p
 unlaid m m' r v z e = subst (λ (r : Laid). Lays m m' r v) e z
 
-pub rest-in : (u : ℕ) (s : List ℕ) (size text : ℕ) → (size ≡ 0 → ⊥) → unitIn u ≡ fine → length s ≤ 4294967296 → {i nf nc no' : ℕ} {w f c w' f' c' : List ℕ} (t : PlannedIn s size i nf nc no' w f c w' f' c')
-    → {m m' : List ℕ} {r : Laid} {n : Numbers} → Lays m m' r (layout (onUnit u) s size text (t .told .planned .columns)) → r ≡ laid.Done n
-    → RestIn u s size text i nf nc no' n w f c m w' f' c' m'
-rest-in u s size text h k l t {m} {m'} {r} {n} z e =
-    let y : LaidOut m m' n (layout (onUnit u) s size text (t .told .planned .columns)) = subst (λ (q : Laid). Lays m m' q (layout (onUnit u) s size text (t .told .planned .columns))) e z in
-    let b = arranged-by s size (t .told) (t .is) in
+pub rest-in : (rs : Rules) (s : List ℕ) (size text : ℕ) → (size ≡ 0 → ⊥) → choicesIn rs ≡ fine → length s ≤ 4294967296 → {i nf nc no' : ℕ} {w f c w' f' c' : List ℕ} (t : PlannedIn rs s size i nf nc no' w f c w' f' c')
+    → {m m' : List ℕ} {r : Laid} {n : Numbers} → Lays m m' r (layout (onUnit (rs .unit)) s size text (t .told .planned .columns)) → r ≡ laid.Done n
+    → RestIn rs s size text i nf nc no' n w f c m w' f' c' m'
+rest-in rs s size text h k l t {m} {m'} {r} {n} z e =
+    let y : LaidOut m m' n (layout (onUnit (rs .unit)) s size text (t .told .planned .columns)) = subst (λ (q : Laid). Lays m m' q (layout (onUnit (rs .unit)) s size text (t .told .planned .columns))) e z in
+    let b = arranged-by rs s size (t .told) (t .is) in
     record {
       told = record { groups = srcGroups (dataGroups (t .told .source)) (t .told .numbers); planned = t .told .planned; laidOut = y .told };
-      is = rest-laid u s size text h k l (t .is) (y .is);
+      is = rest-laid rs s size text h k l (t .is) (y .is);
       source = t .told .source;
       walked = b .walked;
       numbers = t .told .numbers;
@@ -325,13 +324,13 @@ module _ (a b c d : List ℕ) where
 pub short-work : (x : Args) {ws : List (List ℕ)} → workIn ws ≡ refused 1 0 → RefusedIn x 1 0 ws ws
 short-work x e = record { is = rw e; words = rw e }
 
-lent-same : (image : List ℕ) (size : ℕ) (ident text : List ℕ) (c : Choices)
-    → lentIn (untimed image size ident text c) ≡ lentIn (untimed [] 0 ident text (record { unit = 8 }))
+lent-same : (image : List ℕ) (size : ℕ) (ident text : List ℕ) (c : Rules)
+    → lentIn (untimed image size ident text c) ≡ lentIn (untimed [] 0 ident text builtIn)
 unfolding lentIn
 lent-same image size ident text c = refl
 
-module _ (image : List ℕ) (size : ℕ) (ident text : List ℕ) (chosen : Choices) (ws : List (List ℕ)) (fits : workIn ws ≡ fine) (r : Check)
-    (e : verdictOf r ≡ lentIn (untimed [] 0 ident text (record { unit = 8 }))) where
+module _ (image : List ℕ) (size : ℕ) (ident text : List ℕ) (chosen : Rules) (ws : List (List ℕ)) (fits : workIn ws ≡ fine) (r : Check)
+    (e : verdictOf r ≡ lentIn (untimed [] 0 ident text builtIn)) where
   abbrev x : Args
   x = untimed image size ident text chosen
 
@@ -348,7 +347,7 @@ module _ (image : List ℕ) (size : ℕ) (ident text : List ℕ) (chosen : Choic
     lent-passes : lentIn x ≡ fine
     lent-passes = lent-is ∙ rw q
 
-    decided-is : decided x ≡ rest (chosen .unit) image size (length text)
+    decided-is : decided x ≡ rest chosen image size (length text)
     decided-is = decided-rest x ∙ rw lent-passes
 
     pub text-fits : length text ≤ 4096
@@ -359,11 +358,11 @@ module _ (image : List ℕ) (size : ℕ) (ident text : List ℕ) (chosen : Choic
         let c = eq-first _ _ _ _ (b .1) refused≢ok in
         lt-back _ _ _ _ (c .1) refused≢ok .0
 
-    pub rest-refused : {n p : ℕ} {ws' : List (List ℕ)} → rest (chosen .unit) image size (length text) ≡ refused n p → ws' ≡ zeros ws → RefusedIn x n p ws ws'
+    pub rest-refused : {n p : ℕ} {ws' : List (List ℕ)} → rest chosen image size (length text) ≡ refused n p → ws' ≡ zeros ws → RefusedIn x n p ws ws'
     rest-refused k z = record { is = rw (fits, decided-is, k); words = z ∙ rw (fits, lent-passes) }
 
     pub rest-decided : {i f k o : ℕ} {n : Numbers} {a b c d a' b' c' d' : List ℕ} → 8192 ≤ length a → 8192 ≤ length b → 8192 ≤ length c → 8192 ≤ length d
-        → RestIn (chosen .unit) image size (length text) i f k o n a b c d a' b' c' d' → DecidedIn x i f k o n a b c d a' b' c' d'
+        → RestIn chosen image size (length text) i f k o n a b c d a' b' c' d' → DecidedIn x i f k o n a b c d a' b' c' d'
     rest-decided la lb lc ld t =
         record {
           told = t .told;
@@ -387,9 +386,9 @@ module _ (image : List ℕ) (size : ℕ) (ident text : List ℕ) (chosen : Choic
         }
 
 -- answers taken apart
-pub rests-refused : (u : ℕ) (s : List ℕ) (size text : ℕ) (a b c d : List ℕ) (r : Decision) (a' b' c' d' : List ℕ) {n p : ℕ}
-    → DecidesRest u s size text a b c d r a' b' c' d' → r ≡ Refused n p → rest u s size text ≡ refused n p
-rests-refused u s size text a b c d r a' b' c' d' h e = subst (λ (r : Decision). DecidesRest u s size text a b c d r a' b' c' d') e h
+pub rests-refused : (rs : Rules) (s : List ℕ) (size text : ℕ) (a b c d : List ℕ) (r : Decision) (a' b' c' d' : List ℕ) {n p : ℕ}
+    → DecidesRest rs s size text a b c d r a' b' c' d' → r ≡ Refused n p → rest rs s size text ≡ refused n p
+rests-refused rs s size text a b c d r a' b' c' d' h e = subst (λ (r : Decision). DecidesRest rs s size text a b c d r a' b' c' d') e h
 
 pub cleared : (a b c d a' b' c' d' a'' b'' c'' d'' : List ℕ) → length a' ≡ length a → length b' ≡ length b → length c' ≡ length c → length d' ≡ length d
     → a'' ≡ replicate (length a') 0 → b'' ≡ replicate (length b') 0 → c'' ≡ replicate (length c') 0 → d'' ≡ replicate (length d') 0
@@ -397,8 +396,8 @@ pub cleared : (a b c d a' b' c' d' a'' b'' c'' d'' : List ℕ) → length a' ≡
 unfolding zeros
 cleared a b c d a' b' c' d' a'' b'' c'' d'' la lb lc ld e f g h = rw (e, f, g, h, la, lb, lc, ld)
 
-pub decides-some : (x : Args) (u : ℕ) (s : List ℕ) (size text : ℕ) (a b c d a' b' c' d' : List ℕ) (r : Decision) {i g k o : ℕ} {n : Numbers}
-    → DecidesRest u s size text a b c d r a' b' c' d' → r ≡ Done i g k o n
-    → (RestIn u s size text i g k o n a b c d a' b' c' d' → DecidedIn x i g k o n a b c d a' b' c' d') → Decides x a b c d r a' b' c' d'
-decides-some x u s size text a b c d a' b' c' d' r h e f =
-    subst (λ (q : Decision). Decides x a b c d q a' b' c' d') (sym e) (f (subst (λ (q : Decision). DecidesRest u s size text a b c d q a' b' c' d') e h))
+pub decides-some : (x : Args) (rs : Rules) (s : List ℕ) (size text : ℕ) (a b c d a' b' c' d' : List ℕ) (r : Decision) {i g k o : ℕ} {n : Numbers}
+    → DecidesRest rs s size text a b c d r a' b' c' d' → r ≡ Done i g k o n
+    → (RestIn rs s size text i g k o n a b c d a' b' c' d' → DecidedIn x i g k o n a b c d a' b' c' d') → Decides x a b c d r a' b' c' d'
+decides-some x rs s size text a b c d a' b' c' d' r h e f =
+    subst (λ (q : Decision). Decides x a b c d q a' b' c' d') (sym e) (f (subst (λ (q : Decision). DecidesRest rs s size text a b c d q a' b' c' d') e h))

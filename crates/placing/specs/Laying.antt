@@ -97,7 +97,7 @@ Lays m m' (laid.Refused number place) v = v ≡ refused number place
 
 -- what placement takes of the choices
 abbrev pub onUnit : ℕ → Rules
-onUnit u = record { unit = u }
+onUnit u = record { unit = u; table = [] }
 
 -- of all columns that stand in the words
 pub record LaysOut (u : ℕ) (s : List ℕ) (size text : ℕ) (w f : List ℕ) (n : ℕ) (m m' : List ℕ) (r : Laid) : Type 0 where

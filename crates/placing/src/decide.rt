@@ -14,7 +14,9 @@ ghost use mathlib.Core.List.{[]};
 ghost use Prim.Native.Nat.{_≤_};
 ghost use lib.ListN.{length};
 ghost use Rattle.fields.specs.Answer.{verdictOf};
+ghost use Rattle.plan.specs.Rules.{builtIn};
 ghost use Rattle.result.specs.Result.{lentIn};
+ghost use Rattle.choices.specs.Chosen.{rules};
 ghost use Rattle.placing.specs.Decision.{untimed, DecidesRest, Decides};
 
 // Document 01's refusal; or the blocks met, the fragments of data chains, columns and omissions, and the layout's numbers.
@@ -34,7 +36,7 @@ pub enum Decision {
 
 // 1: the identification is 64 bytes that begin with `MDF`, five blanks, `4.20`, four blanks; the history text has at most 4,096 bytes.
 pub fn lent_in(ident: &[u8], text: &[u8]) -> Check
-    ensures { λ r. ⌜ verdictOf r ≡ lentIn (untimed [] 0 (now (ident .entry)) (now (text .entry)) (record { unit = 8 })) ⌝ }
+    ensures { λ r. ⌜ verdictOf r ≡ lentIn (untimed [] 0 (now (ident .entry)) (now (text .entry)) builtIn) ⌝ }
 {
     if ident.len() != 64 {
         return Check::Refused {
@@ -63,12 +65,13 @@ pub fn lent_in(ident: &[u8], text: &[u8]) -> Check
     Check::Fine
 }
 
-// 2, 26, 3, then the plan and the layout, for a history text of so many bytes.
+// 2, 26, 27, 3, then the plan and the layout, for a history text of so many bytes.
 fn decide_rest(
     image: &[u8],
     size: u64,
     text: u64,
     choices: Choices,
+    table: &[u8],
     source: &mut [u64],
     fragments: &mut [u64],
     columns: &mut [u64],
@@ -76,7 +79,7 @@ fn decide_rest(
 ) -> Decision
     requires { ⌜ (8192 ≤ length (now source)) × (8192 ≤ length (now fragments)) × (8192 ≤ length (now columns)) × (8192 ≤ length (now copies))
         × (text ≤ 4096) ⌝ }
-    ensures { λ r. ⌜ DecidesRest (choices .unit) (now (image .entry)) size text
+    ensures { λ r. ⌜ DecidesRest (rules choices (now (table .entry))) (now (image .entry)) size text
         (now (source .entry)) (now (fragments .entry)) (now (columns .entry)) (now (copies .entry)) r
         (now (source .exit)) (now (fragments .exit)) (now (columns .exit)) (now (copies .exit)) ⌝ }
 {
@@ -86,7 +89,7 @@ fn decide_rest(
             place: 0,
         };
     }
-    let chosen = choices_in(choices);
+    let chosen = choices_in(choices, table);
     if let Check::Refused { number, place } = chosen {
         return Decision::Refused { number, place };
     }
@@ -96,7 +99,7 @@ fn decide_rest(
             place: 0,
         };
     }
-    let planned = plan(image, size, source, fragments, columns);
+    let planned = plan(image, size, choices, table, source, fragments, columns);
     match planned {
         Planned::Refused { number, place } => Decision::Refused { number, place },
         Planned::Done {
@@ -127,12 +130,13 @@ pub fn decide(
     ident: &[u8],
     text: &[u8],
     choices: Choices,
+    table: &[u8],
     source: &mut [u64],
     fragments: &mut [u64],
     columns: &mut [u64],
     copies: &mut [u64],
 ) -> Decision
-    ensures { λ r. ⌜ Decides (untimed (now (image .entry)) size (now (ident .entry)) (now (text .entry)) choices)
+    ensures { λ r. ⌜ Decides (untimed (now (image .entry)) size (now (ident .entry)) (now (text .entry)) (rules choices (now (table .entry))))
         (now (source .entry)) (now (fragments .entry)) (now (columns .entry)) (now (copies .entry)) r
         (now (source .exit)) (now (fragments .exit)) (now (columns .exit)) (now (copies .exit)) ⌝ }
 {
@@ -169,6 +173,7 @@ pub fn decide(
         size,
         text.len() as u64,
         choices,
+        table,
         source,
         fragments,
         columns,

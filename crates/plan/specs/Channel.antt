@@ -65,13 +65,3 @@ width s g c = channelBytes s c + pick (keepsInval s g c) 1 0
 -- "Its value is bit (position mod 8) of the record's invalidation byte number floor(position / 8), from 0." r is a record without its id
 unfoldable pub invalBit : List ℕ → ℕ → ℕ → List ℕ → ℕ
 invalBit s g c r = bit (invalPosition s c % 8) (getD r (samples s g + invalPosition s c / 8) 0)
-
--- bookkeeping: how a channel's type is treated: kept, omitted, or stored as type 0
-pub data Treatment : Type 0 where
-  keep : Treatment
-  omit : Treatment
-  asFixed : Treatment
-
--- "4 type 4" is a reason; 5 becomes 0 (`build_layout`); others are kept
-unfoldable pub treatment : ℕ → Treatment
-treatment t = ifEq t 4 omit (ifEq t 5 asFixed keep)

@@ -10,7 +10,9 @@ use Rattle.base.specs.Checked.{Checked, ok, refused, andThen}
 use Rattle.mdf.specs.Block.{kind, kindCG, kindCN, kindAt, linksAt, linkAt, headerIn}
 use Rattle.mdf.specs.Chain.{Fragment, Chain.signal, Found, found, stopped, limits, chain}
 use Rattle.mdf.specs.Group.{Group, DataGroup, groupFlags, isStorage}
-use Rattle.plan.specs.Channel.{channelType, fits, isMasterType, bit, both, Treatment, treatment}
+use Rattle.plan.specs.Rules.{Rules}
+use Rattle.plan.specs.Table.{treatment}
+use Rattle.plan.specs.Channel.{channelType, fits, isMasterType, bit, both}
 
 -- "CN link 2 leads to CA"
 abbrev pub kindCA : ℕ
@@ -140,33 +142,53 @@ abbrev pub keptSignal : Found → Checked Decision
 keptSignal (found fs) = ok (kept (signalData fs))
 keptSignal (stopped number place fs) = refused number place
 
--- "7 type 1 whose CN link 6 leads to a CG. Any other nonzero link 6 of type 1 is an SD chain"; n fragments were found before
-unfoldable pub decideSignal : List ℕ → ℕ → ℕ → Checked Decision
-decideSignal s n c =
-    let sd = andThen (headerIn s (linkAt s c 5)) (λ _.
-    ifEq (kindAt s (linkAt s c 5)) kindCG (ok (omitted 7)) (keptSignal (chain signal limits s n (linkAt s c 5)))) in
-    ifEq (channelType s c) 1 (ifEq (linkAt s c 5) 0 (ok (kept noSignal)) sd) (ok (kept noSignal))
+-- ---- why it is omitted: each test gives its reason, 0 where it has none
+
+-- "2 doesn't fit"
+unfoldable pub unfit : List ℕ → ℕ → ℕ → ℕ
+unfit s g c = pick (fits s g c) 0 2
+
+-- "3 further master"
+unfoldable pub furtherMaster : List ℕ → ℕ → ℕ
+furtherMaster s c = pick (isMasterType s c) 3 0
+
+-- "4 type 4", which is built in; "Omissions made by a table carry reason 8" (document 02, request 6): whether the type is omitted for reason r
+unfoldable pub omittedType : ℕ → List ℕ → List ℕ → ℕ → ℕ
+omittedType r table s c = ifEq (treatment table (channelType s c)) r r 0
 
 -- "5 array, CN link 2 leads to CA; 6 structure, it leads to CN"
-unfoldable pub decideComposition : List ℕ → ℕ → ℕ → Checked Decision
-decideComposition s n c =
-    let signals = decideSignal s n c in
-    let led = andThen (headerIn s (linkAt s c 1)) (λ _.
-    ifEq (kindAt s (linkAt s c 1)) kindCA (ok (omitted 5)) (ifEq (kindAt s (linkAt s c 1)) kindCN (ok (omitted 6)) signals)) in
-    ifEq (linkAt s c 1) 0 signals led
+unfoldable pub composed : List ℕ → ℕ → Checked ℕ
+composed s c =
+    let led : Checked ℕ = andThen (headerIn s (linkAt s c 1)) (λ _.
+    ok (ifEq (kindAt s (linkAt s c 1)) kindCA 5 (ifEq (kindAt s (linkAt s c 1)) kindCN 6 0))) in
+    ifEq (linkAt s c 1) 0 (ok 0) led
 
--- bookkeeping: a where the type is kept, b where it is omitted
-abbrev pub onTreatment : {A : Type 0} → Treatment → A → A → A
-onTreatment Treatment.keep a b = a
-onTreatment Treatment.omit a b = b
-onTreatment Treatment.asFixed a b = a
+-- link 6 of a type 1 channel, 0 for any other; "A type 1 channel stored as type 0 loses its signal data ..; its link 6 isn't read, so reason 7 can't arise"
+unfoldable pub signalLink : List ℕ → List ℕ → ℕ → ℕ
+signalLink table s c = ifEq (channelType s c) 1 (ifEq (treatment table (channelType s c)) 2 0 (linkAt s c 5)) 0
 
--- "Reasons, tested in this order: 2 doesn't fit; 3 further master; 4 type 4", then 5, 6, 7
-unfoldable pub decide : List ℕ → ℕ → ℕ → ℕ → Checked Decision
-decide s n g c =
-    let rest = decideComposition s n c in
-    let typed = onTreatment (treatment (channelType s c)) rest (ok (omitted 4)) in
-    pick (fits s g c) (pick (isMasterType s c) (ok (omitted 3)) typed) (ok (omitted 2))
+-- "7 type 1 whose CN link 6 leads to a CG", of that link
+unfoldable pub storedAt : List ℕ → ℕ → Checked ℕ
+storedAt s a = let led : Checked ℕ = andThen (headerIn s a) (λ _. ok (ifEq (kindAt s a) kindCG 7 0)) in ifEq a 0 (ok 0) led
+
+-- "Any other nonzero link 6 of type 1 is an SD chain"; n fragments were found before
+unfoldable pub decideChain : List ℕ → ℕ → ℕ → Checked Decision
+decideChain s n a = let sd = keptSignal (chain signal limits s n a) in ifEq a 0 (ok (kept noSignal)) sd
+
+-- bookkeeping: omitted for a reason, else what follows
+unfoldable pub unless : Checked ℕ → Checked Decision → Checked Decision
+unless reason rest = andThen reason (λ r. ifEq r 0 rest (ok (omitted r)))
+
+-- "Reasons, tested in this order": 2, 3, 4, 5, 6, 7; 8 is "tested after reason 7 and before any SD chain is read"
+unfoldable pub decide : List ℕ → List ℕ → ℕ → ℕ → ℕ → Checked Decision
+decide table s n g c =
+    unless (ok (unfit s g c))
+    (unless (ok (furtherMaster s c))
+    (unless (ok (omittedType 4 table s c))
+    (unless (composed s c)
+    (unless (storedAt s (signalLink table s c))
+    (unless (ok (omittedType 8 table s c))
+    (decideChain s n (signalLink table s c)))))))
 
 -- bookkeeping: the fragments of a column's signal data
 abbrev pub sizeOfSignal : Signal → ℕ
@@ -179,11 +201,11 @@ withDecision g m c p (omitted r) = withOmission c r p
 withDecision g m c p (kept d) = withColumn (record { group = g; channel = c; isTime = false; master = m; signalOf = d }) (sizeOfSignal d) p
 
 -- "then the other channels in order": those but the group's own master
-unfoldable pub planChannels : List ℕ → SrcGroup → ℕ → Option ℕ → List ℕ → Plan → Checked Plan
-planChannels s g own m [] p = ok p
-planChannels s g own m (c ∷ cs) p =
-    let here = andThen (decide s (p .fragments) (g .at) c) (λ d. planChannels s g own m cs (withDecision g m c p d)) in
-    let next = planChannels s g own m cs p in
+unfoldable pub planChannels : Rules → List ℕ → SrcGroup → ℕ → Option ℕ → List ℕ → Plan → Checked Plan
+planChannels o s g own m [] p = ok p
+planChannels o s g own m (c ∷ cs) p =
+    let here = andThen (decide (o .table) s (p .fragments) (g .at) c) (λ d. planChannels o s g own m cs (withDecision g m c p d)) in
+    let next = planChannels o s g own m cs p in
     ifEq c own next here
 
 -- bookkeeping: the group's own master, 0 for none: no channel has address 0
@@ -192,25 +214,25 @@ ownMaster none = 0
 ownMaster (some m) = m
 
 -- "1 remote master with another count (address of the group's own CG ..)"; "Reason 1 is about a group: its channels still get their own column or omission."
-abbrev pub planTimed : List ℕ → SrcGroup → TimeOf → Plan → Checked Plan
-planTimed s g (time t m) p =
+abbrev pub planTimed : Rules → List ℕ → SrcGroup → TimeOf → Plan → Checked Plan
+planTimed o s g (time t m) p =
     let q = withTime t m p in
-    planChannels s g (ownMaster (masterOf s g)) (timeColumn (t .at) 0 (q .columns)) (g .channels) q
-planTimed s g untimed p = planChannels s g (ownMaster (masterOf s g)) none (g .channels) p
-planTimed s g differs p = planChannels s g (ownMaster (masterOf s g)) none (g .channels) (withOmission (g .at) 1 p)
+    planChannels o s g (ownMaster (masterOf s g)) (timeColumn (t .at) 0 (q .columns)) (g .channels) q
+planTimed o s g untimed p = planChannels o s g (ownMaster (masterOf s g)) none (g .channels) p
+planTimed o s g differs p = planChannels o s g (ownMaster (masterOf s g)) none (g .channels) (withOmission (g .at) 1 p)
 
 -- "VLSD storage groups (flag bit 0) have no master and no column."
-unfoldable pub planGroup : List ℕ → List SrcGroup → SrcGroup → Plan → Checked Plan
-planGroup s all g p = let here = planTimed s g (timeOf s all g) p in pick (isStorage s (g .at)) (ok p) here
+unfoldable pub planGroup : Rules → List ℕ → List SrcGroup → SrcGroup → Plan → Checked Plan
+planGroup o s all g p = let here = planTimed o s g (timeOf s all g) p in pick (isStorage s (g .at)) (ok p) here
 
 -- bookkeeping: group by group
-unfoldable pub planGroups : List ℕ → List SrcGroup → List SrcGroup → Plan → Checked Plan
-planGroups s all [] p = ok p
-planGroups s all (g ∷ gs) p = andThen (planGroup s all g p) (λ q. planGroups s all gs q)
+unfoldable pub planGroups : Rules → List ℕ → List SrcGroup → List SrcGroup → Plan → Checked Plan
+planGroups o s all [] p = ok p
+planGroups o s all (g ∷ gs) p = andThen (planGroup o s all g p) (λ q. planGroups o s all gs q)
 
--- "planning's order (groups in file order)"; n fragments were found in the walk
-unfoldable pub plan : List ℕ → ℕ → List SrcGroup → Checked Plan
-plan s n all = planGroups s all all (record { columns = []; omissions = []; fragments = n })
+-- "planning's order (groups in file order)", by what is chosen; n fragments were found in the walk
+unfoldable pub plan : Rules → List ℕ → ℕ → List SrcGroup → Checked Plan
+plan o s n all = planGroups o s all all (record { columns = []; omissions = []; fragments = n })
 
 -- ---- the omission list: "the number n, then n addresses, then n reasons, in file order"
 unfoldable pub omissionAddresses : List Omission → List ℕ

@@ -1,7 +1,8 @@
+pub mod Table
+pub mod Rules
 pub mod Channel
 pub mod Columns
 pub mod Geometry
-pub mod Rules
 pub mod Data
 pub mod Copies
 pub mod Layout

@@ -4,19 +4,21 @@ use mathlib.Core.List.{List, [], _∷_}
 use mathlib.Core.Path.{_≡_, refl, sym, ap, _∙_, subst}
 use mathlib.Core.Bool.{Bool, true, false}
 use mathlib.Core.Option.{Option, none, some}
+use mathlib.Core.Logic.{_⊎_, inl, inr}
 use native.Mathlib.Omega.{arith}
 use lib.Dec.{eqb}
-use borrow.Author.Tests.{eq-eqb, ne-eqb}
+use borrow.Author.Tests.{eqb-true, eq-eqb, ne-eqb}
 use Rattle.base.specs.Choice.{pick, ifEq}
 use Rattle.base.specs.ChoiceLaws.{eq-first, eq-yes, eq-no}
-use Rattle.base.specs.Checked.{Checked, ok}
+use Rattle.base.specs.Checked.{Checked, ok, refused}
 use Rattle.mdf.specs.Block.{kindCG, kindCN, kindAt, linkAt, headerIn}
 use Rattle.mdf.specs.Chain.{Chain.signal, Found, found, stopped, limits, chain}
 use Rattle.mdf.specs.Group.{isStorage}
-use Rattle.plan.specs.Channel.{channelType, fits, isMasterType, both, either, Treatment, treatment}
-use Rattle.plan.specs.Columns.{kindCA, SrcGroup, firstMaster, masterOf, remoteLink, groupAt, TimeOf, time, untimed, differs, onMaster, onGroup, remoteTime, timeOf, Signal, noSignal, signalData, Decision, omitted, kept, keptSignal, decideSignal, decideComposition, onTreatment, decide, sizeOfSignal}
+use Rattle.plan.specs.Table.{treatment}
+use Rattle.plan.specs.Channel.{channelType, fits, isMasterType, both, either}
+use Rattle.plan.specs.Columns.{kindCA, SrcGroup, firstMaster, masterOf, remoteLink, groupAt, TimeOf, time, untimed, differs, onMaster, onGroup, remoteTime, timeOf, Signal, noSignal, signalData, Decision, omitted, kept, keptSignal, unfit, furtherMaster, omittedType, composed, signalLink, storedAt, decideChain, unless, decide, sizeOfSignal}
 use Rattle.result.specs.Member.{In, here, there}
-use Rattle.result.specs.Recording.{leadsTo, reasonFor, SignalDue}
+use Rattle.result.specs.Recording.{leadsTo, hasSignal, reasonFor, SignalDue}
 use Rattle.result.specs.Recording as recording
 use Rattle.plan_laws.specs.Answers.{refused≢ok, ok-same, with-ok, eq-cases, pick-cases, or-not}
 use Rattle.plan_laws.specs.ChainLaws.{chain-fits}
@@ -155,61 +157,108 @@ omitted≢kept e = let z : _≡_ {A = ℕ} 0 1 = cc in omega arith
 kept-same : {d e : Signal} → _≡_ {A = Checked Decision} (ok (kept d)) (ok (kept e)) → d ≡ e
 kept-same e = cc
 
-treated : (t : Treatment) (a : Checked Decision) {d : Signal} → onTreatment t a (ok (omitted 4)) ≡ ok (kept d) → a ≡ ok (kept d)
-treated Treatment.keep a e = e
-treated Treatment.omit a e = absurd (omitted≢kept e)
-treated Treatment.asFixed a e = e
+-- ---- the tests in order
+
+-- a test that gives no reason, and what follows it
+past : (v : Checked ℕ) (rest : Checked Decision) {d : Decision} → unless v rest ≡ ok d → (r : ℕ) × (v ≡ ok r) × (ifEq r 0 rest (ok (omitted r)) ≡ ok d)
+unfolding unless
+past (ok r) rest e = (r, refl, e)
+past (refused x p) rest e = absurd (refused≢ok e)
+
+-- a kept channel passed the test
+passed : (v : Checked ℕ) (rest : Checked Decision) {k : Signal} → unless v rest ≡ ok (kept k) → (v ≡ ok 0) × (rest ≡ ok (kept k))
+passed v rest e =
+    let p = past v rest e in
+    let q = eq-first _ _ _ _ (p .2) omitted≢kept in
+    (p .1 ∙ ap ok (q .0), q .1)
 
 -- signal data is what the chain at CN link 6 lists; n fragments were found before
-abbrev pub SignalKnown : List ℕ → ℕ → ℕ → Signal → Type 0
-SignalKnown s n c noSignal = channelType s c ≡ 1 → linkAt s c 5 ≡ 0
-SignalKnown s n c (signalData fs) = (channelType s c ≡ 1) × (chain signal limits s n (linkAt s c 5) ≡ found fs)
+abbrev pub SignalKnown : List ℕ → List ℕ → ℕ → ℕ → Signal → Type 0
+SignalKnown table s n c noSignal = hasSignal table s c ≡ true → linkAt s c 5 ≡ 0
+SignalKnown table s n c (signalData fs) = (hasSignal table s c ≡ true) × (chain signal limits s n (linkAt s c 5) ≡ found fs)
 
-signal-kept : (s : List ℕ) (n c : ℕ) (d : Signal) (v : Found) → channelType s c ≡ 1 → chain signal limits s n (linkAt s c 5) ≡ v → keptSignal v ≡ ok (kept d) → SignalKnown s n c d
-signal-kept s n c d (found fs) t q e = subst (SignalKnown s n c) (kept-same e) (t, q)
-signal-kept s n c d (stopped number place fs) t q e = absurd (refused≢ok e)
+-- link 6 of a channel with signal data; 0 of any other
+link-has : (table s : List ℕ) (c : ℕ) → hasSignal table s c ≡ true → signalLink table s c ≡ linkAt s c 5
+unfolding hasSignal signalLink ifEq
+link-has table s c h = go (eqb (channelType s c) 1) (eqb (treatment table (channelType s c)) 2) h
+  where
+    go : (a b : Bool) → both a (pick b false true) ≡ true → pick a (pick b 0 (linkAt s c 5)) 0 ≡ linkAt s c 5
+    go true true e = let z : _≡_ {A = ℕ} 0 1 = cc in absurd (omega arith)
+    go true false e = refl
+    go false b e = let z : _≡_ {A = ℕ} 0 1 = cc in absurd (omega arith)
 
-signal-decided : (s : List ℕ) (n c : ℕ) (d : Signal) → decideSignal s n c ≡ ok (kept d) → SignalKnown s n c d
-unfolding decideSignal
-signal-decided s n c d e =
-    eq-cases (channelType s c) 1 _ _ e
-    (λ t q. eq-cases (linkAt s c 5) 0 _ _ q
-    (λ z q. subst (SignalKnown s n c) (kept-same q) (λ _. z))
-    (λ _ q. with-ok (headerIn s (linkAt s c 5)) _ q (λ _ _ q.
-    eq-cases (kindAt s (linkAt s c 5)) kindCG _ _ q (λ _ q. absurd (omitted≢kept q)) (λ _ q. signal-kept s n c d _ t refl q))))
-    (λ f q. subst (SignalKnown s n c) (kept-same q) (λ t. absurd (f t)))
+link-lacks : (table s : List ℕ) (c : ℕ) → hasSignal table s c ≡ false → signalLink table s c ≡ 0
+unfolding hasSignal signalLink ifEq
+link-lacks table s c h = go (eqb (channelType s c) 1) (eqb (treatment table (channelType s c)) 2) h
+  where
+    go : (a b : Bool) → both a (pick b false true) ≡ false → pick a (pick b 0 (linkAt s c 5)) 0 ≡ 0
+    go true true e = refl
+    go true false e = let z : _≡_ {A = ℕ} 0 1 = cc in absurd (omega arith)
+    go false b e = refl
 
-composition-decided : (s : List ℕ) (n c : ℕ) (d : Signal) → decideComposition s n c ≡ ok (kept d) → SignalKnown s n c d
-unfolding decideComposition
-composition-decided s n c d e =
-    eq-cases (linkAt s c 1) 0 _ _ e
-    (λ _ q. signal-decided s n c d q)
-    (λ _ q. with-ok (headerIn s (linkAt s c 1)) _ q (λ _ _ q.
-    eq-cases (kindAt s (linkAt s c 1)) kindCA _ _ q (λ _ q. absurd (omitted≢kept q)) (λ _ q.
-    eq-cases (kindAt s (linkAt s c 1)) kindCN _ _ q (λ _ q. absurd (omitted≢kept q)) (λ _ q. signal-decided s n c d q))))
+true-or : (b : Bool) → (b ≡ true) ⊎ (b ≡ false)
+true-or true = inl refl
+true-or false = inr refl
 
-pub record KeptAs (s : List ℕ) (n g c : ℕ) (d : Signal) : Type 0 where
+signal-kept : (table s : List ℕ) (n c : ℕ) (d : Signal) (v : Found) → hasSignal table s c ≡ true → chain signal limits s n (linkAt s c 5) ≡ v → keptSignal v ≡ ok (kept d)
+    → SignalKnown table s n c d
+signal-kept table s n c d (found fs) t q e = subst (SignalKnown table s n c) (kept-same e) (t, q)
+signal-kept table s n c d (stopped number place fs) t q e = absurd (refused≢ok e)
+
+chain-decided : (table s : List ℕ) (n c : ℕ) (d : Signal) → decideChain s n (signalLink table s c) ≡ ok (kept d) → SignalKnown table s n c d
+unfolding decideChain
+chain-decided table s n c d e =
+    eq-cases (signalLink table s c) 0 _ _ e
+    (λ z q. subst (SignalKnown table s n c) (kept-same q) (λ h. sym (link-has table s c h) ∙ z))
+    (λ z q. led (true-or (hasSignal table s c)) z q)
+  where
+    led : (hasSignal table s c ≡ true) ⊎ (hasSignal table s c ≡ false) → (signalLink table s c ≡ 0 → ⊥)
+        → keptSignal (chain signal limits s n (signalLink table s c)) ≡ ok (kept d) → SignalKnown table s n c d
+    led (inl h) z q = signal-kept table s n c d _ h refl (rw (link-has table s c h) at q)
+    led (inr h) z q = absurd (z (link-lacks table s c h))
+
+pub record KeptAs (table s : List ℕ) (n g c : ℕ) (d : Signal) : Type 0 where
   pub fitting : fits s g c ≡ true
   pub notMaster : isMasterType s c ≡ false
-  pub signal : SignalKnown s n c d
+  pub signal : SignalKnown table s n c d
 
-pub decide-kept : (s : List ℕ) (n g c : ℕ) (d : Signal) → decide s n g c ≡ ok (kept d) → KeptAs s n g c d
+fit-known : (s : List ℕ) (g c : ℕ) → _≡_ {A = Checked ℕ} (ok (unfit s g c)) (ok 0) → fits s g c ≡ true
+unfolding unfit
+fit-known s g c e = go (fits s g c) (ok-same e)
+  where
+    go : (b : Bool) → _≡_ {A = ℕ} (pick b 0 2) 0 → b ≡ true
+    go true q = refl
+    go false q = absurd (omega (arith, q))
+
+no-master : (s : List ℕ) (c : ℕ) → _≡_ {A = Checked ℕ} (ok (furtherMaster s c)) (ok 0) → isMasterType s c ≡ false
+unfolding furtherMaster
+no-master s c e = go (isMasterType s c) (ok-same e)
+  where
+    go : (b : Bool) → _≡_ {A = ℕ} (pick b 3 0) 0 → b ≡ false
+    go true q = absurd (omega (arith, q))
+    go false q = refl
+
+pub decide-kept : (table s : List ℕ) (n g c : ℕ) (d : Signal) → decide table s n g c ≡ ok (kept d) → KeptAs table s n g c d
 unfolding decide
-decide-kept s n g c d e =
-    pick-cases (fits s g c) _ _ e
-    (λ f q. pick-cases (isMasterType s c) _ _ q (λ _ q. absurd (omitted≢kept q)) (λ m q.
-    record { fitting = f; notMaster = m; signal = composition-decided s n c d (treated (treatment (channelType s c)) _ q) }))
-    (λ _ q. absurd (omitted≢kept q))
+decide-kept table s n g c d e =
+    let fit = passed _ _ e in
+    let master = passed _ _ (fit .1) in
+    let type = passed _ _ (master .1) in
+    let composition = passed _ _ (type .1) in
+    let storage = passed _ _ (composition .1) in
+    let chosen = passed _ _ (storage .1) in
+    record { fitting = fit-known s g c (fit .0); notMaster = no-master s c (master .0); signal = chain-decided table s n c d (chosen .1) }
 
-pub kept-due : (s : List ℕ) (n c : ℕ) (d : Signal) → SignalKnown s n c d → SignalDue s c d
-kept-due s n c noSignal k = k
-kept-due s n c (signalData fs) k = (k .0, n, k .1)
+pub kept-due : (table s : List ℕ) (n c : ℕ) (d : Signal) → SignalKnown table s n c d → SignalDue table s c d
+kept-due table s n c noSignal k = k
+kept-due table s n c (signalData fs) k = (k .0, n, k .1)
 
 -- a master has none
-pub master-unsigned : (s : List ℕ) (m : ℕ) → isMasterType s m ≡ true → SignalDue s m noSignal
-unfolding isMasterType
-master-unsigned s m h t =
-    let g : either (eqb 1 2) (eqb 1 3) ≡ true = rw t at h in
+pub master-unsigned : (table s : List ℕ) (m : ℕ) → isMasterType s m ≡ true → SignalDue table s m noSignal
+unfolding isMasterType hasSignal
+master-unsigned table s m h t =
+    let one : channelType s m ≡ 1 = eqb-true (channelType s m) 1 (both-true _ _ t .0) in
+    let g : either (eqb 1 2) (eqb 1 3) ≡ true = rw one at h in
     let z : _≡_ {A = ℕ} 0 1 = cc in
     absurd (omega arith)
 
@@ -219,94 +268,95 @@ leads-none : (s : List ℕ) (a k : ℕ) → a ≡ 0 → leadsTo s a k ≡ false
 unfolding leadsTo
 leads-none s a k e = sym (eq-yes _ _ _ _ e refl)
 
-leads-yes : (s : List ℕ) (a k : ℕ) → (a ≡ 0 → ⊥) → kindAt s a ≡ k → leadsTo s a k ≡ true
+leads-as : (s : List ℕ) (a k : ℕ) → (a ≡ 0 → ⊥) → leadsTo s a k ≡ eqb (kindAt s a) k
 unfolding leadsTo
-leads-yes s a k n e = sym (eq-no _ _ _ _ n (sym (eq-eqb (kindAt s a) k e)))
-
-leads-no : (s : List ℕ) (a k : ℕ) → (a ≡ 0 → ⊥) → (kindAt s a ≡ k → ⊥) → leadsTo s a k ≡ false
-unfolding leadsTo
-leads-no s a k n e = sym (eq-no _ _ _ _ n (sym (ne-eqb (kindAt s a) k e)))
+leads-as s a k n = sym (eq-no _ _ _ _ n refl)
 
 -- the decision is the reason r, or no reason
 abbrev pub Reasoned : ℕ → Decision → Type 0
 Reasoned r (omitted k) = (k ≡ r) × (k ≡ 0 → ⊥)
 Reasoned r (kept d) = r ≡ 0
 
+-- a test and what follows it give the first reason of both
+first-reason : (v : Checked ℕ) (rest : Checked Decision) (d : Decision) (a b : ℕ) → unless v rest ≡ ok d
+    → ((r : ℕ) → v ≡ ok r → r ≡ a) → (rest ≡ ok d → Reasoned b d) → Reasoned (ifEq a 0 b a) d
+first-reason v rest d a b e f g =
+    let p = past v rest e in
+    eq-cases (p .0) 0 _ _ (p .2)
+    (λ z q. subst (λ (x : ℕ). Reasoned x d) (eq-yes _ _ _ _ (sym (f (p .0) (p .1)) ∙ z) refl) (g q))
+    (λ z q. subst (Reasoned (ifEq a 0 b a)) (ok-same q)
+    (f (p .0) (p .1) ∙ eq-no _ _ _ _ (λ y. z (f (p .0) (p .1) ∙ y)) refl, z))
+
 -- the parts of `reasonFor`
-abbrev signalReason : List ℕ → ℕ → ℕ
-signalReason s c = pick (both (eqb (channelType s c) 1) (leadsTo s (linkAt s c 5) kindCG)) 7 0
-
 abbrev composedReason : List ℕ → ℕ → ℕ
-composedReason s c = pick (leadsTo s (linkAt s c 1) kindCA) 5 (pick (leadsTo s (linkAt s c 1) kindCN) 6 (signalReason s c))
+composedReason s c = pick (leadsTo s (linkAt s c 1) kindCA) 5 (pick (leadsTo s (linkAt s c 1) kindCN) 6 0)
 
-abbrev typedReason : List ℕ → ℕ → ℕ
-typedReason s c = ifEq (channelType s c) 4 4 (composedReason s c)
+abbrev storedReason : List ℕ → List ℕ → ℕ → ℕ
+storedReason table s c = pick (both (hasSignal table s c) (leadsTo s (linkAt s c 5) kindCG)) 7 0
 
-omitted-reasoned : (r k : ℕ) {d : Decision} → _≡_ {A = Checked Decision} (ok (omitted k)) (ok d) → k ≡ r → (k ≡ 0 → ⊥) → Reasoned r d
-omitted-reasoned r k q e n = subst (Reasoned r) (ok-same q) (e, n)
+composed-reason : (s : List ℕ) (c r : ℕ) → composed s c ≡ ok r → r ≡ composedReason s c
+unfolding composed ifEq
+composed-reason s c r e =
+    or-not (linkAt s c 1) 0
+    (λ z. sym (ok-same (rw (eq-eqb (linkAt s c 1) 0 z) at e)) ∙ rw (leads-none s (linkAt s c 1) kindCA z, leads-none s (linkAt s c 1) kindCN z))
+    (λ z. with-ok (headerIn s (linkAt s c 1)) _ (rw (ne-eqb (linkAt s c 1) 0 z) at e) (λ _ _ q.
+    sym (ok-same q) ∙ rw (leads-as s (linkAt s c 1) kindCA z, leads-as s (linkAt s c 1) kindCN z)))
 
-found-reasoned : (r : ℕ) (v : Found) (d : Decision) → keptSignal v ≡ ok d → r ≡ 0 → Reasoned r d
-found-reasoned r (found fs) d e z = subst (Reasoned r) (ok-same e) z
-found-reasoned r (stopped number place fs) d e z = absurd (refused≢ok e)
+stored-reason : (table s : List ℕ) (c r : ℕ) → storedAt s (signalLink table s c) ≡ ok r → r ≡ storedReason table s c
+unfolding storedAt ifEq
+stored-reason table s c r e = led (true-or (hasSignal table s c))
+  where
+    led : (hasSignal table s c ≡ true) ⊎ (hasSignal table s c ≡ false) → r ≡ storedReason table s c
+    led (inl h) =
+        let e' = rw (link-has table s c h) at e in
+        or-not (linkAt s c 5) 0
+        (λ z. sym (ok-same (rw (eq-eqb (linkAt s c 5) 0 z) at e')) ∙ rw (h, leads-none s (linkAt s c 5) kindCG z))
+        (λ z. with-ok (headerIn s (linkAt s c 5)) _ (rw (ne-eqb (linkAt s c 5) 0 z) at e') (λ _ _ q.
+        sym (ok-same q) ∙ rw (h, leads-as s (linkAt s c 5) kindCG z)))
+    led (inr h) = sym (ok-same (rw (link-lacks table s c h) at e)) ∙ rw h
 
-signal-reason : (s : List ℕ) (n c : ℕ) (d : Decision) → decideSignal s n c ≡ ok d → Reasoned (signalReason s c) d
-unfolding decideSignal
-signal-reason s n c d e =
-    eq-cases (channelType s c) 1 _ _ e
-    (λ t q.
-    let one : eqb (channelType s c) 1 ≡ true = eq-eqb (channelType s c) 1 t in
-    eq-cases (linkAt s c 5) 0 _ _ q
-    (λ z q. let r : signalReason s c ≡ 0 = rw (one, leads-none s (linkAt s c 5) kindCG z) in subst (Reasoned (signalReason s c)) (ok-same q) r)
-    (λ z q. with-ok (headerIn s (linkAt s c 5)) _ q (λ _ _ q.
-    eq-cases (kindAt s (linkAt s c 5)) kindCG _ _ q
-    (λ k q. omitted-reasoned (signalReason s c) 7 q (rw (one, leads-yes s (linkAt s c 5) kindCG z k)) (λ o. omega arith))
-    (λ k q. found-reasoned (signalReason s c) (chain signal limits s n (linkAt s c 5)) d q (rw (one, leads-no s (linkAt s c 5) kindCG z k))))))
-    (λ t q. let r : signalReason s c ≡ 0 = rw (ne-eqb (channelType s c) 1 t) in subst (Reasoned (signalReason s c)) (ok-same q) r)
+chain-reason : (s : List ℕ) (n a : ℕ) (d : Decision) → decideChain s n a ≡ ok d → Reasoned 0 d
+unfolding decideChain
+chain-reason s n a d e =
+    eq-cases a 0 _ _ e
+    (λ _ q. subst (Reasoned 0) (ok-same q) refl)
+    (λ _ q. go (chain signal limits s n a) q)
+  where
+    go : (v : Found) → keptSignal v ≡ ok d → Reasoned 0 d
+    go (found fs) q = subst (Reasoned 0) (ok-same q) refl
+    go (stopped number place fs) q = absurd (refused≢ok q)
 
-composed-reason : (s : List ℕ) (n c : ℕ) (d : Decision) → decideComposition s n c ≡ ok d → Reasoned (composedReason s c) d
-unfolding decideComposition
-composed-reason s n c d e =
-    eq-cases (linkAt s c 1) 0 _ _ e
-    (λ z q. let r : composedReason s c ≡ signalReason s c = rw (leads-none s (linkAt s c 1) kindCA z, leads-none s (linkAt s c 1) kindCN z) in
-    subst (λ (x : ℕ). Reasoned x d) (sym r) (signal-reason s n c d q))
-    (λ z q. with-ok (headerIn s (linkAt s c 1)) _ q (λ _ _ q.
-    eq-cases (kindAt s (linkAt s c 1)) kindCA _ _ q
-    (λ k q. omitted-reasoned (composedReason s c) 5 q (rw (leads-yes s (linkAt s c 1) kindCA z k)) (λ o. omega arith))
-    (λ k q. eq-cases (kindAt s (linkAt s c 1)) kindCN _ _ q
-    (λ m q. omitted-reasoned (composedReason s c) 6 q (rw (leads-no s (linkAt s c 1) kindCA z k, leads-yes s (linkAt s c 1) kindCN z m)) (λ o. omega arith))
-    (λ m q. let r : composedReason s c ≡ signalReason s c = rw (leads-no s (linkAt s c 1) kindCA z k, leads-no s (linkAt s c 1) kindCN z m) in
-    subst (λ (x : ℕ). Reasoned x d) (sym r) (signal-reason s n c d q)))))
-
-treated-other : (t : ℕ) (a b : Checked Decision) → (t ≡ 4 → ⊥) → onTreatment (treatment t) a b ≡ a
-unfolding treatment
-treated-other t a b n = or-not t 5
-    (λ e. ap (λ (k : Treatment). onTreatment k a b) (sym (eq-no _ _ _ _ n (eq-yes _ _ _ _ e refl))))
-    (λ e. ap (λ (k : Treatment). onTreatment k a b) (sym (eq-no _ _ _ _ n (eq-no _ _ _ _ e refl))))
-
-treated-four : (t : ℕ) (a b : Checked Decision) → t ≡ 4 → onTreatment (treatment t) a b ≡ b
-unfolding treatment
-treated-four t a b e = ap (λ (k : Treatment). onTreatment k a b) (sym (eq-yes _ _ _ _ e refl))
-
-typed-reason : (s : List ℕ) (n c : ℕ) (d : Decision) → onTreatment (treatment (channelType s c)) (decideComposition s n c) (ok (omitted 4)) ≡ ok d
-    → Reasoned (typedReason s c) d
-typed-reason s n c d e =
-    or-not (channelType s c) 4
-    (λ t. omitted-reasoned (typedReason s c) 4 (sym (treated-four (channelType s c) (decideComposition s n c) (ok (omitted 4)) t) ∙ e)
-    (eq-yes _ _ _ _ t refl) (λ o. omega arith))
-    (λ t. subst (λ (x : ℕ). Reasoned x d) (eq-no _ _ _ _ t refl)
-    (composed-reason s n c d (sym (treated-other (channelType s c) (decideComposition s n c) (ok (omitted 4)) t) ∙ e)))
-
--- what planning decides of a channel is document 01's reason
-pub decide-reason : (s : List ℕ) (n g c : ℕ) (d : Decision) → decide s n g c ≡ ok d → Reasoned (reasonFor s g c) d
-unfolding decide reasonFor
-decide-reason s n g c d e =
-    pick-cases (fits s g c) _ _ e
-    (λ f q. pick-cases (isMasterType s c) _ _ q
-    (λ m q. omitted-reasoned _ 3 q (rw (f, m)) (λ o. omega arith))
-    (λ m q. rw (f, m) (typed-reason s n c d q)))
-    (λ f q. omitted-reasoned _ 2 q (rw f) (λ o. omega arith))
+-- what planning decides of a channel is the reason that the papers give
+pub decide-reason : (table s : List ℕ) (n g c : ℕ) (d : Decision) → decide table s n g c ≡ ok d → Reasoned (reasonFor table s g c) d
+unfolding decide reasonFor unfit furtherMaster omittedType ifEq
+decide-reason table s n g c d e =
+    subst (λ (x : ℕ). Reasoned x d)
+    (first (fits s g c) (isMasterType s c) (eqb (treatment table (channelType s c)) 4) (leadsTo s (linkAt s c 1) kindCA) (leadsTo s (linkAt s c 1) kindCN)
+    (both (hasSignal table s c) (leadsTo s (linkAt s c 5) kindCG)) (eqb (treatment table (channelType s c)) 8))
+    (first-reason _ _ d _ _ e (λ r q. sym (ok-same q)) (λ e.
+    first-reason _ _ d _ _ e (λ r q. sym (ok-same q)) (λ e.
+    first-reason _ _ d _ _ e (λ r q. sym (ok-same q)) (λ e.
+    first-reason _ _ d _ _ e (composed-reason s c) (λ e.
+    first-reason _ _ d _ _ e (stored-reason table s c) (λ e.
+    first-reason _ _ d _ _ e (λ r q. sym (ok-same q)) (λ e.
+    chain-reason s n (signalLink table s c) d e)))))))
+  where
+    -- the first reason that holds
+    first : (fit master four array structure storage eight : Bool)
+        → _≡_ {A = ℕ} (ifEq (pick fit 0 2) 0 (ifEq (pick master 3 0) 0 (ifEq (pick four 4 0) 0 (ifEq (pick array 5 (pick structure 6 0)) 0
+        (ifEq (pick storage 7 0) 0 (ifEq (pick eight 8 0) 0 0 (pick eight 8 0)) (pick storage 7 0)) (pick array 5 (pick structure 6 0))) (pick four 4 0)) (pick master 3 0))
+        (pick fit 0 2))
+        (pick fit (pick master 3 (pick four 4 (pick array 5 (pick structure 6 (pick storage 7 (pick eight 8 0)))))) 2)
+    first false m f a t s e = refl
+    first true true f a t s e = refl
+    first true false true a t s e = refl
+    first true false false true t s e = refl
+    first true false false false true s e = refl
+    first true false false false false true e = refl
+    first true false false false false false true = refl
+    first true false false false false false false = refl
 
 -- within the limit of fragments
-pub signal-few : (s : List ℕ) (n c : ℕ) (d : Signal) → n ≤ 1024 → SignalKnown s n c d → n + sizeOfSignal d ≤ 1024
-signal-few s n c noSignal h k = omega arith
-signal-few s n c (signalData fs) h k = chain-fits signal limits s n (linkAt s c 5) fs h (k .1)
+pub signal-few : (table s : List ℕ) (n c : ℕ) (d : Signal) → n ≤ 1024 → SignalKnown table s n c d → n + sizeOfSignal d ≤ 1024
+signal-few table s n c noSignal h k = omega arith
+signal-few table s n c (signalData fs) h k = chain-fits signal limits s n (linkAt s c 5) fs h (k .1)

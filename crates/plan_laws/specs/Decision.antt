@@ -14,9 +14,9 @@ use Rattle.mdf.specs.Group.{dataGroups}
 use Rattle.mdf.specs.Count.{counts}
 use Rattle.plan.specs.Columns.{srcGroups, Column, plan, omissionWords}
 use Rattle.plan.specs.Data.{allDataIn, blocksIn}
-use Rattle.plan.specs.Rules.{unitIn}
+use Rattle.plan.specs.Rules.{choicesIn}
 use Rattle.plan.specs.Layout.{layout, columnWidth, columnBlocks}
-use Rattle.result.specs.Result.{Args, Decided, version420, lentIn, decided, answer, rulesOf, choicesIn}
+use Rattle.result.specs.Result.{Args, Decided, version420, lentIn, decided, answer, rulesOf}
 use Rattle.result.specs.Guarantee.{In, here, there}
 use Rattle.plan_laws.specs.Answers.{refused≢ok, ok-same, with-ok}
 
@@ -42,13 +42,13 @@ pub record Steps (x : Args) (d : Decided) : Type 0 where
   pub numbers : List ℕ
   pub lent : Lent x
   pub blockSize : 0 < x .blockSize
-  pub chosen : unitIn (x .unit) ≡ fine
+  pub chosen : choicesIn (rulesOf x) ≡ fine
   pub imageLength : length (x .image) ≤ 4294967296
   pub identification : identified (x .image) ≡ fine
   pub walked : walk (x .image) ≡ ok source
   pub counted : counts (x .image) (dataGroups source) ≡ ok numbers
   pub groups : d .groups ≡ srcGroups (dataGroups source) numbers
-  pub planned : plan (x .image) (length (source .fragments)) (d .groups) ≡ ok (d .planned)
+  pub planned : plan (rulesOf x) (x .image) (length (source .fragments)) (d .groups) ≡ ok (d .planned)
   pub dataFine : allDataIn (x .image) (d .planned .columns) (dataGroups source) ≡ fine
   pub blocksFine : blocksIn (x .image) (x .blockSize) (d .planned .columns) ≡ fine
   pub laidOut : layout (rulesOf x) (x .image) (x .blockSize) (length (x .text)) (d .planned .columns) ≡ ok (d .laidOut)
@@ -59,16 +59,16 @@ size-positive zero e = absurd (refused≢ok (eq-yes 0 0 (refused 2 0) fine refl 
 size-positive (suc n) e = omega arith
 
 pub decided-steps : (x : Args) (d : Decided) → decided x ≡ ok d → Steps x d
-unfolding decided choicesIn
+unfolding decided
 decided-steps x d e =
     with-ok (lentIn x) _ e (λ _ a e.
     with-ok (ifEq (x .blockSize) 0 (refused 2 0) fine) _ e (λ _ b e.
-    with-ok (choicesIn x) _ e (λ _ h e.
+    with-ok (choicesIn (rulesOf x)) _ e (λ _ h e.
     with-ok (ifLt 4294967296 (length (x .image)) (refused 3 0) fine) _ e (λ _ c e.
     with-ok (identified (x .image)) _ e (λ _ i e.
     with-ok (walk (x .image)) _ e (λ st w e.
     with-ok (counts (x .image) (dataGroups st)) _ e (λ ns n e.
-    with-ok (plan (x .image) (length (st .fragments)) (srcGroups (dataGroups st) ns)) _ e (λ p q e.
+    with-ok (plan (rulesOf x) (x .image) (length (st .fragments)) (srcGroups (dataGroups st) ns)) _ e (λ p q e.
     with-ok (allDataIn (x .image) (p .columns) (dataGroups st)) _ e (λ _ f e.
     with-ok (blocksIn (x .image) (x .blockSize) (p .columns)) _ e (λ _ k e.
     with-ok (layout (rulesOf x) (x .image) (x .blockSize) (length (x .text)) (p .columns)) _ e (λ l m e.

@@ -8,6 +8,7 @@ use native.Mathlib.Omega.{arith}
 use Rattle.base.specs.Choice.{pick}
 use Rattle.base.specs.Checked.{ok}
 use Rattle.mdf.specs.Group.{isStorage}
+use Rattle.plan.specs.Rules.{Rules}
 use Rattle.plan.specs.Columns.{SrcGroup, TimeOf, time, untimed, differs, timeOf, Column, Omission, Plan, withOmission, timeColumn, onPlanned, withColumn, withTime, Decision, omitted, kept, decide, sizeOfSignal, withDecision, planChannels, planTimed, planGroup, planGroups, plan, omissionAddresses}
 use Rattle.result.specs.Member.{In, here, there}
 use Rattle.result.specs.Recording.{Differs, Among, filePlaces, signalChannels}
@@ -102,13 +103,13 @@ decided-more : (g : SrcGroup) (m : Option ℕ) (c : ℕ) (p q : Plan) (d : Decis
 decided-more g m c p q (omitted r) l h = omitted-more p q c r l h
 decided-more g m c p q (kept d) l h = kept-more p q _ (sizeOfSignal d) l refl h
 
-channels-more : (s : List ℕ) (g : SrcGroup) (own : ℕ) (m : Option ℕ) (cs : List ℕ) (p q : Plan) → planChannels s g own m cs p ≡ ok q → More p q cs
+channels-more : (rs : Rules) (s : List ℕ) (g : SrcGroup) (own : ℕ) (m : Option ℕ) (cs : List ℕ) (p q : Plan) → planChannels rs s g own m cs p ≡ ok q → More p q cs
 unfolding planChannels
-channels-more s g own m [] p q e = no-more p q [] (ok-same e)
-channels-more s g own m (c ∷ cs) p q e =
+channels-more rs s g own m [] p q e = no-more p q [] (ok-same e)
+channels-more rs s g own m (c ∷ cs) p q e =
     eq-cases c own _ _ e
-    (λ _ r. left-more c (channels-more s g own m cs p q r))
-    (λ _ r. with-ok (decide s (p .fragments) (g .at) c) _ r (λ d _ r. decided-more g m c p q d cs (channels-more s g own m cs (withDecision g m c p d) q r)))
+    (λ _ r. left-more c (channels-more rs s g own m cs p q r))
+    (λ _ r. with-ok (decide (rs .table) s (p .fragments) (g .at) c) _ r (λ d _ r. decided-more g m c p q d cs (channels-more rs s g own m cs (withDecision g m c p d) q r)))
 
 time-omissions : (o : Option ℕ) (c : Column) (p : Plan) → onPlanned o (withColumn c 0 p) p .omissions ≡ p .omissions
 time-omissions none c p = refl
@@ -127,10 +128,10 @@ record GroupMore (s : List ℕ) (all : List SrcGroup) (g : SrcGroup) (p q : Plan
 untimed≢differs : untimed ≡ differs → ⊥
 untimed≢differs e = let z : _≡_ {A = ℕ} 0 1 = cc in omega arith
 
-timed-more : (s : List ℕ) (all : List SrcGroup) (g : SrcGroup) (p q : Plan) (o : TimeOf) → timeOf s all g ≡ o → planTimed s g o p ≡ ok q → GroupMore s all g p q
+timed-more : (rs : Rules) (s : List ℕ) (all : List SrcGroup) (g : SrcGroup) (p q : Plan) (o : TimeOf) → timeOf s all g ≡ o → planTimed rs s g o p ≡ ok q → GroupMore s all g p q
 unfolding withTime omitted-more
-timed-more s all g p q (time t m) o e =
-    let r = channels-more s g _ _ (g .channels) (withTime t m p) q e in
+timed-more rs s all g p q (time t m) o e =
+    let r = channels-more rs s g _ _ (g .channels) (withTime t m p) q e in
     record {
       given = left-more (g .at) (record {
         more = r .more;
@@ -142,30 +143,30 @@ timed-more s all g p q (time t m) o e =
       });
       differing = λ _ d. absurd (time≢differs (sym d ∙ o));
     }
-timed-more s all g p q untimed o e =
-    record { given = left-more (g .at) (channels-more s g _ none (g .channels) p q e); differing = λ _ d. absurd (untimed≢differs (sym o ∙ d)) }
-timed-more s all g p q differs o e =
-    let r = omitted-more p q (g .at) 1 (g .channels) (channels-more s g _ none (g .channels) (withOmission (g .at) 1 p) q e) in
+timed-more rs s all g p q untimed o e =
+    record { given = left-more (g .at) (channels-more rs s g _ none (g .channels) p q e); differing = λ _ d. absurd (untimed≢differs (sym o ∙ d)) }
+timed-more rs s all g p q differs o e =
+    let r = omitted-more p q (g .at) 1 (g .channels) (channels-more rs s g _ none (g .channels) (withOmission (g .at) 1 p) q e) in
     record { given = r; differing = λ _ _. subst (In _) (sym (r .is)) (in-right (p .omissions) here) }
 
-group-more : (s : List ℕ) (all : List SrcGroup) (g : SrcGroup) (p q : Plan) → planGroup s all g p ≡ ok q → GroupMore s all g p q
+group-more : (rs : Rules) (s : List ℕ) (all : List SrcGroup) (g : SrcGroup) (p q : Plan) → planGroup rs s all g p ≡ ok q → GroupMore s all g p q
 unfolding planGroup
-group-more s all g p q e =
+group-more rs s all g p q e =
     pick-cases (isStorage s (g .at)) _ _ e
     (λ b r. record { given = no-more p q (g .at ∷ g .channels) (ok-same r); differing = λ f _. absurd (true≢false (sym b ∙ f)) })
-    (λ _ r. timed-more s all g p q (timeOf s all g) refl r)
+    (λ _ r. timed-more rs s all g p q (timeOf s all g) refl r)
 
 record GroupsMore (s : List ℕ) (all gs : List SrcGroup) (p q : Plan) : Type 0 where
   given : More p q (filePlaces gs)
   differing : (g : SrcGroup) → In g gs → isStorage s (g .at) ≡ false → timeOf s all g ≡ differs → In (record { at = g .at; reason = 1 }) (q .omissions)
 
-groups-more : (s : List ℕ) (all gs : List SrcGroup) (p q : Plan) → planGroups s all gs p ≡ ok q → GroupsMore s all gs p q
+groups-more : (rs : Rules) (s : List ℕ) (all gs : List SrcGroup) (p q : Plan) → planGroups rs s all gs p ≡ ok q → GroupsMore s all gs p q
 unfolding planGroups filePlaces
-groups-more s all [] p q e = record { given = no-more p q [] (ok-same e); differing = λ g i. absurd (in-none i) }
-groups-more s all (g ∷ gs) p q e =
-    with-ok (planGroup s all g p) _ e (λ u b r.
-    let h = group-more s all g p u b in
-    let k = groups-more s all gs u q r in
+groups-more rs s all [] p q e = record { given = no-more p q [] (ok-same e); differing = λ g i. absurd (in-none i) }
+groups-more rs s all (g ∷ gs) p q e =
+    with-ok (planGroup rs s all g p) _ e (λ u b r.
+    let h = group-more rs s all g p u b in
+    let k = groups-more rs s all gs u q r in
     record {
       given = record {
         more = h .given .more ++ k .given .more;
@@ -190,10 +191,10 @@ pub record InOrder (s : List ℕ) (all : List SrcGroup) (p : Plan) : Type 0 wher
   pub omissions : Among (omissionAddresses (p .omissions)) (filePlaces all)
   pub differing : (g : SrcGroup) → In g all → isStorage s (g .at) ≡ false → Differs s all g → In (record { at = g .at; reason = 1 }) (p .omissions)
 
-pub plan-in-order : (s : List ℕ) (n : ℕ) (all : List SrcGroup) (p : Plan) → ((x : ℕ) → occurs x (allAddresses all) ≤ 1) → plan s n all ≡ ok p → InOrder s all p
+pub plan-in-order : (rs : Rules) (s : List ℕ) (n : ℕ) (all : List SrcGroup) (p : Plan) → ((x : ℕ) → occurs x (allAddresses all) ≤ 1) → plan rs s n all ≡ ok p → InOrder s all p
 unfolding plan signalChannels
-plan-in-order s n all p once e =
-    let r = groups-more s all all _ p e in
+plan-in-order rs s n all p once e =
+    let r = groups-more rs s all all _ p e in
     record {
       columns = subst (λ (l : List ℕ). Among l (filePlaces all)) (sym (r .given .signals)) (r .given .among-channels);
       omissions = subst (λ (l : List Omission). Among (omissionAddresses l) (filePlaces all)) (sym (r .given .is)) (r .given .among);

@@ -10,7 +10,7 @@ use Rattle.plan.specs.Channel.{fits}
 use Rattle.plan.specs.Columns.{SrcGroup, Column, sizeOfSignal}
 use Rattle.plan.specs.Data.{isNonempty, recordsIn, signalIn, dataIn}
 use Rattle.plan.specs.Layout.{columnBlocks}
-use Rattle.result.specs.Result.{Args, Decided, decided, answer}
+use Rattle.result.specs.Result.{Args, rulesOf, Decided, decided, answer}
 use Rattle.result.specs.Guarantee.{In, columnsOf, omissionsOf, NamesMaster}
 use Rattle.plan_laws.specs.Lists.{occurs}
 use Rattle.plan_laws.specs.GroupLaws.{allAddresses, all-length}
@@ -22,7 +22,7 @@ use Rattle.plan_laws.specs.Decision.{Steps, decided-steps, blocks-few, a
 pub record Known (x : Args) (d : Decided) : Type 0 where
   pub steps : Steps x d
   pub groups : Groups (x .image) (steps .source) (steps .numbers) (d .groups)
-  pub planned : Planned (x .image) (d .groups) (length (steps .source .fragments)) (d .planned)
+  pub planned : Planned (rulesOf x) (x .image) (d .groups) (length (steps .source .fragments)) (d .planned)
   -- three fields of the guarantee
   pub once : (g : SrcGroup) → In g (d .groups) → isStorage (x .image) (g .at) ≡ false → (c : ℕ) → In c (g .channels)
       → columnsOf c (d .planned .columns) + omissionsOf c (d .planned .omissions) ≡ 1
@@ -47,7 +47,7 @@ steps-known x d t =
     let g : Groups (x .image) (t .source) (t .numbers) (d .groups) =
     subst (Groups (x .image) (t .source) (t .numbers)) (sym (t .groups)) (groups-known (x .image) (t .source) (t .numbers) (t .walked) (t .counted)) in
     let one : (y : ℕ) → occurs y (allAddresses (d .groups)) ≤ 1 = λ y. omega (arith, g .once y) in
-    let p = plan-known (x .image) (d .groups) n (d .planned) one (g .nonzero) (g .fewFragments) (t .planned) in
+    let p = plan-known (rulesOf x) (x .image) (d .groups) n (d .planned) one (g .nonzero) (g .fewFragments) (t .planned) in
     let dataOf : (c : Column) → In c (d .planned .columns) → dataIn (x .image) (d .planned .columns) (c .group .dataGroup) ≡ fine =
     λ c i. data-fine (x .image) (d .planned .columns) (dataGroups (t .source)) (t .dataFine) (c .group .dataGroup)
     (g .origins (c .group) (p .sourced c i .groupIn) .dataGroupIn) in
@@ -55,20 +55,20 @@ steps-known x d t =
       steps = t;
       groups = g;
       planned = p;
-      once = plan-once (x .image) (d .groups) n (d .planned) one (g .nonzero) (g .fewFragments) (t .planned);
-      source = plan-source (x .image) (d .groups) n (d .planned) one (g .nonzero) (g .fewFragments) (t .planned);
-      masters = plan-masters (x .image) (d .groups) n (d .planned) one (g .nonzero) (g .fewFragments) (t .planned);
-      fitting = plan-fits (x .image) (d .groups) n (d .planned) one (g .nonzero) (g .fewFragments) (t .planned);
-      fewColumns = omega (arith, plan-few (x .image) (d .groups) n (d .planned) one (g .nonzero) (g .fewFragments) (t .planned), g .fewChannels);
+      once = plan-once (rulesOf x) (x .image) (d .groups) n (d .planned) one (g .nonzero) (g .fewFragments) (t .planned);
+      source = plan-source (rulesOf x) (x .image) (d .groups) n (d .planned) one (g .nonzero) (g .fewFragments) (t .planned);
+      masters = plan-masters (rulesOf x) (x .image) (d .groups) n (d .planned) one (g .nonzero) (g .fewFragments) (t .planned);
+      fitting = plan-fits (rulesOf x) (x .image) (d .groups) n (d .planned) one (g .nonzero) (g .fewFragments) (t .planned);
+      fewColumns = omega (arith, plan-few (rulesOf x) (x .image) (d .groups) n (d .planned) one (g .nonzero) (g .fewFragments) (t .planned), g .fewChannels);
       fewOmissions = omega (
         arith,
-        plan-few-omissions (x .image) (d .groups) n (d .planned) one (g .nonzero) (g .fewFragments) (t .planned),
+        plan-few-omissions (rulesOf x) (x .image) (d .groups) n (d .planned) one (g .nonzero) (g .fewFragments) (t .planned),
         all-length (d .groups),
         g .fewChannels,
         g .fewGroups,
       );
       fewFragments = p .few;
-      fewSignals = plan-signals (x .image) (d .groups) n (d .planned) one (g .nonzero) (g .fewFragments) (t .planned);
+      fewSignals = plan-signals (rulesOf x) (x .image) (d .groups) n (d .planned) one (g .nonzero) (g .fewFragments) (t .planned);
       recordsFine = λ c i k. records-fine (x .image) (d .planned .columns) (c .group .dataGroup) (dataOf c i) c i refl k;
       signalFine = λ c i. signal-fine (x .image) (d .planned .columns) (c .group .dataGroup) (dataOf c i) c i refl;
       fewBlocks = blocks-few (x .image) (x .blockSize) (d .planned .columns) (t .blocksFine);

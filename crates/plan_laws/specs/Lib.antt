@@ -1,6 +1,7 @@
 pub mod Answers
 pub mod Decision
 pub mod Lists
+pub mod TableLaws
 pub mod ChainLaws
 pub mod WalkLaws
 pub mod OrderLaws

@@ -12,6 +12,7 @@ use Rattle.base.specs.ChoiceLaws.{eq-yes, eq-no}
 use Rattle.base.specs.Checked.{ok}
 use Rattle.mdf.specs.Group.{isStorage}
 use Rattle.plan.specs.Channel.{fits}
+use Rattle.plan.specs.Rules.{Rules}
 use Rattle.plan.specs.Columns.{SrcGroup, masterOf, TimeOf, time, untimed, differs, timeOf, noSignal, Column, Omission, Plan, withColumn, withOmission, timeColumn, onPlanned, withTime, Decision, omitted, kept, decide, sizeOfSignal, withDecision, planChannels, ownMaster, planTimed, planGroup, planGroups, plan, omissionAddresses}
 use Rattle.result.specs.Recording.{reasonFor, OmissionDue, SignalDue}
 use Rattle.result.specs.Guarantee.{In, here, there, columnsOf, omissionsOf, columnAt, IsTime, NamesMaster, Kinded}
@@ -26,29 +27,29 @@ use Rattle.plan_laws.specs.ColumnLaws.{timesAt, timesOf, signalsOf, colu
 -- ---- what is known of one column
 
 -- a time column is its group's master; the channel of a signal column has no reason
-abbrev Made : List ℕ → Column → Bool → Type 0
-Made s c true = masterOf s (c .group) ≡ some (c .channel)
-Made s c false = reasonFor s (c .group .at) (c .channel) ≡ 0
+abbrev Made : Rules → List ℕ → Column → Bool → Type 0
+Made rs s c true = masterOf s (c .group) ≡ some (c .channel)
+Made rs s c false = reasonFor (rs .table) s (c .group .at) (c .channel) ≡ 0
 
-pub record Sourced (s : List ℕ) (all : List SrcGroup) (c : Column) : Type 0 where
+pub record Sourced (rs : Rules) (s : List ℕ) (all : List SrcGroup) (c : Column) : Type 0 where
   pub groupIn : In (c .group) all
   pub stored : isStorage s (c .group .at) ≡ false
   pub channelIn : In (c .channel) (c .group .channels)
   pub fitting : fits s (c .group .at) (c .channel) ≡ true
-  pub made : Made s c (c .isTime)
-  pub signal : SignalDue s (c .channel) (c .signalOf)
+  pub made : Made rs s c (c .isTime)
+  pub signal : SignalDue (rs .table) s (c .channel) (c .signalOf)
 
-pub timed-master : (s : List ℕ) (all : List SrcGroup) (c : Column) → Sourced s all c → c .isTime ≡ true → masterOf s (c .group) ≡ some (c .channel)
-timed-master s all c h e = let k : Made s c true = rw e at (h .made) in k
+pub timed-master : (rs : Rules) (s : List ℕ) (all : List SrcGroup) (c : Column) → Sourced rs s all c → c .isTime ≡ true → masterOf s (c .group) ≡ some (c .channel)
+timed-master rs s all c h e = let k : Made rs s c true = rw e at (h .made) in k
 
-pub made-kinded : (s : List ℕ) (c : Column) (t : Bool) → Made s c t → Kinded s c t
-made-kinded s c true h = master-known s (c .group) (c .channel) h .master .first
-made-kinded s c false h = h
+pub made-kinded : (rs : Rules) (s : List ℕ) (c : Column) (t : Bool) → Made rs s c t → Kinded (rs .table) s c t
+made-kinded rs s c true h = master-known s (c .group) (c .channel) h .master .first
+made-kinded rs s c false h = h
 
 -- ---- what is known of a plan; n fragments were found in the walk
-pub record Planned (s : List ℕ) (all : List SrcGroup) (n : ℕ) (p : Plan) : Type 0 where
-  pub sourced : (c : Column) → In c (p .columns) → Sourced s all c
-  pub omitted : (o : Omission) → In o (p .omissions) → OmissionDue s all o
+pub record Planned (rs : Rules) (s : List ℕ) (all : List SrcGroup) (n : ℕ) (p : Plan) : Type 0 where
+  pub sourced : (c : Column) → In c (p .columns) → Sourced rs s all c
+  pub omitted : (o : Omission) → In o (p .omissions) → OmissionDue (rs .table) s all o
   pub named : (c : Column) → In c (p .columns) → NamesTime s all (p .columns) c (c .isTime)
   pub timesOnce : (a : ℕ) → timesAt a (p .columns) ≤ 1
   pub signals : n + signalsOf (p .columns) ≡ p .fragments
@@ -58,20 +59,20 @@ pub record Planned (s : List ℕ) (all : List SrcGroup) (n : ℕ) (p : Plan) : T
 unfoldable pub total : ℕ → Plan → ℕ
 total x p = columnsOf x (p .columns) + omissionsOf x (p .omissions)
 
-module _ (s : List ℕ) (all : List SrcGroup) (n : ℕ) where
+module _ (rs : Rules) (s : List ℕ) (all : List SrcGroup) (n : ℕ) where
   -- an omission changes no column
-  omitted-planned : (p : Plan) (o : Omission) → Planned s all n p → OmissionDue s all o → Planned s all n (withOmission (o .at) (o .reason) p)
+  omitted-planned : (p : Plan) (o : Omission) → Planned rs s all n p → OmissionDue (rs .table) s all o → Planned rs s all n (withOmission (o .at) (o .reason) p)
   omitted-planned p o h k =
       record { sourced = h .sourced; omitted = λ u i. each u (in-cases (p .omissions) i); named = h .named; timesOnce = h .timesOnce; signals = h .signals; few = h .few }
     where
-      each : (u : Omission) → In u (p .omissions) ⊎ In u (o ∷ []) → OmissionDue s all u
+      each : (u : Omission) → In u (p .omissions) ⊎ In u (o ∷ []) → OmissionDue (rs .table) s all u
       each u (inl i) = h .omitted u i
-      each u (inr i) = subst (OmissionDue s all) (sym (in-one i)) k
+      each u (inr i) = subst (OmissionDue (rs .table) s all) (sym (in-one i)) k
 
   -- one column more
-  column-planned : (p : Plan) (c : Column) → Planned s all n p → Sourced s all c → NamesTime s all (p .columns ++ (c ∷ [])) c (c .isTime)
+  column-planned : (p : Plan) (c : Column) → Planned rs s all n p → Sourced rs s all c → NamesTime s all (p .columns ++ (c ∷ [])) c (c .isTime)
       → ((a : ℕ) → timesAt a (p .columns ++ (c ∷ [])) ≤ 1) → p .fragments + sizeOfSignal (c .signalOf) ≤ 1024
-      → Planned s all n (withColumn c (sizeOfSignal (c .signalOf)) p)
+      → Planned rs s all n (withColumn c (sizeOfSignal (c .signalOf)) p)
   column-planned p c h k m t f =
       record {
         sourced = λ d i. source d (in-cases (p .columns) i);
@@ -82,9 +83,9 @@ module _ (s : List ℕ) (all : List SrcGroup) (n : ℕ) where
         few = f;
       }
     where
-      source : (d : Column) → In d (p .columns) ⊎ In d (c ∷ []) → Sourced s all d
+      source : (d : Column) → In d (p .columns) ⊎ In d (c ∷ []) → Sourced rs s all d
       source d (inl i) = h .sourced d i
-      source d (inr i) = subst (Sourced s all) (sym (in-one i)) k
+      source d (inr i) = subst (Sourced rs s all) (sym (in-one i)) k
 
       name : (d : Column) → In d (p .columns) ⊎ In d (c ∷ []) → NamesTime s all (p .columns ++ (c ∷ [])) d (d .isTime)
       name d (inl i) = named-later s all (p .columns) (c ∷ []) d (d .isTime) (h .named d i)
@@ -122,51 +123,51 @@ others-few own x (c ∷ cs) =
     (λ e. rw (← eq-no c own 0 (same c x) e refl) (omega (arith, others-few own x cs)))
 
 -- from plan p to plan q: channels cs other than own were planned, and no time column
-pub record ChannelsDone (s : List ℕ) (all : List SrcGroup) (n own : ℕ) (cs : List ℕ) (p q : Plan) : Type 0 where
-  pub planned : Planned s all n q
+pub record ChannelsDone (rs : Rules) (s : List ℕ) (all : List SrcGroup) (n own : ℕ) (cs : List ℕ) (p q : Plan) : Type 0 where
+  pub planned : Planned rs s all n q
   pub totals : (x : ℕ) → total x q ≡ total x p + others own x cs
   pub times : (x : ℕ) → timesOf x (q .columns) ≡ timesOf x (p .columns)
 
-module _ (s : List ℕ) (all : List SrcGroup) (n : ℕ) (g : SrcGroup) (m : Option ℕ) (gin : In g all) (stored : isStorage s (g .at) ≡ false) where
+module _ (rs : Rules) (s : List ℕ) (all : List SrcGroup) (n : ℕ) (g : SrcGroup) (m : Option ℕ) (gin : In g all) (stored : isStorage s (g .at) ≡ false) where
   -- the channel c after its decision
   pub record ChannelDone (c : ℕ) (p q : Plan) : Type 0 where
-    pub planned : Planned s all n q
+    pub planned : Planned rs s all n q
     pub due : GivenDue (q .columns) m (g .records) (timeOf s all g)
     pub totals : (x : ℕ) → total x q ≡ total x p + same c x
     pub times : (x : ℕ) → timesOf x (q .columns) ≡ timesOf x (p .columns)
 
-  channel-done : (c : ℕ) (p : Plan) (d : Decision) → Planned s all n p → GivenDue (p .columns) m (g .records) (timeOf s all g)
-      → In c (g .channels) → (c ≡ ownMaster (masterOf s g) → ⊥) → decide s (p .fragments) (g .at) c ≡ ok d → ChannelDone c p (withDecision g m c p d)
+  channel-done : (c : ℕ) (p : Plan) (d : Decision) → Planned rs s all n p → GivenDue (p .columns) m (g .records) (timeOf s all g)
+      → In c (g .channels) → (c ≡ ownMaster (masterOf s g) → ⊥) → decide (rs .table) s (p .fragments) (g .at) c ≡ ok d → ChannelDone c p (withDecision g m c p d)
   unfolding total
   channel-done c p (omitted r) h k i o e =
-      let w = decide-reason s (p .fragments) (g .at) c (omitted r) e in
+      let w = decide-reason (rs .table) s (p .fragments) (g .at) c (omitted r) e in
       record {
-        planned = omitted-planned s all n p (record { at = c; reason = r }) h (OmissionDue.ofChannel g gin stored i (w .0) (w .1));
+        planned = omitted-planned rs s all n p (record { at = c; reason = r }) h (OmissionDue.ofChannel g gin stored i (w .0) (w .1));
         due = k;
         totals = λ x. rw (omission-more x (p .omissions) (record { at = c; reason = r })) (omega arith);
         times = λ x. refl;
       }
   channel-done c p (kept d) h k i o e =
       let col : Column = record { group = g; channel = c; isTime = false; master = m; signalOf = d } in
-      let f = decide-kept s (p .fragments) (g .at) c d e in
+      let f = decide-kept (rs .table) s (p .fragments) (g .at) c d e in
       let later = given-later (p .columns) (col ∷ []) m (g .records) (timeOf s all g) k in
       record {
-        planned = column-planned s all n p col h
-            (record { groupIn = gin; stored = stored; channelIn = i; fitting = f .fitting; made = decide-reason s (p .fragments) (g .at) c (kept d) e; signal = kept-due s (p .fragments) c d (f .signal) })
+        planned = column-planned rs s all n p col h
+            (record { groupIn = gin; stored = stored; channelIn = i; fitting = f .fitting; made = decide-reason (rs .table) s (p .fragments) (g .at) c (kept d) e; signal = kept-due (rs .table) s (p .fragments) c d (f .signal) })
             (given-due (p .columns ++ (col ∷ [])) col (timeOf s all g) later)
             (λ a. rw (times-at-signal (p .columns) col refl a) (h .timesOnce a))
-            (signal-few s (p .fragments) c d (h .few) (f .signal));
+            (signal-few (rs .table) s (p .fragments) c d (h .few) (f .signal));
         due = later;
         totals = λ x. rw (column-more x (p .columns) col) (omega arith);
         times = λ x. times-signal (p .columns) col refl x;
       }
 
-  channels-done : (cs : List ℕ) (p q : Plan) → Planned s all n p → GivenDue (p .columns) m (g .records) (timeOf s all g)
-      → ((c : ℕ) → In c cs → In c (g .channels)) → planChannels s g (ownMaster (masterOf s g)) m cs p ≡ ok q
-      → ChannelsDone s all n (ownMaster (masterOf s g)) cs p q
+  channels-done : (cs : List ℕ) (p q : Plan) → Planned rs s all n p → GivenDue (p .columns) m (g .records) (timeOf s all g)
+      → ((c : ℕ) → In c cs → In c (g .channels)) → planChannels rs s g (ownMaster (masterOf s g)) m cs p ≡ ok q
+      → ChannelsDone rs s all n (ownMaster (masterOf s g)) cs p q
   unfolding planChannels others
   channels-done [] p q h k i e =
-      subst (ChannelsDone s all n (ownMaster (masterOf s g)) [] p) (ok-same e)
+      subst (ChannelsDone rs s all n (ownMaster (masterOf s g)) [] p) (ok-same e)
       (record { planned = h; totals = λ x. omega arith; times = λ x. refl })
   channels-done (c ∷ cs) p q h k i e =
       let own : ℕ = ownMaster (masterOf s g) in
@@ -177,7 +178,7 @@ module _ (s : List ℕ) (all : List SrcGroup) (n : ℕ) (g : SrcGroup) (m : Opti
         totals = λ x. rw (← eq-yes c own 0 (same c x) o refl) (omega (arith, r .totals x));
         times = r .times;
       })
-      (λ o t. with-ok (decide s (p .fragments) (g .at) c) _ t (λ d b t.
+      (λ o t. with-ok (decide (rs .table) s (p .fragments) (g .at) c) _ t (λ d b t.
       let a = channel-done c p d h k (i c here) o b in
       let r = channels-done cs (withDecision g m c p d) q (a .planned) (a .due) (λ x j. i x (there j)) t in
       record {
@@ -200,23 +201,23 @@ abbrev timeOfGroup : SrcGroup → ℕ → Column
 timeOfGroup t m = record { group = t; channel = m; isTime = true; master = none; signalOf = noSignal }
 
 -- from plan p to plan q: the time column of t, made of m, is there
-pub record TimeDone (s : List ℕ) (all : List SrcGroup) (n : ℕ) (g t : SrcGroup) (m : ℕ) (p q : Plan) : Type 0 where
-  pub planned : Planned s all n q
+pub record TimeDone (rs : Rules) (s : List ℕ) (all : List SrcGroup) (n : ℕ) (g t : SrcGroup) (m : ℕ) (p q : Plan) : Type 0 where
+  pub planned : Planned rs s all n q
   pub due : GivenDue (q .columns) (timeColumn (t .at) 0 (q .columns)) (g .records) (time t m)
   pub totals : (x : ℕ) → total x q + timesOf x (p .columns) ≡ total x p + timesOf x (q .columns)
   pub grown : (x : ℕ) → timesOf x (p .columns) ≤ timesOf x (q .columns)
   pub isThere : 1 ≤ timesOf m (q .columns)
 
-module _ (s : List ℕ) (all : List SrcGroup) (n : ℕ) (once : (x : ℕ) → occurs x (allAddresses all) ≤ 1) where
+module _ (rs : Rules) (s : List ℕ) (all : List SrcGroup) (n : ℕ) (once : (x : ℕ) → occurs x (allAddresses all) ≤ 1) where
   module _ (g t : SrcGroup) (m : ℕ) (timed : Timed s all g t m) where
     -- a time column of the group at t's address is t's, made of m
-    time-is : (q : Plan) (k : ℕ) → Planned s all n q → timeColumn (t .at) 0 (q .columns) ≡ some k → TimeIs q g t m k
+    time-is : (q : Plan) (k : ℕ) → Planned rs s all n q → timeColumn (t .at) 0 (q .columns) ≡ some k → TimeIs q g t m k
     time-is q k h e =
         let f = time-found (t .at) 0 (q .columns) k e in
         let d = f .column in
         let w = h .sourced d (f .isIn) in
         let same : d .group ≡ t = group-unique all once (w .groupIn) (timed .isIn) (f .ofGroup) in
-        let made : d .channel ≡ m = some-same (sym (timed-master s all d w (f .timed)) ∙ ap (masterOf s) same ∙ timed .master) in
+        let made : d .channel ≡ m = some-same (sym (timed-master rs s all d w (f .timed)) ∙ ap (masterOf s) same ∙ timed .master) in
         let number : f .index ≡ k = omega (arith, f .number) in
         record {
           column = d;
@@ -232,23 +233,23 @@ module _ (s : List ℕ) (all : List SrcGroup) (n : ℕ) (once : (x : ℕ) → oc
         }
 
     -- where there is one, it is due
-    time-due : (q : Plan) → Planned s all n q → (o : Option ℕ) → timeColumn (t .at) 0 (q .columns) ≡ o → 1 ≤ timesAt (t .at) (q .columns)
+    time-due : (q : Plan) → Planned rs s all n q → (o : Option ℕ) → timeColumn (t .at) 0 (q .columns) ≡ o → 1 ≤ timesAt (t .at) (q .columns)
         → GivenDue (q .columns) o (g .records) (time t m)
     time-due q h none e l = absurd (omega (arith, time-missing (t .at) 0 (q .columns) e))
     time-due q h (some k) e l = let f = time-is q k h e in (k, f .column, refl, f .isTime)
 
-    new-planned : (p : Plan) → Planned s all n p → timeColumn (t .at) 0 (p .columns) ≡ none → Planned s all n (withColumn (timeOfGroup t m) 0 p)
+    new-planned : (p : Plan) → Planned rs s all n p → timeColumn (t .at) 0 (p .columns) ≡ none → Planned rs s all n (withColumn (timeOfGroup t m) 0 p)
     new-planned p h e =
         let b = master-known s t m (timed .master) in
-        column-planned s all n p (timeOfGroup t m) h
-        (record { groupIn = timed .isIn; stored = b .stored; channelIn = b .master .isIn; fitting = b .master .fitting; made = timed .master; signal = master-unsigned s m (b .master .typed) })
+        column-planned rs s all n p (timeOfGroup t m) h
+        (record { groupIn = timed .isIn; stored = b .stored; channelIn = b .master .isIn; fitting = b .master .fitting; made = timed .master; signal = master-unsigned (rs .table) s m (b .master .typed) })
         refl
         (λ a. or-not (t .at) a
         (λ q. omega (arith, times-at-here (p .columns) (timeOfGroup t m) refl a q, ap (λ (y : ℕ). timesAt y (p .columns)) q, time-missing (t .at) 0 (p .columns) e))
         (λ q. omega (arith, times-at-other (p .columns) (timeOfGroup t m) refl a q, h .timesOnce a)))
         (omega (arith, h .few))
 
-    new-done : (p : Plan) → Planned s all n p → timeColumn (t .at) 0 (p .columns) ≡ none → TimeDone s all n g t m p (withColumn (timeOfGroup t m) 0 p)
+    new-done : (p : Plan) → Planned rs s all n p → timeColumn (t .at) 0 (p .columns) ≡ none → TimeDone rs s all n g t m p (withColumn (timeOfGroup t m) 0 p)
     unfolding total
     new-done p h e =
         let q = withColumn (timeOfGroup t m) 0 p in
@@ -261,7 +262,7 @@ module _ (s : List ℕ) (all : List SrcGroup) (n : ℕ) (once : (x : ℕ) → oc
           isThere = omega (arith, times-timed (p .columns) (timeOfGroup t m) refl m, same-yes m m refl);
         }
 
-    old-done : (p : Plan) (k : ℕ) → Planned s all n p → timeColumn (t .at) 0 (p .columns) ≡ some k → TimeDone s all n g t m p p
+    old-done : (p : Plan) (k : ℕ) → Planned rs s all n p → timeColumn (t .at) 0 (p .columns) ≡ some k → TimeDone rs s all n g t m p p
     old-done p k h e =
         let f = time-is p k h e in
         record {
@@ -272,11 +273,11 @@ module _ (s : List ℕ) (all : List SrcGroup) (n : ℕ) (once : (x : ℕ) → oc
           isThere = times-in m (p .columns) (f .column) (f .isIn) (f .isTime .timed) (f .ofChannel);
         }
 
-    time-done : (p : Plan) → Planned s all n p → TimeDone s all n g t m p (withTime t m p)
+    time-done : (p : Plan) → Planned rs s all n p → TimeDone rs s all n g t m p (withTime t m p)
     unfolding withTime
     time-done p h = go (timeColumn (t .at) 0 (p .columns)) refl
       where
-        go : (o : Option ℕ) → timeColumn (t .at) 0 (p .columns) ≡ o → TimeDone s all n g t m p (onPlanned o (withColumn (timeOfGroup t m) 0 p) p)
+        go : (o : Option ℕ) → timeColumn (t .at) 0 (p .columns) ≡ o → TimeDone rs s all n g t m p (onPlanned o (withColumn (timeOfGroup t m) 0 p) p)
         go none e = new-done p h e
         go (some k) e = old-done p k h e
 
@@ -295,8 +296,8 @@ unfoldable pub due : List ℕ → SrcGroup → ℕ → ℕ
 due s g x = let given = others (ownMaster (masterOf s g)) x (g .channels) in pick (isStorage s (g .at)) 0 given
 
 -- from plan p to plan q: the group g is planned
-pub record GroupDone (s : List ℕ) (all : List SrcGroup) (n : ℕ) (g : SrcGroup) (p q : Plan) : Type 0 where
-  pub planned : Planned s all n q
+pub record GroupDone (rs : Rules) (s : List ℕ) (all : List SrcGroup) (n : ℕ) (g : SrcGroup) (p q : Plan) : Type 0 where
+  pub planned : Planned rs s all n q
   pub totals : (x : ℕ) → (g .at ≡ x → ⊥) → total x q + timesOf x (p .columns) ≡ total x p + due s g x + timesOf x (q .columns)
   pub most : (x : ℕ) → total x q + timesOf x (p .columns) ≤ total x p + same (g .at) x + due s g x + timesOf x (q .columns)
   pub grown : (x : ℕ) → timesOf x (p .columns) ≤ timesOf x (q .columns)
@@ -306,12 +307,12 @@ due-stored : (s : List ℕ) (g : SrcGroup) (x : ℕ) → isStorage s (g .at) ≡
 unfolding due
 due-stored s g x e = rw e
 
-module _ (s : List ℕ) (all : List SrcGroup) (n : ℕ) (once : (x : ℕ) → occurs x (allAddresses all) ≤ 1) where
+module _ (rs : Rules) (s : List ℕ) (all : List SrcGroup) (n : ℕ) (once : (x : ℕ) → occurs x (allAddresses all) ≤ 1) where
   module _ (g : SrcGroup) (gin : In g all) (stored : isStorage s (g .at) ≡ false) where
-    timed-done : (p q : Plan) (o : TimeOf) → timeOf s all g ≡ o → Planned s all n p → planTimed s g o p ≡ ok q → GroupDone s all n g p q
+    timed-done : (p q : Plan) (o : TimeOf) → timeOf s all g ≡ o → Planned rs s all n p → planTimed rs s g o p ≡ ok q → GroupDone rs s all n g p q
     timed-done p q (time t m) o h e =
-        let a = time-done s all n once g t m (time-known s all g t m gin o) p h in
-        let r = channels-done s all n g (timeColumn (t .at) 0 (withTime t m p .columns)) gin stored (g .channels) (withTime t m p) q
+        let a = time-done rs s all n once g t m (time-known s all g t m gin o) p h in
+        let r = channels-done rs s all n g (timeColumn (t .at) 0 (withTime t m p .columns)) gin stored (g .channels) (withTime t m p) q
         (a .planned) (rw o (a .due)) (λ c i. i) e in
         record {
           planned = r .planned;
@@ -321,7 +322,7 @@ module _ (s : List ℕ) (all : List SrcGroup) (n : ℕ) (once : (x : ℕ) → oc
           own = λ k b. let z : m ≡ k = time-same (sym o ∙ time-own s all g k b) .1 in rw (← z) (omega (arith, r .times m, a .isThere));
         }
     timed-done p q untimed o h e =
-        let r = channels-done s all n g none gin stored (g .channels) p q h (rw o refl) (λ c i. i) e in
+        let r = channels-done rs s all n g none gin stored (g .channels) p q h (rw o refl) (λ c i. i) e in
         record {
           planned = r .planned;
           totals = λ x y. omega (arith, r .totals x, r .times x, due-stored s g x stored);
@@ -330,7 +331,7 @@ module _ (s : List ℕ) (all : List SrcGroup) (n : ℕ) (once : (x : ℕ) → oc
           own = λ k b. absurd (time≢untimed (sym o ∙ time-own s all g k b));
         }
     timed-done p q differs o h e =
-        let r = channels-done s all n g none gin stored (g .channels) (withOmission (g .at) 1 p) q (omitted-planned s all n p (record { at = g .at; reason = 1 }) h (OmissionDue.ofGroup g gin stored refl refl (time-differs s all g stored o))) (rw o refl) (λ c i. i) e in
+        let r = channels-done rs s all n g none gin stored (g .channels) (withOmission (g .at) 1 p) q (omitted-planned rs s all n p (record { at = g .at; reason = 1 }) h (OmissionDue.ofGroup g gin stored refl refl (time-differs s all g stored o))) (rw o refl) (λ c i. i) e in
         record {
           planned = r .planned;
           totals = λ x y. omega (arith, r .totals x, r .times x, due-stored s g x stored, omitted-total x (g .at) 1 p y);
@@ -339,11 +340,11 @@ module _ (s : List ℕ) (all : List SrcGroup) (n : ℕ) (once : (x : ℕ) → oc
           own = λ k b. absurd (time≢differs (sym o ∙ time-own s all g k b));
         }
 
-  group-done : (g : SrcGroup) → In g all → (p q : Plan) → Planned s all n p → planGroup s all g p ≡ ok q → GroupDone s all n g p q
+  group-done : (g : SrcGroup) → In g all → (p q : Plan) → Planned rs s all n p → planGroup rs s all g p ≡ ok q → GroupDone rs s all n g p q
   unfolding planGroup due
   group-done g i p q h e =
       pick-cases (isStorage s (g .at)) _ _ e
-      (λ b r. subst (GroupDone s all n g p) (ok-same r)
+      (λ b r. subst (GroupDone rs s all n g p) (ok-same r)
       (record {
         planned = h;
         totals = λ x y. rw b (omega arith);
@@ -364,24 +365,24 @@ mostSum s x [] = 0
 mostSum s x (g ∷ gs) = same (g .at) x + due s g x + mostSum s x gs
 
 -- from plan p to plan q: the groups gs are planned
-pub record GroupsDone (s : List ℕ) (all : List SrcGroup) (n : ℕ) (gs : List SrcGroup) (p q : Plan) : Type 0 where
-  pub planned : Planned s all n q
+pub record GroupsDone (rs : Rules) (s : List ℕ) (all : List SrcGroup) (n : ℕ) (gs : List SrcGroup) (p q : Plan) : Type 0 where
+  pub planned : Planned rs s all n q
   pub totals : (x : ℕ) → ((g : SrcGroup) → In g gs → g .at ≡ x → ⊥) → total x q + timesOf x (p .columns) ≡ total x p + dueSum s x gs + timesOf x (q .columns)
   pub most : (x : ℕ) → total x q + timesOf x (p .columns) ≤ total x p + mostSum s x gs + timesOf x (q .columns)
   pub grown : (x : ℕ) → timesOf x (p .columns) ≤ timesOf x (q .columns)
   pub own : (g : SrcGroup) (m : ℕ) → In g gs → masterOf s g ≡ some m → 1 ≤ timesOf m (q .columns)
 
-groups-done : (s : List ℕ) (all : List SrcGroup) (n : ℕ) → ((x : ℕ) → occurs x (allAddresses all) ≤ 1)
-    → (gs : List SrcGroup) → ((g : SrcGroup) → In g gs → In g all) → (p q : Plan) → Planned s all n p → planGroups s all gs p ≡ ok q
-    → GroupsDone s all n gs p q
+groups-done : (rs : Rules) (s : List ℕ) (all : List SrcGroup) (n : ℕ) → ((x : ℕ) → occurs x (allAddresses all) ≤ 1)
+    → (gs : List SrcGroup) → ((g : SrcGroup) → In g gs → In g all) → (p q : Plan) → Planned rs s all n p → planGroups rs s all gs p ≡ ok q
+    → GroupsDone rs s all n gs p q
 unfolding planGroups dueSum mostSum
-groups-done s all n once [] i p q h e =
-    subst (GroupsDone s all n [] p) (ok-same e)
+groups-done rs s all n once [] i p q h e =
+    subst (GroupsDone rs s all n [] p) (ok-same e)
     (record { planned = h; totals = λ x y. omega arith; most = λ x. omega arith; grown = λ x. omega arith; own = λ g m j b. absurd (in-none j) })
-groups-done s all n once (g ∷ gs) i p q h e =
-    with-ok (planGroup s all g p) _ e (λ u b t.
-    let a = group-done s all n once g (i g here) p u h b in
-    let r = groups-done s all n once gs (λ k j. i k (there j)) u q (a .planned) t in
+groups-done rs s all n once (g ∷ gs) i p q h e =
+    with-ok (planGroup rs s all g p) _ e (λ u b t.
+    let a = group-done rs s all n once g (i g here) p u h b in
+    let r = groups-done rs s all n once gs (λ k j. i k (there j)) u q (a .planned) t in
     record {
       planned = r .planned;
       totals = λ x y. omega (arith, a .totals x (y g here), r .totals x (λ k j. y k (there j)));
@@ -390,7 +391,7 @@ groups-done s all n once (g ∷ gs) i p q h e =
       own = λ k m j c. own-of a r k m j c;
     })
   where
-    own-of : {u : Plan} → GroupDone s all n g p u → GroupsDone s all n gs u q → (k : SrcGroup) (m : ℕ) → In k (g ∷ gs) → masterOf s k ≡ some m → 1 ≤ timesOf m (q .columns)
+    own-of : {u : Plan} → GroupDone rs s all n g p u → GroupsDone rs s all n gs u q → (k : SrcGroup) (m : ℕ) → In k (g ∷ gs) → masterOf s k ≡ some m → 1 ≤ timesOf m (q .columns)
     own-of a r k m here c = omega (arith, a .own m c, r .grown m)
     own-of a r k m (there j) c = r .own k m j c
 
@@ -481,15 +482,15 @@ signal-within (d ∷ cs) c (there i) = omega (arith, signal-within cs c i)
 abbrev emptyPlan : ℕ → Plan
 emptyPlan n = record { columns = []; omissions = []; fragments = n }
 
-module _ (s : List ℕ) (all : List SrcGroup) (n : ℕ) (p : Plan) (once : (x : ℕ) → occurs x (allAddresses all) ≤ 1)
-    (nonzero : occurs 0 (allAddresses all) ≡ 0) (few : n ≤ 1024) (e : plan s n all ≡ ok p) where
-  plan-done : GroupsDone s all n all (emptyPlan n) p
+module _ (rs : Rules) (s : List ℕ) (all : List SrcGroup) (n : ℕ) (p : Plan) (once : (x : ℕ) → occurs x (allAddresses all) ≤ 1)
+    (nonzero : occurs 0 (allAddresses all) ≡ 0) (few : n ≤ 1024) (e : plan rs s n all ≡ ok p) where
+  plan-done : GroupsDone rs s all n all (emptyPlan n) p
   unfolding plan timesAt signalsOf
   plan-done =
-      groups-done s all n once all (λ g i. i) (emptyPlan n) p
+      groups-done rs s all n once all (λ g i. i) (emptyPlan n) p
       (record { sourced = λ c i. absurd (in-none i); omitted = λ o i. absurd (in-none i); named = λ c i. absurd (in-none i); timesOnce = λ a. omega arith; signals = omega arith; few = few }) e
 
-  pub plan-known : Planned s all n p
+  pub plan-known : Planned rs s all n p
   plan-known = plan-done .planned
 
   -- a time column made of a channel of g is g's, so the channel is g's master
@@ -498,7 +499,7 @@ module _ (s : List ℕ) (all : List SrcGroup) (n : ℕ) (p : Plan) (once : (x : 
   times-master g i x j c k t q =
       let w = plan-known .sourced c k in
       let z : c .group ≡ g = channel-group all once x (w .groupIn) i (rw q at (w .channelIn)) j in
-      (z, ap (masterOf s) (sym z) ∙ timed-master s all c w t ∙ ap some q)
+      (z, ap (masterOf s) (sym z) ∙ timed-master rs s all c w t ∙ ap some q)
 
   plan-total : (g : SrcGroup) → In g all → isStorage s (g .at) ≡ false → (x : ℕ) → In x (g .channels)
       → total x p ≡ others (ownMaster (masterOf s g)) x (g .channels) + timesOf x (p .columns)

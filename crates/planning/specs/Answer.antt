@@ -13,6 +13,7 @@ use Rattle.mdf.specs.Walk.{Source, walk}
 use Rattle.mdf.specs.Group.{dataGroups}
 use Rattle.mdf.specs.Count.{counts}
 use Rattle.work_words.specs.Words.{countsAt, laidItems, fragmentWords}
+use Rattle.plan.specs.Rules.{Rules}
 use Rattle.plan.specs.Columns.{Column, Plan, srcGroups, plan}
 use Rattle.work_words.specs.PlanWords.{signalFragments, laidPlan}
 use Rattle.plan.specs.Data.{allDataIn, blocksIn}
@@ -30,12 +31,12 @@ pub record Arranged : Type 0 where
   pub planned : Plan
 
 -- "identification (4, 5, 6, 7); HD; DG by DG ..; counts DG by DG ..; planning; DG by DG data ..; block counts (19)", for data blocks of so many bytes
-unfoldable pub plannedOf : List ℕ → ℕ → Checked Arranged
-plannedOf s size =
+unfoldable pub plannedOf : Rules → List ℕ → ℕ → Checked Arranged
+plannedOf rs s size =
     andThen (identified s) (λ _.
     andThen (walk s) (λ st.
     andThen (counts s (dataGroups st)) (λ ns.
-    andThen (plan s (length (st .fragments)) (srcGroups (dataGroups st) ns)) (λ p.
+    andThen (plan rs s (length (st .fragments)) (srcGroups (dataGroups st) ns)) (λ p.
     andThen (allDataIn s (p .columns) (dataGroups st)) (λ _.
     andThen (blocksIn s size (p .columns)) (λ _.
     ok (record { source = st; numbers = ns; planned = p })))))))
@@ -57,12 +58,12 @@ abbrev pub columnRoom : ℕ
 columnRoom = 6144
 
 -- "1, 0: a work slice too short": it "changes nothing"
-unfoldable pub planInto : List ℕ → ℕ → List ℕ → List ℕ → List ℕ → PlanLeft
-planInto s size w f c =
+unfoldable pub planInto : Rules → List ℕ → ℕ → List ℕ → List ℕ → List ℕ → PlanLeft
+planInto rs s size w f c =
     ifLt (length w) 4096 (planLeft (Refused 1 0) w f c)
     (ifLt (length f) 3072 (planLeft (Refused 1 0) w f c)
     (ifLt (length c) columnRoom (planLeft (Refused 1 0) w f c)
-    (leftBy (plannedOf s size) w f c)))
+    (leftBy (plannedOf rs s size) w f c)))
 
 -- ---- the same before any clearing: a refusal, or the numbers and words
 pub record Kept : Type 0 where
@@ -89,13 +90,13 @@ keptBy a w f c = record {
   plans = laidPlan (length (a .source .fragments)) (a .planned) c;
 }
 
-unfoldable pub planOver : List ℕ → ℕ → List ℕ → List ℕ → List ℕ → Checked Kept
-planOver s size w f c = andThen (plannedOf s size) (λ a. ok (keptBy a w f c))
+unfoldable pub planOver : Rules → List ℕ → ℕ → List ℕ → List ℕ → List ℕ → Checked Kept
+planOver rs s size w f c = andThen (plannedOf rs s size) (λ a. ok (keptBy a w f c))
 
 -- the plan of a recording and its data stage
-unfoldable pub arranged : List ℕ → ℕ → Recording → Checked Arranged
-arranged s size r =
-    andThen (plan s (length (r .source .fragments)) (srcGroups (dataGroups (r .source)) (r .counts))) (λ p.
+unfoldable pub arranged : Rules → List ℕ → ℕ → Recording → Checked Arranged
+arranged rs s size r =
+    andThen (plan rs s (length (r .source .fragments)) (srcGroups (dataGroups (r .source)) (r .counts))) (λ p.
     andThen (allDataIn s (p .columns) (dataGroups (r .source))) (λ _.
     andThen (blocksIn s size (p .columns)) (λ _.
     ok (record { source = r .source; numbers = r .counts; planned = p }))))
@@ -115,5 +116,5 @@ pub record ReadIn (s src f : List ℕ) (n nf : ℕ) (r : Recording) (w₀ f₀ :
   pub pieces : f ≡ blit 0 (fragmentWords (r .source .fragments)) f₀
 
 -- its plan and data stage, whichever recording the words hold
-pub record PlanRead (s : List ℕ) (size : ℕ) (src f c : List ℕ) (n nf : ℕ) (r : Planned) (f' c' : List ℕ) : Type 0 where
-  pub is : (x : Recording) (w₀ f₀ : List ℕ) → ReadIn s src f n nf x w₀ f₀ → given r src f' c' ≡ andThen (arranged s size x) (λ a. ok (keptBy a w₀ f₀ c))
+pub record PlanRead (rs : Rules) (s : List ℕ) (size : ℕ) (src f c : List ℕ) (n nf : ℕ) (r : Planned) (f' c' : List ℕ) : Type 0 where
+  pub is : (x : Recording) (w₀ f₀ : List ℕ) → ReadIn s src f n nf x w₀ f₀ → given r src f' c' ≡ andThen (arranged rs s size x) (λ a. ok (keptBy a w₀ f₀ c))

@@ -20,6 +20,7 @@ use Rattle.mdf.specs.Count.{counts}
 use Rattle.work_words.specs.Words.{sourceWords, fragmentWords}
 use Rattle.chains.specs.Kept.{kept}
 use Rattle.chains.specs.KeptLaws.{length-words, words-append}
+use Rattle.plan.specs.Rules.{Rules}
 use Rattle.plan.specs.Columns.{Plan, srcGroups, plan}
 use Rattle.work_words.specs.PlanWords.{signalFragments}
 use Rattle.plan.specs.Data.{allDataIn, blocksIn}
@@ -94,18 +95,18 @@ reading-known s x e =
     with-ok (counts s (dataGroups st)) _ e2 (λ ns k e3.
     rw (← ok-same e3) (record { walked = w; counted = k }))))
 
-planned-reading : (s : List ℕ) (size : ℕ) → plannedOf s size ≡ andThen (reading s) (arranged s size)
+planned-reading : (rs : Rules) (s : List ℕ) (size : ℕ) → plannedOf rs s size ≡ andThen (reading s) (arranged rs s size)
 unfolding plannedOf reading arranged
-planned-reading s size = go (identified s) (walk s)
+planned-reading rs s size = go (identified s) (walk s)
   where
     more : (st : Source) (v : Checked (List ℕ))
-        → andThen v (λ ns. arranged s size (record { source = st; counts = ns })) ≡ andThen (andThen v (λ ns. ok (record { source = st; counts = ns }))) (arranged s size)
+        → andThen v (λ ns. arranged rs s size (record { source = st; counts = ns })) ≡ andThen (andThen v (λ ns. ok (record { source = st; counts = ns }))) (arranged rs s size)
     more st (ok ns) = refl
     more st (refused x p) = refl
 
     go : (a : Verdict) (b : Checked Source)
-        → andThen a (λ _. andThen b (λ st. andThen (counts s (dataGroups st)) (λ ns. arranged s size (record { source = st; counts = ns }))))
-        ≡ andThen (andThen a (λ _. andThen b (λ st. andThen (counts s (dataGroups st)) (λ ns. ok (record { source = st; counts = ns }))))) (arranged s size)
+        → andThen a (λ _. andThen b (λ st. andThen (counts s (dataGroups st)) (λ ns. arranged rs s size (record { source = st; counts = ns }))))
+        ≡ andThen (andThen a (λ _. andThen b (λ st. andThen (counts s (dataGroups st)) (λ ns. ok (record { source = st; counts = ns }))))) (arranged rs s size)
     go (ok t) (ok st) = more st (counts s (dataGroups st))
     go (ok t) (refused x p) = refl
     go (refused x p) b = refl
@@ -117,30 +118,30 @@ within-few n {nc = nc} {no} {nf} b q h =
     let i = k .0 in
     (omega arith, k .2)
 
-pub planned-few : (s src : List ℕ) (n nf : ℕ) (c f c1 f1 : List ℕ) {r : Progress} {nc no nf' : ℕ} → GroupsPlan s src n nf c f r c1 f1 → r ≡ Progress.Done nc no nf'
+pub planned-few : (rs : Rules) (s src : List ℕ) (n nf : ℕ) (c f c1 f1 : List ℕ) {r : Progress} {nc no nf' : ℕ} → GroupsPlan rs s src n nf c f r c1 f1 → r ≡ Progress.Done nc no nf'
     → n ≤ 1536 → (nc ≤ 4194304) × (nf' ≤ 1024)
-planned-few s src n nf c f c1 f1 g q h = within-few n (g .bound) q h
+planned-few rs s src n nf c f c1 f1 g q h = within-few n (g .bound) q h
 
 -- ---- the plan of what was read
-module _ (s : List ℕ) (size : ℕ) (src f c : List ℕ) (n nf : ℕ) {r : Progress} (c1 f1 : List ℕ) (g : GroupsPlan s src n nf c f r c1 f1) where
+module _ (rs : Rules) (s : List ℕ) (size : ℕ) (src f c : List ℕ) (n nf : ℕ) {r : Progress} (c1 f1 : List ℕ) (g : GroupsPlan rs s src n nf c f r c1 f1) where
   module _ (x : Recording) (w₀ f₀ : List ℕ) (h : ReadIn s src f n nf x w₀ f₀) where
     known : ReadKnown s x
     known = reading-known s x (h .is)
 
     gave : Gives (record { found = length (x .source .fragments); words = c; fragments = f })
-        (bareChecked (plan s (length (x .source .fragments)) (srcGroups (dataGroups (x .source)) (x .counts)))) r c1 f1
+        (bareChecked (plan rs s (length (x .source .fragments)) (srcGroups (dataGroups (x .source)) (x .counts)))) r c1 f1
     gave = read-gives s (x .source) (x .counts) (known .walked) (known .counted) w₀ (h .long) (rw (h .words, h .items, h .fragments) at g)
 
-    no-plan : {y p : ℕ} → r ≡ Progress.Refused y p → refused y p ≡ andThen (arranged s size x) (λ a. ok (keptBy a w₀ f₀ c))
+    no-plan : {y p : ℕ} → r ≡ Progress.Refused y p → refused y p ≡ andThen (arranged rs s size x) (λ a. ok (keptBy a w₀ f₀ c))
     unfolding arranged
     no-plan q =
-        let e = gives-none (length (x .source .fragments)) c f (plan s (length (x .source .fragments)) (srcGroups (dataGroups (x .source)) (x .counts))) gave q in
+        let e = gives-none (length (x .source .fragments)) c f (plan rs s (length (x .source .fragments)) (srcGroups (dataGroups (x .source)) (x .counts))) gave q in
         rw e
 
     module _ (long : 6144 ≤ length c) (room : 3072 ≤ length f) {nc no nf' : ℕ} (q : r ≡ Progress.Done nc no nf') (few : nf' ≤ 1024)
         (v : Check) (t : StageOver s size src f1 c1 n nf nc v) where
-      planned-is : PlanIs (plan s (length (x .source .fragments)) (srcGroups (dataGroups (x .source)) (x .counts))) (length (x .source .fragments)) nc no nf' c f c1 f1
-      planned-is = gives-plan (length (x .source .fragments)) c f (plan s (length (x .source .fragments)) (srcGroups (dataGroups (x .source)) (x .counts))) gave q
+      planned-is : PlanIs (plan rs s (length (x .source .fragments)) (srcGroups (dataGroups (x .source)) (x .counts))) (length (x .source .fragments)) nc no nf' c f c1 f1
+      planned-is = gives-plan (length (x .source .fragments)) c f (plan rs s (length (x .source .fragments)) (srcGroups (dataGroups (x .source)) (x .counts))) gave q
 
       abbrev p : Plan
       p = planned-is .plan
@@ -188,31 +189,31 @@ module _ (s : List ℕ) (size : ℕ) (src f c : List ℕ) (n nf : ℕ) {r : Prog
       abbrev found : Arranged
       found = record { source = x .source; numbers = x .counts; planned = p }
 
-      opened : arranged s size x
+      opened : arranged rs s size x
           ≡ andThen (allDataIn s (p .columns) (dataGroups (x .source))) (λ _. andThen (blocksIn s size (p .columns)) (λ _. ok found))
       unfolding arranged
       opened = rw (planned-is .is)
 
-      stopped : {y k : ℕ} → v ≡ Check.Refused y k → refused y k ≡ andThen (arranged s size x) (λ a. ok (keptBy a w₀ f₀ c))
+      stopped : {y k : ℕ} → v ≡ Check.Refused y k → refused y k ≡ andThen (arranged rs s size x) (λ a. ok (keptBy a w₀ f₀ c))
       stopped z =
           stage-refused (allDataIn s (p .columns) (dataGroups (x .source))) (blocksIn s size (p .columns)) found (λ a. keptBy a w₀ f₀ c) (ap verdictOf (sym z) ∙ staged)
           ∙ ap (λ u. andThen u (λ a. ok (keptBy a w₀ f₀ c))) (sym opened)
 
-      done : v ≡ Fine → given (Done n nf nc no) src f1 c1 ≡ andThen (arranged s size x) (λ a. ok (keptBy a w₀ f₀ c))
+      done : v ≡ Fine → given (Done n nf nc no) src f1 c1 ≡ andThen (arranged rs s size x) (λ a. ok (keptBy a w₀ f₀ c))
       done z =
           same-kept (h .items) (h .fragments) (held .columns) (held .omissions) (h .words) (all-pieces (x .source .fragments) (signalFragments (p .columns)) f f₀ f1 (held .inFragments) (h .pieces)) (held .inColumns)
           ∙ stage-fine (allDataIn s (p .columns) (dataGroups (x .source))) (blocksIn s size (p .columns)) found (λ a. keptBy a w₀ f₀ c) (ap verdictOf (sym z) ∙ staged)
           ∙ ap (λ u. andThen u (λ a. ok (keptBy a w₀ f₀ c))) (sym opened)
 
-  pub read-unplanned : {y p : ℕ} → r ≡ Progress.Refused y p → PlanRead s size src f c n nf (Refused y p) f1 c1
+  pub read-unplanned : {y p : ℕ} → r ≡ Progress.Refused y p → PlanRead rs s size src f c n nf (Refused y p) f1 c1
   read-unplanned q = record { is = λ x w₀ f₀ h. no-plan x w₀ f₀ h q }
 
   module _ (long : 6144 ≤ length c) (room : 3072 ≤ length f) {nc no nf' : ℕ} (q : r ≡ Progress.Done nc no nf') (few : nf' ≤ 1024)
       {v : Check} (t : StageOver s size src f1 c1 n nf nc v) where
-    pub read-unstaged : {y p : ℕ} → v ≡ Check.Refused y p → PlanRead s size src f c n nf (Refused y p) f1 c1
+    pub read-unstaged : {y p : ℕ} → v ≡ Check.Refused y p → PlanRead rs s size src f c n nf (Refused y p) f1 c1
     read-unstaged z = record { is = λ x w₀ f₀ h. stopped x w₀ f₀ h long room q few v t z }
 
-    pub read-planned : v ≡ Fine → PlanRead s size src f c n nf (Done n nf nc no) f1 c1
+    pub read-planned : v ≡ Fine → PlanRead rs s size src f c n nf (Done n nf nc no) f1 c1
     read-planned z = record { is = λ x w₀ f₀ h. done x w₀ f₀ h long room q few v t z }
 
 -- ---- reading, then the plan
@@ -233,13 +234,13 @@ module _ (s w f : List ℕ) (l : sourceWords ≤ length w) (m : fragmentRoom ≤
       go (ok x) i z = record { recording = x; readIn = record { is = i; long = l; items = cc; fragments = cc; words = cc; pieces = cc } }
       go (refused y p) i z = absurd (let o : _≡_ {A = ℕ} 0 1 = cc in omega arith)
 
-  pub all-unread : (size : ℕ) (c : List ℕ) {y p : ℕ} → r ≡ Read.Refused y p → refused y p ≡ planOver s size w f c
+  pub all-unread : (rs : Rules) (size : ℕ) (c : List ℕ) {y p : ℕ} → r ≡ Read.Refused y p → refused y p ≡ planOver rs s size w f c
   unfolding readOver planOver
-  all-unread size c {y} {p} q =
-      rw (planned-reading s size) (go (reading s) (ap (λ (v : Read). read.Left.left v w' f') (sym q) ∙ e ∙ long-enough))
+  all-unread rs size c {y} {p} q =
+      rw (planned-reading rs s size) (go (reading s) (ap (λ (v : Read). read.Left.left v w' f') (sym q) ∙ e ∙ long-enough))
     where
       go : (v : Checked Recording) → read.Left.left (Read.Refused y p) w' f' ≡ read.leftBy (andThen v (λ x. ok (read.keptBy x w f))) w f
-          → refused y p ≡ andThen (andThen v (arranged s size)) (λ a. ok (keptBy a w f c))
+          → refused y p ≡ andThen (andThen v (arranged rs s size)) (λ a. ok (keptBy a w f c))
       go (ok x) z = absurd (let o : _≡_ {A = ℕ} 0 1 = cc in omega arith)
       go (refused x k) z =
           let i : y ≡ x = cc in
@@ -259,23 +260,23 @@ module _ (s w f : List ℕ) (l : sourceWords ≤ length w) (m : fragmentRoom ≤
         let d = h .fragments in
         (omega arith, omega arith)
 
-    pub all-planned : (size : ℕ) (c : List ℕ) {v : Planned} {f'' c'' : List ℕ} → PlanRead s size w' f' c n nf v f'' c'' → given v w' f'' c'' ≡ planOver s size w f c
+    pub all-planned : (rs : Rules) (size : ℕ) (c : List ℕ) {v : Planned} {f'' c'' : List ℕ} → PlanRead rs s size w' f' c n nf v f'' c'' → given v w' f'' c'' ≡ planOver rs s size w f c
     unfolding planOver
-    all-planned size c t =
+    all-planned rs size c t =
         let k = read-found q in
-        t .is (k .recording) w f (k .readIn) ∙ rw (planned-reading s size, k .readIn .is)
+        t .is (k .recording) w f (k .readIn) ∙ rw (planned-reading rs s size, k .readIn .is)
 
 -- ---- the words at the end
-module _ (s : List ℕ) (size : ℕ) (w f c : List ℕ) (l : 4096 ≤ length w) (m : 3072 ≤ length f) (n : 6144 ≤ length c) where
-  all-long : planInto s size w f c ≡ leftBy (plannedOf s size) w f c
+module _ (rs : Rules) (s : List ℕ) (size : ℕ) (w f c : List ℕ) (l : 4096 ≤ length w) (m : 3072 ≤ length f) (n : 6144 ≤ length c) where
+  all-long : planInto rs s size w f c ≡ leftBy (plannedOf rs s size) w f c
   unfolding planInto
   all-long = sym (lt-no _ _ _ _ l (lt-no _ _ _ _ m (lt-no _ _ _ _ n refl)))
 
-  pub plan-refused : (w' f' c' : List ℕ) (a : Planned) → given a w' f' c' ≡ planOver s size w f c → {y p : ℕ} → a ≡ Refused y p → {w'' f'' c'' : List ℕ} → length w' ≡ length w → length f' ≡ length f → length c' ≡ length c
-      → w'' ≡ zeros w' → f'' ≡ zeros f' → c'' ≡ zeros c' → planLeft (Refused y p) w'' f'' c'' ≡ planInto s size w f c
+  pub plan-refused : (w' f' c' : List ℕ) (a : Planned) → given a w' f' c' ≡ planOver rs s size w f c → {y p : ℕ} → a ≡ Refused y p → {w'' f'' c'' : List ℕ} → length w' ≡ length w → length f' ≡ length f → length c' ≡ length c
+      → w'' ≡ zeros w' → f'' ≡ zeros f' → c'' ≡ zeros c' → planLeft (Refused y p) w'' f'' c'' ≡ planInto rs s size w f c
   unfolding planOver
   plan-refused w' f' c' a e {y} {p} q i j k x z u =
-      rw (x, z, u, i, j, k) (go (plannedOf s size) (ap (λ (v : Planned). given v w' f' c') (sym q) ∙ e) ∙ sym all-long)
+      rw (x, z, u, i, j, k) (go (plannedOf rs s size) (ap (λ (v : Planned). given v w' f' c') (sym q) ∙ e) ∙ sym all-long)
     where
       go : (v : Checked Arranged) → _≡_ {A = Checked Kept} (refused y p) (andThen v (λ b. ok (keptBy b w f c))) → planLeft (Refused y p) (zeros w) (zeros f) (zeros c) ≡ leftBy v w f c
       go (ok b) o = absurd (refused≢ok o)
@@ -284,9 +285,9 @@ module _ (s : List ℕ) (size : ℕ) (w f c : List ℕ) (l : 4096 ≤ length w) 
           let j : p ≡ d = cc in
           rw (i, j)
 
-  pub plan-done : (w' f' c' : List ℕ) (a : Planned) → given a w' f' c' ≡ planOver s size w f c → {x y z u : ℕ} → a ≡ Done x y z u → planLeft a w' f' c' ≡ planInto s size w f c
+  pub plan-done : (w' f' c' : List ℕ) (a : Planned) → given a w' f' c' ≡ planOver rs s size w f c → {x y z u : ℕ} → a ≡ Done x y z u → planLeft a w' f' c' ≡ planInto rs s size w f c
   unfolding planOver
-  plan-done w' f' c' a e {x} {y} {z} {u} q = ap (λ (v : Planned). planLeft v w' f' c') q ∙ go (plannedOf s size) (ap (λ (v : Planned). given v w' f' c') (sym q) ∙ e) ∙ sym all-long
+  plan-done w' f' c' a e {x} {y} {z} {u} q = ap (λ (v : Planned). planLeft v w' f' c') q ∙ go (plannedOf rs s size) (ap (λ (v : Planned). given v w' f' c') (sym q) ∙ e) ∙ sym all-long
     where
       go : (v : Checked Arranged) → _≡_ {A = Checked Kept} (given (Done x y z u) w' f' c') (andThen v (λ b. ok (keptBy b w f c))) → planLeft (Done x y z u) w' f' c' ≡ leftBy v w f c
       go (ok b) o =

@@ -8,6 +8,7 @@ use lib.Dec.{eqb}
 use Rattle.base.specs.Choice.{pick, ifEq}
 use Rattle.base.specs.Checked.{Checked, ok, refused, andThen}
 use Rattle.mdf.specs.Group.{isStorage}
+use Rattle.plan.specs.Rules.{Rules}
 use Rattle.plan.specs.Columns.{SrcGroup, Column, Plan, noSignal, onPlanned, Decision, omitted, kept, TimeOf, time, untimed, differs, masterOf, groupAt, remoteLink, onGroup, onMaster, remoteTime, timeOf, timeColumn, withColumn, withOmission, withTime, decide, withDecision, ownMaster, planChannels, planTimed, planGroup, planGroups, plan, sizeOfSignal}
 use Rattle.work_words.specs.PlanWords.{columnWords, columnsWords, signalFragments, laidPlan}
 use Rattle.plan.specs.Data.{isNonempty, anyNonempty, signalsIn, blocksIn}
@@ -84,51 +85,51 @@ timed-bare t m p = rw (column-bare (t .at) 0 (p .columns)) (go (timeColumn (t .a
     go none = added-bare (record { group = t; channel = m; isTime = true; master = none; signalOf = noSignal }) 0 p
     go (some k) = refl
 
-channels-bare : (s : List ℕ) (g : SrcGroup) (own : ℕ) (m : Option ℕ) (cs : List ℕ) (p : Plan)
-    → planChannels s (bare g) own m cs (barePlan p) ≡ bareChecked (planChannels s g own m cs p)
+channels-bare : (rs : Rules) (s : List ℕ) (g : SrcGroup) (own : ℕ) (m : Option ℕ) (cs : List ℕ) (p : Plan)
+    → planChannels rs s (bare g) own m cs (barePlan p) ≡ bareChecked (planChannels rs s g own m cs p)
 unfolding planChannels ifEq
-channels-bare s g own m [] p = refl
-channels-bare s g own m (c ∷ cs) p =
-    go (λ d. ap (planChannels s (bare g) own m cs) (decided-bare g m c p d) ∙ channels-bare s g own m cs (withDecision g m c p d))
-    (channels-bare s g own m cs p) (eqb c own) (decide s (p .fragments) (g .at) c)
+channels-bare rs s g own m [] p = refl
+channels-bare rs s g own m (c ∷ cs) p =
+    go (λ d. ap (planChannels rs s (bare g) own m cs) (decided-bare g m c p d) ∙ channels-bare rs s g own m cs (withDecision g m c p d))
+    (channels-bare rs s g own m cs p) (eqb c own) (decide (rs .table) s (p .fragments) (g .at) c)
   where
-    go : ((d : Decision) → planChannels s (bare g) own m cs (withDecision (bare g) m c (barePlan p) d) ≡ bareChecked (planChannels s g own m cs (withDecision g m c p d)))
-        → planChannels s (bare g) own m cs (barePlan p) ≡ bareChecked (planChannels s g own m cs p)
+    go : ((d : Decision) → planChannels rs s (bare g) own m cs (withDecision (bare g) m c (barePlan p) d) ≡ bareChecked (planChannels rs s g own m cs (withDecision g m c p d)))
+        → planChannels rs s (bare g) own m cs (barePlan p) ≡ bareChecked (planChannels rs s g own m cs p)
         → (t : Bool) (o : Checked Decision)
-        → pick t (planChannels s (bare g) own m cs (barePlan p)) (andThen o (λ d. planChannels s (bare g) own m cs (withDecision (bare g) m c (barePlan p) d)))
-        ≡ bareChecked (pick t (planChannels s g own m cs p) (andThen o (λ d. planChannels s g own m cs (withDecision g m c p d))))
+        → pick t (planChannels rs s (bare g) own m cs (barePlan p)) (andThen o (λ d. planChannels rs s (bare g) own m cs (withDecision (bare g) m c (barePlan p) d)))
+        ≡ bareChecked (pick t (planChannels rs s g own m cs p) (andThen o (λ d. planChannels rs s g own m cs (withDecision g m c p d))))
     go f h true o = h
     go f h false (ok d) = f d
     go f h false (refused x y) = refl
 
-planned-bare : (s : List ℕ) (all : List SrcGroup) (g : SrcGroup) (p : Plan) → planGroup s (bares all) (bare g) (barePlan p) ≡ bareChecked (planGroup s all g p)
+planned-bare : (rs : Rules) (s : List ℕ) (all : List SrcGroup) (g : SrcGroup) (p : Plan) → planGroup rs s (bares all) (bare g) (barePlan p) ≡ bareChecked (planGroup rs s all g p)
 unfolding planGroup
-planned-bare s all g p = rw (time-bare s all g) (go (isStorage s (g .at)) (timeOf s all g))
+planned-bare rs s all g p = rw (time-bare s all g) (go (isStorage s (g .at)) (timeOf s all g))
   where
-    by : (o : TimeOf) → planTimed s (bare g) (bareTime o) (barePlan p) ≡ bareChecked (planTimed s g o p)
-    by untimed = rw (master-bare s g) (channels-bare s g (ownMaster (masterOf s g)) none (g .channels) p)
-    by differs = rw (master-bare s g) (channels-bare s g (ownMaster (masterOf s g)) none (g .channels) (withOmission (g .at) 1 p))
+    by : (o : TimeOf) → planTimed rs s (bare g) (bareTime o) (barePlan p) ≡ bareChecked (planTimed rs s g o p)
+    by untimed = rw (master-bare s g) (channels-bare rs s g (ownMaster (masterOf s g)) none (g .channels) p)
+    by differs = rw (master-bare s g) (channels-bare rs s g (ownMaster (masterOf s g)) none (g .channels) (withOmission (g .at) 1 p))
     by (time t m) =
         rw (master-bare s g, timed-bare t m p, column-bare (t .at) 0 (withTime t m p .columns))
-        (channels-bare s g (ownMaster (masterOf s g)) (timeColumn (t .at) 0 (withTime t m p .columns)) (g .channels) (withTime t m p))
+        (channels-bare rs s g (ownMaster (masterOf s g)) (timeColumn (t .at) 0 (withTime t m p .columns)) (g .channels) (withTime t m p))
 
-    go : (b : Bool) (o : TimeOf) → pick b (ok (barePlan p)) (planTimed s (bare g) (bareTime o) (barePlan p)) ≡ bareChecked (pick b (ok p) (planTimed s g o p))
+    go : (b : Bool) (o : TimeOf) → pick b (ok (barePlan p)) (planTimed rs s (bare g) (bareTime o) (barePlan p)) ≡ bareChecked (pick b (ok p) (planTimed rs s g o p))
     go true o = refl
     go false o = by o
 
-pub groups-bare : (s : List ℕ) (all gs : List SrcGroup) (p : Plan) → planGroups s (bares all) (bares gs) (barePlan p) ≡ bareChecked (planGroups s all gs p)
+pub groups-bare : (rs : Rules) (s : List ℕ) (all gs : List SrcGroup) (p : Plan) → planGroups rs s (bares all) (bares gs) (barePlan p) ≡ bareChecked (planGroups rs s all gs p)
 unfolding planGroups bares
-groups-bare s all [] p = refl
-groups-bare s all (g ∷ gs) p = rw (planned-bare s all g p) (go (λ q. groups-bare s all gs q) (planGroup s all g p))
+groups-bare rs s all [] p = refl
+groups-bare rs s all (g ∷ gs) p = rw (planned-bare rs s all g p) (go (λ q. groups-bare rs s all gs q) (planGroup rs s all g p))
   where
-    go : ((q : Plan) → planGroups s (bares all) (bares gs) (barePlan q) ≡ bareChecked (planGroups s all gs q)) → (o : Checked Plan)
-        → andThen (bareChecked o) (λ q. planGroups s (bares all) (bares gs) q) ≡ bareChecked (andThen o (λ q. planGroups s all gs q))
+    go : ((q : Plan) → planGroups rs s (bares all) (bares gs) (barePlan q) ≡ bareChecked (planGroups rs s all gs q)) → (o : Checked Plan)
+        → andThen (bareChecked o) (λ q. planGroups rs s (bares all) (bares gs) q) ≡ bareChecked (andThen o (λ q. planGroups rs s all gs q))
     go f (ok q) = f q
     go f (refused x y) = refl
 
-pub plan-bare : (s : List ℕ) (n : ℕ) (all : List SrcGroup) → plan s n (bares all) ≡ bareChecked (plan s n all)
+pub plan-bare : (rs : Rules) (s : List ℕ) (n : ℕ) (all : List SrcGroup) → plan rs s n (bares all) ≡ bareChecked (plan rs s n all)
 unfolding plan bareColumns
-plan-bare s n all = groups-bare s all all (record { columns = []; omissions = []; fragments = n })
+plan-bare rs s n all = groups-bare rs s all all (record { columns = []; omissions = []; fragments = n })
 
 -- ---- the same words, and the same data stage
 words-bare : (n : ℕ) (cs : List Column) → columnsWords n (bareColumns cs) ≡ columnsWords n cs

@@ -13,6 +13,7 @@ use Rattle.base.specs.ChoiceLaws.{eq-yes, eq-no}
 use Rattle.base.specs.Blit.{blit}
 use Rattle.base.specs.Checked.{Checked, ok, refused, andThen}
 use Rattle.chains.specs.Kept.{kept}
+use Rattle.plan.specs.Rules.{Rules}
 use Rattle.plan.specs.Columns.{SrcGroup, Plan, Signal, noSignal, signalData, sizeOfSignal, omitted, decide, withDecision, planChannels}
 use Rattle.plan.specs.Columns as columns
 use Rattle.work_words.specs.PlanWords.{masterWord, signalWord, columnWords, fragmentsIn}
@@ -74,12 +75,12 @@ signal-word : (d : Signal) (n : ℕ) → signalIf (isSigned d) n ≡ signalWord 
 signal-word noSignal n = refl
 signal-word (signalData fs) n = refl
 
-kept-plan : (s : List ℕ) (g d records master c nc no nf : ℕ) (w f : List ℕ) {b : Bool} {m x : ℕ} {w' f' : List ℕ} (e : Signal)
-    → decide s nf g c ≡ ok (columns.kept e) → b ≡ isSigned e → m ≡ nf + sizeOfSignal e → f' ≡ kept nf (fragmentsIn e) f → m ≤ 1024
+kept-plan : (rs : Rules) (s : List ℕ) (g d records master c nc no nf : ℕ) (w f : List ℕ) {b : Bool} {m x : ℕ} {w' f' : List ℕ} (e : Signal)
+    → decide (rs .table) s nf g c ≡ ok (columns.kept e) → b ≡ isSigned e → m ≡ nf + sizeOfSignal e → f' ≡ kept nf (fragmentsIn e) f → m ≤ 1024
     → x ≡ signalIf b nf → w' ≡ blit (8 * nc) (c ∷ g ∷ d ∷ records ∷ 0 ∷ master ∷ x ∷ (m - nf) ∷ []) w
-    → ChannelPlan s g d records master c nc no nf w f (Done (nc + 1) no m) w' f'
+    → ChannelPlan rs s g d records master c nc no nf w f (Done (nc + 1) no m) w' f'
 unfolding gives columnWords
-kept-plan s g d records master c nc om nf w f {m = m} e o i j k t y u =
+kept-plan rs s g d records master c nc om nf w f {m = m} e o i j k t y u =
     let v : m - nf ≡ sizeOfSignal e = omega arith in
     record {
       bound = (omega arith, omega arith, t);
@@ -97,19 +98,26 @@ kept-plan s g d records master c nc om nf w f {m = m} e o i j k t y u =
     }
 
 -- ---- one channel: r is the decision of the code
-module _ (s : List ℕ) (g d records master c nc no nf : ℕ) (w f : List ℕ) (r : Decision) (f' : List ℕ)
-    (e : left r f' ≡ laidDecision (decide s nf g c) nf f) where
-  pub channel-refused : {x p : ℕ} {w' : List ℕ} → r ≡ decisions.Refused x p → ChannelPlan s g d records master c nc no nf w f (Refused x p) w' f'
+pub channel-bounds : (table s : List ℕ) (g c nf : ℕ) (f : List ℕ) (r : Decision) (f' : List ℕ) → left r f' ≡ laidDecision (decide table s nf g c) nf f
+    → {b : Bool} {m : ℕ} → r ≡ Kept b m → nf ≤ 1024 → (nf ≤ m) × (m ≤ 1024)
+channel-bounds table s g c nf f r f' e q t =
+    let k = back-kept (decide table s nf g c) nf f (rw q at e) in
+    let few = signal-few table s nf c (k .signal) t (decide-kept table s nf g c (k .signal) (k .is) .signal) in
+    (omega arith, omega arith)
+
+module _ (rs : Rules) (s : List ℕ) (g d records master c nc no nf : ℕ) (w f : List ℕ) (r : Decision) (f' : List ℕ)
+    (e : left r f' ≡ laidDecision (decide (rs .table) s nf g c) nf f) where
+  pub channel-refused : {x p : ℕ} {w' : List ℕ} → r ≡ decisions.Refused x p → ChannelPlan rs s g d records master c nc no nf w f (Refused x p) w' f'
   unfolding gives
   channel-refused q =
-      let o = back-refused (decide s nf g c) nf f (rw q at e) in
+      let o = back-refused (decide (rs .table) s nf g c) nf f (rw q at e) in
       record { bound = tt; is = λ b p m cs h k l. record { by = rw o } }
 
   pub channel-omitted : {k : ℕ} {w' : List ℕ} → r ≡ Omitted k → nf ≤ 1024 → w' ≡ blit (4096 + 2 * no) (c ∷ k ∷ []) w
-      → ChannelPlan s g d records master c nc no nf w f (Done nc (no + 1) nf) w' f'
+      → ChannelPlan rs s g d records master c nc no nf w f (Done nc (no + 1) nf) w' f'
   unfolding gives
   channel-omitted {k} q t u =
-      let o = back-omitted (decide s nf g c) nf f (rw q at e) in
+      let o = back-omitted (decide (rs .table) s nf g c) nf f (rw q at e) in
       record {
         bound = (omega arith, omega arith, t);
         is = λ b p m cs h i l. record {
@@ -117,18 +125,12 @@ module _ (s : List ℕ) (g d records master c nc no nf : ℕ) (w f : List ℕ) (
         };
       }
 
-  pub channel-bounds : {b : Bool} {m : ℕ} → r ≡ Kept b m → nf ≤ 1024 → (nf ≤ m) × (m ≤ 1024)
-  channel-bounds q t =
-      let k = back-kept (decide s nf g c) nf f (rw q at e) in
-      let few = signal-few s nf c (k .signal) t (decide-kept s nf g c (k .signal) (k .is) .signal) in
-      (omega arith, omega arith)
-
   pub channel-kept : {b : Bool} {m x : ℕ} {w' : List ℕ} → r ≡ Kept b m → nf ≤ 1024 → x ≡ signalIf b nf
       → w' ≡ blit (8 * nc) (c ∷ g ∷ d ∷ records ∷ 0 ∷ master ∷ x ∷ (m - nf) ∷ []) w
-      → ChannelPlan s g d records master c nc no nf w f (Done (nc + 1) no m) w' f'
+      → ChannelPlan rs s g d records master c nc no nf w f (Done (nc + 1) no m) w' f'
   channel-kept q t y u =
-      let k = back-kept (decide s nf g c) nf f (rw q at e) in
-      kept-plan s g d records master c nc no nf w f (k .signal) (k .is) (k .sign) (k .counted) (k .words) (channel-bounds q t .1) y u
+      let k = back-kept (decide (rs .table) s nf g c) nf f (rw q at e) in
+      kept-plan rs s g d records master c nc no nf w f (k .signal) (k .is) (k .sign) (k .counted) (k .words) (channel-bounds (rs .table) s g c nf f r f' e q t .1) y u
 
 -- ---- the channels: what is left of them gives what all of them give
 pub others-own : (own : ℕ) (cs : List ℕ) → others own (own ∷ cs) ≡ others own cs
@@ -139,27 +141,27 @@ pub others-more : (own c : ℕ) (cs : List ℕ) → (c ≡ own → ⊥) → othe
 unfolding others
 others-more own c cs h = let e : _≡_ {A = ℕ} 1 (ifEq c own 0 1) = eq-no _ _ _ _ h refl in rw (← e)
 
-module _ (s : List ℕ) (g : SrcGroup) (own : ℕ) (m : Option ℕ) where
-  plan-none : (p : Plan) → planChannels s g own m [] p ≡ ok p
+module _ (rs : Rules) (s : List ℕ) (g : SrcGroup) (own : ℕ) (m : Option ℕ) where
+  plan-none : (p : Plan) → planChannels rs s g own m [] p ≡ ok p
   unfolding planChannels
   plan-none p = refl
 
-  plan-own : (c : ℕ) (cs : List ℕ) (p : Plan) → c ≡ own → planChannels s g own m (c ∷ cs) p ≡ planChannels s g own m cs p
+  plan-own : (c : ℕ) (cs : List ℕ) (p : Plan) → c ≡ own → planChannels rs s g own m (c ∷ cs) p ≡ planChannels rs s g own m cs p
   unfolding planChannels
   plan-own c cs p h = sym (eq-yes _ _ _ _ h refl)
 
   plan-more : (c : ℕ) (cs : List ℕ) (p : Plan) → (c ≡ own → ⊥)
-      → planChannels s g own m (c ∷ cs) p ≡ andThen (andThen (decide s (p .fragments) (g .at) c) (λ d. ok (withDecision g m c p d))) (planChannels s g own m cs)
+      → planChannels rs s g own m (c ∷ cs) p ≡ andThen (andThen (decide (rs .table) s (p .fragments) (g .at) c) (λ d. ok (withDecision g m c p d))) (planChannels rs s g own m cs)
   unfolding planChannels
-  plan-more c cs p h = sym (eq-no _ _ _ _ h (go (decide s (p .fragments) (g .at) c)))
+  plan-more c cs p h = sym (eq-no _ _ _ _ h (go (decide (rs .table) s (p .fragments) (g .at) c)))
     where
-      go : (o : Checked columns.Decision) → andThen (andThen o (λ d. ok (withDecision g m c p d))) (planChannels s g own m cs)
-          ≡ andThen o (λ d. planChannels s g own m cs (withDecision g m c p d))
+      go : (o : Checked columns.Decision) → andThen (andThen o (λ d. ok (withDecision g m c p d))) (planChannels rs s g own m cs)
+          ≡ andThen o (λ d. planChannels rs s g own m cs (withDecision g m c p d))
       go (ok d) = refl
       go (refused x y) = refl
 
   plan-step : (c : ℕ) (cs : List ℕ) (p : Plan) (nf : ℕ) → p .fragments ≡ nf → (c ≡ own → ⊥)
-      → andThen (andThen (decide s nf (g .at) c) (λ d. ok (withDecision g m c p d))) (planChannels s g own m cs) ≡ planChannels s g own m (c ∷ cs) p
+      → andThen (andThen (decide (rs .table) s nf (g .at) c) (λ d. ok (withDecision g m c p d))) (planChannels rs s g own m cs) ≡ planChannels rs s g own m (c ∷ cs) p
   plan-step c cs p nf e h = rw (← e) (sym (plan-more c cs p h))
 
 -- ---- the code's answer back to the plan
@@ -192,23 +194,23 @@ gives-done {b} {o} {r} {w} {f} {x} {y} {z} g e = go o (g .by)
     go (ok q) h = record { plan = q; is = refl; held = at q (h .nc) (h .no) (h .nf) (h .is) (h .held) }
 
 -- where the loop stands for one plan
-pub record Standing (s src : List ℕ) (n i k own nc no nf : ℕ) (g : SrcGroup) (b : Base) (p : Plan) (m : Option ℕ) (w f : List ℕ) : Type 0 where
+pub record Standing (rs : Rules) (s src : List ℕ) (n i k own nc no nf : ℕ) (g : SrcGroup) (b : Base) (p : Plan) (m : Option ℕ) (w f : List ℕ) : Type 0 where
   pub plan : Plan
   pub held : Held b plan nc no nf w f
   pub budget : nc + others own (channelsIn src n k) ≤ 512
-  pub rest : planChannels s g own m (channelsIn src n k) plan ≡ planChannels s g own m (channelsIn src n i) p
+  pub rest : planChannels rs s g own m (channelsIn src n k) plan ≡ planChannels rs s g own m (channelsIn src n i) p
 
-pub record Channels (s src : List ℕ) (n i g d records own master nc₀ no₀ nf₀ : ℕ) (w₀ f₀ : List ℕ) (k nc no nf : ℕ) (w f : List ℕ) : Type 0 where
+pub record Channels (rs : Rules) (s src : List ℕ) (n i g d records own master nc₀ no₀ nf₀ : ℕ) (w₀ f₀ : List ℕ) (k nc no nf : ℕ) (w f : List ℕ) : Type 0 where
   pub from : i ≤ k
   pub upTo : k ≤ n
   pub few : nc + i ≤ nc₀ + k
   pub fewOmitted : no + i ≤ no₀ + k
   pub fewFragments : nf ≤ 1024
   pub now : (b : Base) (p : Plan) (m : Option ℕ) (cs : List ℕ) → Held b p nc₀ no₀ nf₀ w₀ f₀ → masterWord m ≡ master
-      → nc₀ + others own (channelsIn src n i) ≤ 512 → Standing s src n i k own nc no nf (groupOf d g cs records) b p m w f
+      → nc₀ + others own (channelsIn src n i) ≤ 512 → Standing rs s src n i k own nc no nf (groupOf d g cs records) b p m w f
 
-pub channels-begin : {s src : List ℕ} {n i g d records own master nc no nf : ℕ} {w f : List ℕ} → i ≤ n → nf ≤ 1024
-    → Channels s src n i g d records own master nc no nf w f i nc no nf w f
+pub channels-begin : {rs : Rules} {s src : List ℕ} {n i g d records own master nc no nf : ℕ} {w f : List ℕ} → i ≤ n → nf ≤ 1024
+    → Channels rs s src n i g d records own master nc no nf w f i nc no nf w f
 channels-begin h l =
     record {
       from = omega arith;
@@ -219,10 +221,10 @@ channels-begin h l =
       now = λ b p m cs j e t. record { plan = p; held = j; budget = t; rest = refl };
     }
 
-module _ {s src : List ℕ} {n i g d records own master nc₀ no₀ nf₀ : ℕ} {w₀ f₀ : List ℕ} {k nc no nf : ℕ} {w f : List ℕ}
-    (t : Channels s src n i g d records own master nc₀ no₀ nf₀ w₀ f₀ k nc no nf w f) where
+module _ {rs : Rules} {s src : List ℕ} {n i g d records own master nc₀ no₀ nf₀ : ℕ} {w₀ f₀ : List ℕ} {k nc no nf : ℕ} {w f : List ℕ}
+    (t : Channels rs s src n i g d records own master nc₀ no₀ nf₀ w₀ f₀ k nc no nf w f) where
   -- no channel is left
-  channels-none : n ≤ 1536 → channelsIn src n k ≡ [] → ChannelsPlan s src n i g d records own master nc₀ no₀ nf₀ w₀ f₀ (Done nc no nf) w f
+  channels-none : n ≤ 1536 → channelsIn src n k ≡ [] → ChannelsPlan rs s src n i g d records own master nc₀ no₀ nf₀ w₀ f₀ (Done nc no nf) w f
   unfolding gives
   channels-none z e =
       let a = t .from in
@@ -233,20 +235,20 @@ module _ {s src : List ℕ} {n i g d records own master nc₀ no₀ nf₀ : ℕ}
         bound = (omega arith, omega arith, t .fewFragments);
         is = λ b p m cs h j y.
             let r = t .now b p m cs h j y in
-            let q : planChannels s (groupOf d g cs records) own m (channelsIn src n i) p ≡ ok (r .plan) =
-            sym (r .rest) ∙ rw (e, plan-none s (groupOf d g cs records) own m (r .plan)) in
+            let q : planChannels rs s (groupOf d g cs records) own m (channelsIn src n i) p ≡ ok (r .plan) =
+            sym (r .rest) ∙ rw (e, plan-none rs s (groupOf d g cs records) own m (r .plan)) in
             record { by = rw q (record { nc = nc; no = no; nf = nf; is = refl; held = r .held }) };
       }
 
-  pub channels-last : n ≤ 1536 → n ≤ k → ChannelsPlan s src n i g d records own master nc₀ no₀ nf₀ w₀ f₀ (Done nc no nf) w f
+  pub channels-last : n ≤ 1536 → n ≤ k → ChannelsPlan rs s src n i g d records own master nc₀ no₀ nf₀ w₀ f₀ (Done nc no nf) w f
   channels-last z h = channels-none z (channels-end src n k h)
 
   module _ (h : k < n) {x : ℕ} (e : x ≡ getD src (1536 + k) 0) where
-    pub channels-stop : n ≤ 1536 → (x ≡ 0 → ⊥) → ChannelsPlan s src n i g d records own master nc₀ no₀ nf₀ w₀ f₀ (Done nc no nf) w f
+    pub channels-stop : n ≤ 1536 → (x ≡ 0 → ⊥) → ChannelsPlan rs s src n i g d records own master nc₀ no₀ nf₀ w₀ f₀ (Done nc no nf) w f
     channels-stop z y = channels-none z (channels-over src n k h e y)
 
     module _ (z : x ≡ 0) {c : ℕ} (v : c ≡ getD src k 0) where
-      pub channels-pass : c ≡ own → Channels s src n i g d records own master nc₀ no₀ nf₀ w₀ f₀ (k + 1) nc no nf w f
+      pub channels-pass : c ≡ own → Channels rs s src n i g d records own master nc₀ no₀ nf₀ w₀ f₀ (k + 1) nc no nf w f
       channels-pass q =
           let a = t .from in
           let l = t .few in
@@ -263,19 +265,19 @@ module _ {s src : List ℕ} {n i g d records own master nc₀ no₀ nf₀ : ℕ}
                   plan = r .plan;
                   held = r .held;
                   budget = rw (channels-next src n k h e z v, q, others-own own (channelsIn src n (k + 1))) at (r .budget);
-                  rest = rw (channels-next src n k h e z v, plan-own s (groupOf d g cs records) own m c (channelsIn src n (k + 1)) (r .plan) q) at (r .rest);
+                  rest = rw (channels-next src n k h e z v, plan-own rs s (groupOf d g cs records) own m c (channelsIn src n (k + 1)) (r .plan) q) at (r .rest);
                 };
           }
 
-      module _ (q : c ≡ own → ⊥) {r : Progress} {w' f' : List ℕ} (l : ChannelPlan s g d records master c nc no nf w f r w' f') where
+      module _ (q : c ≡ own → ⊥) {r : Progress} {w' f' : List ℕ} (l : ChannelPlan rs s g d records master c nc no nf w f r w' f') where
         -- the channel, for one plan
         module _ (b : Base) (p : Plan) (m : Option ℕ) (cs : List ℕ) (j : Held b p nc₀ no₀ nf₀ w₀ f₀) (y : masterWord m ≡ master)
             (u : nc₀ + others own (channelsIn src n i) ≤ 512) where
-          abbrev stood : Standing s src n i k own nc no nf (groupOf d g cs records) b p m w f
+          abbrev stood : Standing rs s src n i k own nc no nf (groupOf d g cs records) b p m w f
           stood = t .now b p m cs j y u
 
           abbrev step : Checked Plan
-          step = andThen (decide s nf g c) (λ a. ok (withDecision (groupOf d g cs records) m c (stood .plan) a))
+          step = andThen (decide (rs .table) s nf g c) (λ a. ok (withDecision (groupOf d g cs records) m c (stood .plan) a))
 
           next-budget : nc + (1 + others own (channelsIn src n (k + 1))) ≤ 512
           next-budget = rw (channels-next src n k h e z v, others-more own c (channelsIn src n (k + 1)) q) at (stood .budget)
@@ -283,26 +285,26 @@ module _ {s src : List ℕ} {n i g d records own master nc₀ no₀ nf₀ : ℕ}
           step-gives : Gives b step r w' f'
           step-gives = l .is b (stood .plan) m cs (stood .held) y (let z' = next-budget in omega arith)
 
-          step-rest : andThen step (planChannels s (groupOf d g cs records) own m (channelsIn src n (k + 1)))
-              ≡ planChannels s (groupOf d g cs records) own m (channelsIn src n i) p
+          step-rest : andThen step (planChannels rs s (groupOf d g cs records) own m (channelsIn src n (k + 1)))
+              ≡ planChannels rs s (groupOf d g cs records) own m (channelsIn src n i) p
           step-rest =
-              plan-step s (groupOf d g cs records) own m c (channelsIn src n (k + 1)) (stood .plan) nf (stood .held .fragments) q
+              plan-step rs s (groupOf d g cs records) own m c (channelsIn src n (k + 1)) (stood .plan) nf (stood .held .fragments) q
               ∙ (rw (channels-next src n k h e z v) at (stood .rest))
 
-        pub channels-refused : {x' y : ℕ} → r ≡ Refused x' y → ChannelsPlan s src n i g d records own master nc₀ no₀ nf₀ w₀ f₀ (Refused x' y) w' f'
+        pub channels-refused : {x' y : ℕ} → r ≡ Refused x' y → ChannelsPlan rs s src n i g d records own master nc₀ no₀ nf₀ w₀ f₀ (Refused x' y) w' f'
         unfolding gives
         channels-refused {x'} {y} a =
             record {
               bound = tt;
               is = λ b p m cs j o u.
-                  let i' : planChannels s (groupOf d g cs records) own m (channelsIn src n i) p ≡ refused x' y =
+                  let i' : planChannels rs s (groupOf d g cs records) own m (channelsIn src n i) p ≡ refused x' y =
                   sym (step-rest b p m cs j o u)
-                  ∙ ap (λ v'. andThen v' (planChannels s (groupOf d g cs records) own m (channelsIn src n (k + 1))))
+                  ∙ ap (λ v'. andThen v' (planChannels rs s (groupOf d g cs records) own m (channelsIn src n (k + 1))))
                   (gives-refused (step-gives b p m cs j o u) a) in
                   record { by = rw i' };
             }
 
-        pub channels-on : {x' y z' : ℕ} → r ≡ Done x' y z' → Channels s src n i g d records own master nc₀ no₀ nf₀ w₀ f₀ (k + 1) x' y z' w' f'
+        pub channels-on : {x' y z' : ℕ} → r ≡ Done x' y z' → Channels rs s src n i g d records own master nc₀ no₀ nf₀ w₀ f₀ (k + 1) x' y z' w' f'
         channels-on {x'} {y} {z'} a =
             let bs : within (Done x' y z') (nc + 1) (no + 1) = rw a at (l .bound) in
             let from = t .from in
@@ -321,7 +323,7 @@ module _ {s src : List ℕ} {n i g d records own master nc₀ no₀ nf₀ : ℕ}
                     plan = on .plan;
                     held = on .held;
                     budget = omega arith;
-                    rest = ap (λ v'. andThen v' (planChannels s (groupOf d g cs records) own m (channelsIn src n (k + 1)))) (sym (on .is))
+                    rest = ap (λ v'. andThen v' (planChannels rs s (groupOf d g cs records) own m (channelsIn src n (k + 1)))) (sym (on .is))
                         ∙ step-rest b p m cs j o u;
                   };
             }

@@ -1,13 +1,11 @@
 -- The ways through a decision, one law for each way of the code.
 use Prim.Native.Nat.{ℕ}
 use mathlib.Core.List.{List}
-use mathlib.Core.Path.{_≡_, refl, sym, _∙_}
+use mathlib.Core.Path.{_≡_, refl, sym, ap, _∙_}
 use mathlib.Core.Bool.{Bool, true, false, not}
 use native.Mathlib.Nat.{add-zero}
 use native.Mathlib.Omega.{arith}
-use borrow.Author.Tests.{ne-eqb}
-use lib.Dec.{eqb}
-use Rattle.base.specs.Choice.{pick, ifEq}
+use Rattle.base.specs.Choice.{ifEq}
 use Rattle.base.specs.ChoiceLaws.{eq-yes, eq-no}
 use Rattle.base.specs.Checked.{Checked, ok, refused}
 use Rattle.mdf.specs.Block.{kindCG, kindCN, linkAt, kindAt, headerIn}
@@ -21,12 +19,15 @@ use Rattle.chains.specs.declared.chain.Chained.{Chained}
 use Rattle.chains.specs.declared.chain.Chained.the-variants.{Stopped, Done}
 use Rattle.chains.specs.Kept.{kept, given, laid}
 use Rattle.chains.specs.KeptLaws.{kept-none}
-use Rattle.plan.specs.Channel.{channelType, fits, isMasterType, keep, asFixed, treatment}
-use Rattle.plan.specs.Columns.{noSignal, omitted, kindCA, keptSignal, decideSignal, decideComposition, onTreatment, decide}
+use Rattle.plan.specs.Table.{treatment}
+use Rattle.plan.specs.Channel.{channelType, fits, isMasterType}
+use Rattle.plan.specs.Columns.{noSignal, omitted, kindCA, keptSignal, unfit, furtherMaster, omittedType, composed, signalLink, storedAt, decideChain, unless, decide}
 use Rattle.plan.specs.Columns as columns
 use Rattle.planning.specs.declared.decide.Decision.{Decision}
 use Rattle.planning.specs.declared.decide.Decision.the-variants.{Refused, Omitted, Kept}
-use Rattle.planning.specs.Decided.{Left, stops, leaves, laidDecision}
+use Rattle.planning.specs.declared.decide.Tested.{Tested}
+use Rattle.planning.specs.declared.decide.Tested.the-variants as Tested
+use Rattle.planning.specs.Decided.{testedAs, Left, stops, leaves, laidDecision}
 
 -- ---- from a decision to what it leaves
 module _ {d : Checked columns.Decision} (n : ℕ) (w : List ℕ) where
@@ -63,75 +64,75 @@ module _ (f : Found) (n : ℕ) (w : List ℕ) {o : Chained} {w' : List ℕ} (e :
       go (found fs) z = cc
       go (stopped y t fs) z = absurd (let l : _≡_ {A = ℕ} 0 1 = cc in omega arith)
 
--- ---- reason 7 and signal data
-module _ (s : List ℕ) (n c : ℕ) {t : ℕ} (e : t ≡ channelType s c) where
-  pub signal-other : (t ≡ 1 → ⊥) → ok (columns.kept noSignal) ≡ decideSignal s n c
-  unfolding decideSignal
-  signal-other h = eq-no _ _ _ _ (λ q. h (e ∙ q)) refl
-
-  module _ (h : t ≡ 1) {a : ℕ} (l : a ≡ linkAt s c 5) where
-    pub signal-none : a ≡ 0 → ok (columns.kept noSignal) ≡ decideSignal s n c
-    unfolding decideSignal
-    signal-none z = eq-yes _ _ _ _ (sym e ∙ h) (eq-yes _ _ _ _ (sym l ∙ z) refl)
-
-    module _ (z : a ≡ 0 → ⊥) {o : Check} (k : verdictOf o ≡ headerIn s a) where
-      pub signal-refused : {x p : ℕ} → o ≡ checks.Refused x p → refused x p ≡ decideSignal s n c
-      unfolding decideSignal
-      signal-refused q =
-          let r = rw l at (so-refused k q) in
-          eq-yes _ _ _ _ (sym e ∙ h) (eq-no _ _ _ _ (λ y. z (l ∙ y)) (rw r))
-
-      module _ (q : o ≡ Fine) {i : ℕ} (m : i ≡ kindAt s a) where
-        pub signal-storage : i ≡ kindCG → ok (omitted 7) ≡ decideSignal s n c
-        unfolding decideSignal
-        signal-storage j =
-            let r = rw l at (so-fine k q) in
-            let v = rw l at m in
-            eq-yes _ _ _ _ (sym e ∙ h) (eq-no _ _ _ _ (λ y. z (l ∙ y)) (rw r (eq-yes _ _ _ _ (sym v ∙ j) refl)))
-
-        pub signal-data : (i ≡ kindCG → ⊥) → keptSignal (chain signal limits s n a) ≡ decideSignal s n c
-        unfolding decideSignal
-        signal-data j =
-            let r = rw l at (so-fine k q) in
-            let v = rw l at m in
-            eq-yes _ _ _ _ (sym e ∙ h) (eq-no _ _ _ _ (λ y. z (l ∙ y)) (rw r (eq-no _ _ _ _ (λ y. j (v ∙ y)) (rw l))))
-
 -- ---- reasons 5 and 6
-module _ (s : List ℕ) (n c : ℕ) {a : ℕ} (l : a ≡ linkAt s c 1) where
-  pub composed-none : a ≡ 0 → decideSignal s n c ≡ decideComposition s n c
-  unfolding decideComposition
+module _ (s : List ℕ) (c : ℕ) {a : ℕ} (l : a ≡ linkAt s c 1) where
+  pub composed-none : a ≡ 0 → ok 0 ≡ composed s c
+  unfolding composed
   composed-none z = eq-yes _ _ _ _ (sym l ∙ z) refl
 
   module _ (z : a ≡ 0 → ⊥) {o : Check} (k : verdictOf o ≡ headerIn s a) where
-    pub composed-refused : {x p : ℕ} → o ≡ checks.Refused x p → refused x p ≡ decideComposition s n c
-    unfolding decideComposition
-    composed-refused q =
-        let r = rw l at (so-refused k q) in
-        eq-no _ _ _ _ (λ y. z (l ∙ y)) (rw r)
+    pub composed-refused : {x p : ℕ} → o ≡ checks.Refused x p → refused x p ≡ composed s c
+    unfolding composed
+    composed-refused q = let r = rw l at (so-refused k q) in eq-no _ _ _ _ (λ y. z (l ∙ y)) (rw r)
 
     module _ (q : o ≡ Fine) {i : ℕ} (m : i ≡ kindAt s a) where
-      pub composed-array : i ≡ kindCA → ok (omitted 5) ≡ decideComposition s n c
-      unfolding decideComposition
-      composed-array j =
-          let r = rw l at (so-fine k q) in
-          let v = rw l at m in
-          eq-no _ _ _ _ (λ y. z (l ∙ y)) (rw r (eq-yes _ _ _ _ (sym v ∙ j) refl))
+      composed-kind : {r : ℕ} → r ≡ ifEq (kindAt s (linkAt s c 1)) kindCA 5 (ifEq (kindAt s (linkAt s c 1)) kindCN 6 0) → ok r ≡ composed s c
+      unfolding composed
+      composed-kind e = let r = rw l at (so-fine k q) in eq-no _ _ _ _ (λ y. z (l ∙ y)) (rw r (ap ok e))
 
-      pub composed-structure : (i ≡ kindCA → ⊥) → i ≡ kindCN → ok (omitted 6) ≡ decideComposition s n c
-      unfolding decideComposition
-      composed-structure b j =
-          let r = rw l at (so-fine k q) in
-          let v = rw l at m in
-          eq-no _ _ _ _ (λ y. z (l ∙ y)) (rw r (eq-no _ _ _ _ (λ y. b (v ∙ y)) (eq-yes _ _ _ _ (sym v ∙ j) refl)))
+      pub composed-array : i ≡ kindCA → ok 5 ≡ composed s c
+      composed-array j = let v = rw l at m in composed-kind (eq-yes _ _ _ _ (sym v ∙ j) refl)
 
-      pub composed-other : (i ≡ kindCA → ⊥) → (i ≡ kindCN → ⊥) → decideSignal s n c ≡ decideComposition s n c
-      unfolding decideComposition
-      composed-other b j =
-          let r = rw l at (so-fine k q) in
-          let v = rw l at m in
-          eq-no _ _ _ _ (λ y. z (l ∙ y)) (rw r (eq-no _ _ _ _ (λ y. b (v ∙ y)) (eq-no _ _ _ _ (λ y. j (v ∙ y)) refl)))
+      pub composed-structure : (i ≡ kindCA → ⊥) → i ≡ kindCN → ok 6 ≡ composed s c
+      composed-structure b j = let v = rw l at m in composed-kind (eq-no _ _ _ _ (λ y. b (v ∙ y)) (eq-yes _ _ _ _ (sym v ∙ j) refl))
 
--- ---- reasons 2, 3 and 4
+      pub composed-other : (i ≡ kindCA → ⊥) → (i ≡ kindCN → ⊥) → ok 0 ≡ composed s c
+      composed-other b j = let v = rw l at m in composed-kind (eq-no _ _ _ _ (λ y. b (v ∙ y)) (eq-no _ _ _ _ (λ y. j (v ∙ y)) refl))
+
+-- ---- link 6
+module _ (table s : List ℕ) (c : ℕ) {t : ℕ} (e : t ≡ channelType s c) where
+  pub link-other : (t ≡ 1 → ⊥) → 0 ≡ signalLink table s c
+  unfolding signalLink
+  link-other h = eq-no _ _ _ _ (λ q. h (e ∙ q)) refl
+
+  module _ (h : t ≡ 1) {v : ℕ} (k : v ≡ treatment table t) where
+    pub link-stored : v ≡ 2 → 0 ≡ signalLink table s c
+    unfolding signalLink
+    link-stored i = eq-yes _ _ _ _ (sym e ∙ h) (eq-yes _ _ _ _ (ap (treatment table) (sym e) ∙ sym k ∙ i) refl)
+
+    pub link-read : (v ≡ 2 → ⊥) → linkAt s c 5 ≡ signalLink table s c
+    unfolding signalLink
+    link-read i = eq-yes _ _ _ _ (sym e ∙ h) (eq-no _ _ _ _ (λ q. i (k ∙ ap (treatment table) e ∙ q)) refl)
+
+-- ---- reason 7, and the chain at that link
+module _ (s : List ℕ) (a : ℕ) where
+  pub stored-none : a ≡ 0 → ok 0 ≡ storedAt s a
+  unfolding storedAt
+  stored-none z = eq-yes _ _ _ _ z refl
+
+  module _ (z : a ≡ 0 → ⊥) {o : Check} (k : verdictOf o ≡ headerIn s a) where
+    pub stored-refused : {x p : ℕ} → o ≡ checks.Refused x p → refused x p ≡ storedAt s a
+    unfolding storedAt
+    stored-refused q = eq-no _ _ _ _ z (rw (so-refused k q))
+
+    module _ (q : o ≡ Fine) {i : ℕ} (m : i ≡ kindAt s a) where
+      pub stored-group : i ≡ kindCG → ok 7 ≡ storedAt s a
+      unfolding storedAt
+      stored-group j = eq-no _ _ _ _ z (rw (so-fine k q) (ap ok (eq-yes _ _ _ _ (sym m ∙ j) refl)))
+
+      pub stored-other : (i ≡ kindCG → ⊥) → ok 0 ≡ storedAt s a
+      unfolding storedAt
+      stored-other j = eq-no _ _ _ _ z (rw (so-fine k q) (ap ok (eq-no _ _ _ _ (λ y. j (m ∙ y)) refl)))
+
+  pub chain-none : (n : ℕ) → a ≡ 0 → ok (columns.kept noSignal) ≡ decideChain s n a
+  unfolding decideChain
+  chain-none n z = eq-yes _ _ _ _ z refl
+
+  pub chain-led : (n : ℕ) → (a ≡ 0 → ⊥) → keptSignal (chain signal limits s n a) ≡ decideChain s n a
+  unfolding decideChain
+  chain-led n z = eq-no _ _ _ _ z refl
+
+-- ---- the tests: what each gives
 pub not-yes : (b : Bool) → not b ≡ true → b ≡ false
 not-yes true e = sym e
 not-yes false e = refl
@@ -140,29 +141,56 @@ pub not-no : (b : Bool) → not b ≡ false → b ≡ true
 not-no true e = refl
 not-no false e = sym e
 
-treated : (t : ℕ) {A : Type 0} (a b : A) → (t ≡ 4 → ⊥) → onTreatment (treatment t) a b ≡ a
-unfolding treatment ifEq
-treated t a b h = rw (ne-eqb t 4 h) (go (eqb t 5))
-  where
-    go : (k : Bool) → onTreatment (pick k asFixed keep) a b ≡ a
-    go true = refl
-    go false = refl
+module _ (s : List ℕ) (g c : ℕ) {b : Bool} (e : b ≡ fits s g c) where
+  pub fit-yes : b ≡ true → _≡_ {A = Checked ℕ} (ok (unfit s g c)) (ok 0)
+  unfolding unfit
+  fit-yes h = rw (← e, h)
 
-module _ (s : List ℕ) (n g c : ℕ) {b : Bool} (e : b ≡ fits s g c) where
-  pub decide-unfit : b ≡ false → ok (omitted 2) ≡ decide s n g c
-  unfolding decide
-  decide-unfit h = rw (← e, h)
+  pub fit-no : b ≡ false → _≡_ {A = Checked ℕ} (ok (unfit s g c)) (ok 2)
+  unfolding unfit
+  fit-no h = rw (← e, h)
 
-  module _ (h : b ≡ true) {m : Bool} (f : m ≡ isMasterType s c) where
-    pub decide-master : m ≡ true → ok (omitted 3) ≡ decide s n g c
-    unfolding decide
-    decide-master i = rw (← e, h, ← f, i)
+module _ (s : List ℕ) (c : ℕ) {b : Bool} (e : b ≡ isMasterType s c) where
+  pub master-yes : b ≡ true → _≡_ {A = Checked ℕ} (ok (furtherMaster s c)) (ok 3)
+  unfolding furtherMaster
+  master-yes h = rw (← e, h)
 
-    module _ (i : m ≡ false) {t : ℕ} (k : t ≡ channelType s c) where
-      pub decide-type : t ≡ 4 → ok (omitted 4) ≡ decide s n g c
-      unfolding decide treatment ifEq
-      decide-type j = rw (← e, h, ← f, i, ← k, j)
+  pub master-no : b ≡ false → _≡_ {A = Checked ℕ} (ok (furtherMaster s c)) (ok 0)
+  unfolding furtherMaster
+  master-no h = rw (← e, h)
 
-      pub decide-rest : (t ≡ 4 → ⊥) → decideComposition s n c ≡ decide s n g c
-      unfolding decide
-      decide-rest j = rw (← e, h, ← f, i, ← k) (sym (treated t _ _ j))
+module _ (r : ℕ) (table s : List ℕ) (c : ℕ) {t v : ℕ} (e : t ≡ channelType s c) (k : v ≡ treatment table t) where
+  pub type-yes : v ≡ r → _≡_ {A = Checked ℕ} (ok (omittedType r table s c)) (ok r)
+  unfolding omittedType
+  type-yes h = ap ok (sym (eq-yes _ _ _ _ (ap (treatment table) (sym e) ∙ sym k ∙ h) refl))
+
+  pub type-no : (v ≡ r → ⊥) → _≡_ {A = Checked ℕ} (ok (omittedType r table s c)) (ok 0)
+  unfolding omittedType
+  type-no h = ap ok (sym (eq-no _ _ _ _ (λ q. h (k ∙ ap (treatment table) e ∙ q)) refl))
+
+pub test-found : {v : Checked ℕ} {o : Tested} {r : ℕ} → testedAs o ≡ v → o ≡ Tested.Found r → v ≡ ok r
+test-found {v} e q = sym e ∙ ap testedAs q
+
+pub test-stopped : {v : Checked ℕ} {o : Tested} {x p : ℕ} → testedAs o ≡ v → o ≡ Tested.Stopped x p → v ≡ refused x p
+test-stopped {v} e q = sym e ∙ ap testedAs q
+
+-- ---- the tests in order
+module _ (v : Checked ℕ) (rest : Checked columns.Decision) where
+  pub pass : {d : Checked columns.Decision} → v ≡ ok 0 → d ≡ rest → d ≡ unless v rest
+  unfolding unless
+  pass e q = rw e (eq-yes _ _ _ _ refl q)
+
+  pub omit : {r : ℕ} → v ≡ ok r → (r ≡ 0 → ⊥) → ok (omitted r) ≡ unless v rest
+  unfolding unless
+  omit e n = rw e (eq-no _ _ _ _ n refl)
+
+  pub stop : {x p : ℕ} → v ≡ refused x p → refused x p ≡ unless v rest
+  unfolding unless
+  stop e = rw e
+
+pub by-tests : (table s : List ℕ) (n g c : ℕ) {d : Checked columns.Decision}
+    → d ≡ unless (ok (unfit s g c)) (unless (ok (furtherMaster s c)) (unless (ok (omittedType 4 table s c)) (unless (composed s c)
+    (unless (storedAt s (signalLink table s c)) (unless (ok (omittedType 8 table s c)) (decideChain s n (signalLink table s c)))))))
+    → d ≡ decide table s n g c
+unfolding decide
+by-tests table s n g c e = e

@@ -9,6 +9,13 @@ use Rattle.plan.specs.Columns as columns
 use Rattle.work_words.specs.PlanWords.{fragmentsIn}
 use Rattle.planning.specs.declared.decide.Decision.{Decision}
 use Rattle.planning.specs.declared.decide.Decision.the-variants.{Refused, Omitted, Kept}
+use Rattle.planning.specs.declared.decide.Tested.{Tested}
+use Rattle.planning.specs.declared.decide.Tested.the-variants.{Stopped, Found}
+
+-- what a test answers: a refusal, or a reason, 0 for none
+abbrev pub testedAs : Tested → Checked ℕ
+testedAs (Stopped number place) = refused number place
+testedAs (Found reason) = ok reason
 
 pub data Left : Type 0 where
   stops : ℕ → ℕ → Left

@@ -28,7 +28,6 @@ pub mod BareLaws
 pub mod FlatLaws
 pub mod RoomLaws
 pub mod ReadBackLaws
-pub mod Outcome
 pub mod OutcomeLaws
 pub mod Answer
 pub mod AnswerLaws

@@ -13,6 +13,7 @@ use Rattle.mdf.specs.Count.{counts}
 use Rattle.work_words.specs.Words.{countsAt, laidItems}
 use Rattle.chains.specs.Kept.{kept}
 use Rattle.chains.specs.KeptLaws.{kept-none}
+use Rattle.plan.specs.Rules.{Rules}
 use Rattle.plan.specs.Columns.{SrcGroup, Column, Plan, srcGroups, plan}
 use Rattle.work_words.specs.PlanWords.{columnsWords, omissionPairs, signalFragments, laidPlan}
 use Rattle.plan_laws.specs.WalkLaws.{walk-sound, walk-open}
@@ -27,7 +28,6 @@ use Rattle.planning.specs.BareLaws.{plan-bare, laid-bare, signals-bare}
 use Rattle.planning.specs.FlatLaws.{groups-flat}
 use Rattle.planning.specs.RoomLaws.{all-room, channels-bare}
 use Rattle.planning.specs.ReadBackLaws.{items-back, laid-items, laid-counts, few-items, groups-counted, open-groups}
-use Rattle.planning.specs.Outcome.{leaves, outcome, laidOutcome}
 
 -- before planning
 abbrev nothing : ℕ → Plan
@@ -42,23 +42,6 @@ length-bare : (cs : List Column) → length (bareColumns cs) ≡ length cs
 unfolding bareColumns
 length-bare [] = refl
 length-bare (c ∷ cs) = ap suc (length-bare cs)
-
--- a plan that the words hold, as an outcome
-gives-outcome : (n : ℕ) (w f : List ℕ) (o : Checked Plan) (r : Progress) (w' f' : List ℕ)
-    → Gives (record { found = n; words = w; fragments = f }) (bareChecked o) r w' f' → outcome r w' f' ≡ laidOutcome o n w f
-unfolding gives laidOutcome
-gives-outcome n w f (refused x p) r w' f' g = let e = g .by in rw e
-gives-outcome n w f (ok q) r w' f' g =
-    let t = g .by in
-    let h = t .held in
-    let c : t .nc ≡ length (q .columns) = sym (h .columns) ∙ length-bare (q .columns) in
-    done q (t .nc) (t .no) (t .nf) (t .is) c (sym (h .omissions)) (sym (h .fragments))
-    (h .inColumns ∙ laid-bare n q w) (h .inFragments ∙ ap (λ fs. kept n fs f) (signals-bare (q .columns)))
-  where
-    done : (q : Plan) (x y z : ℕ) → r ≡ Done x y z → x ≡ length (q .columns) → y ≡ length (q .omissions) → z ≡ q .fragments
-        → w' ≡ laidPlan n q w → f' ≡ kept n (signalFragments (q .columns)) f
-        → outcome r w' f' ≡ leaves (Done (length (q .columns)) (length (q .omissions)) (q .fragments)) (laidPlan n q w) (kept n (signalFragments (q .columns)) f)
-    done q x y z e a b c i j = rw (e, a, b, c, i, j)
 
 -- a plan that the words hold, with its numbers; n fragments were found in the walk
 pub record PlanHeld (n : ℕ) (q : Plan) (nc no nf : ℕ) (w f w' f' : List ℕ) : Type 0 where
@@ -144,18 +127,13 @@ module _ (s : List ℕ) (st : Source) (ns : List ℕ) (walked : walk s ≡ ok st
       (walk-open s st walked) (omega arith)
 
   -- planning over those words is the recording's plan
-  pub read-gives : {r : Progress} {w f w' f' : List ℕ} → GroupsPlan s kept-words (length (st .items)) (length (st .fragments)) w f r w' f'
-      → Gives (record { found = length (st .fragments); words = w; fragments = f }) (bareChecked (plan s (length (st .fragments)) all)) r w' f'
+  pub read-gives : {rs : Rules} {r : Progress} {w f w' f' : List ℕ} → GroupsPlan rs s kept-words (length (st .items)) (length (st .fragments)) w f r w' f'
+      → Gives (record { found = length (st .fragments); words = w; fragments = f }) (bareChecked (plan rs s (length (st .fragments)) all)) r w' f'
   unfolding plan
-  read-gives {r} {w} {f} {w'} {f'} g =
+  read-gives {rs} {r} {w} {f} {w'} {f'} g =
       let n = length (st .fragments) in
       let room = all-room s (bares all) in
       let few = groups-known s st ns walked counted .fewChannels in
       let c = ap (λ l. length l) (channels-bare all) in
       let e = read-groups in
-      rw (← plan-bare s n all) (rw e at (g .is (record { found = n; words = w; fragments = f }) (nothing n) (held-nothing n w f) (rw e (omega arith))))
-
-  pub planned-read : {r : Progress} {w f w' f' : List ℕ} → GroupsPlan s kept-words (length (st .items)) (length (st .fragments)) w f r w' f'
-      → outcome r w' f' ≡ laidOutcome (plan s (length (st .fragments)) all) (length (st .fragments)) w f
-  planned-read {r} {w} {f} {w'} {f'} g =
-      gives-outcome (length (st .fragments)) w f (plan s (length (st .fragments)) all) r w' f' (read-gives g)
+      rw (← plan-bare rs s n all) (rw e at (g .is (record { found = n; words = w; fragments = f }) (nothing n) (held-nothing n w f) (rw e (omega arith))))

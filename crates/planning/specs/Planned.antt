@@ -2,6 +2,7 @@
 use Prim.Native.Nat.{ℕ, _+_, _*_, _≤_}
 use mathlib.Core.List.{List, [], _∷_}
 use lib.ListN.{length}
+use Rattle.plan.specs.Rules.{Rules}
 use Rattle.plan.specs.Columns.{SrcGroup, Plan, masterOf, ownMaster, planGroup, planGroups}
 use Rattle.result.specs.Guarantee.{In}
 use Rattle.planning.specs.declared.column.Progress.{Progress}
@@ -21,13 +22,13 @@ othersIn s (g ∷ gs) = othersOf s g + othersIn s gs
 abbrev pub reserved : List ℕ → List SrcGroup → Plan → ℕ
 reserved s all p = length (p .columns) + waiting s (p .columns) all
 
-pub record GroupPlan (s src : List ℕ) (n i g d records nc no nf : ℕ) (w f : List ℕ) (r : Progress) (w' f' : List ℕ) : Type 0 where
+pub record GroupPlan (rs : Rules) (s src : List ℕ) (n i g d records nc no nf : ℕ) (w f : List ℕ) (r : Progress) (w' f' : List ℕ) : Type 0 where
   pub bound : within r (nc + 1537) (no + 1537)
   pub is : (b : Base) (p : Plan) → Held b p nc no nf w f → In (groupOf d g (channelsIn src n i) records) (groupsIn src n)
       → reserved s (groupsIn src n) p + othersOf s (groupOf d g (channelsIn src n i) records) ≤ 512
-      → Gives b (planGroup s (groupsIn src n) (groupOf d g (channelsIn src n i) records) p) r w' f'
+      → Gives b (planGroup rs s (groupsIn src n) (groupOf d g (channelsIn src n i) records) p) r w' f'
 
-pub record GroupsPlan (s src : List ℕ) (n nf : ℕ) (w f : List ℕ) (r : Progress) (w' f' : List ℕ) : Type 0 where
+pub record GroupsPlan (rs : Rules) (s src : List ℕ) (n nf : ℕ) (w f : List ℕ) (r : Progress) (w' f' : List ℕ) : Type 0 where
   pub bound : within r (1537 * n) (1537 * n)
   pub is : (b : Base) (p : Plan) → Held b p 0 0 nf w f → reserved s (groupsIn src n) p + othersIn s (groupsIn src n) ≤ 512
-      → Gives b (planGroups s (groupsIn src n) (groupsIn src n) p) r w' f'
+      → Gives b (planGroups rs s (groupsIn src n) (groupsIn src n) p) r w' f'

@@ -12,6 +12,7 @@ use Rattle.base.specs.Choice.{ifEq}
 use Rattle.base.specs.ChoiceLaws.{eq-no}
 use Rattle.base.specs.Checked.{ok, refused, andThen}
 use Rattle.mdf.specs.Group.{isStorage}
+use Rattle.plan.specs.Rules.{Rules}
 use Rattle.plan.specs.Columns.{SrcGroup, Plan, Decision, omitted, kept, TimeOf, time, untimed, differs, masterOf, timeOf, ownMaster, decide, withDecision, withOmission, withTime, planChannels, planTimed, planGroup, planGroups}
 use Rattle.result.specs.Guarantee.{In, here}
 use Rattle.plan_laws.specs.Answers.{with-ok, eq-cases, pick-cases, ok-same}
@@ -32,17 +33,17 @@ use Rattle.planning.specs.SettleLaws.{time-budget}
 use Rattle.planning.specs.Planned.{othersOf, othersIn, reserved, GroupPlan, GroupsPlan}
 
 -- ---- a group
-timed-group : (s : List ℕ) (all : List SrcGroup) (g : SrcGroup) (p : Plan) → isStorage s (g .at) ≡ false
-    → planGroup s all g p ≡ planTimed s g (timeOf s all g) p
+timed-group : (rs : Rules) (s : List ℕ) (all : List SrcGroup) (g : SrcGroup) (p : Plan) → isStorage s (g .at) ≡ false
+    → planGroup rs s all g p ≡ planTimed rs s g (timeOf s all g) p
 unfolding planGroup
-timed-group s all g p e = rw e
+timed-group rs s all g p e = rw e
 
 within-more : (r : Progress) {a b a' b' : ℕ} → within r a b → a ≤ a' → b ≤ b' → within r a' b'
 within-more (Refused x p) h i j = tt
 within-more (Done x y z) h i j = (omega arith, omega arith, h .2)
 
-module _ (s src : List ℕ) (n i g d records nc no nf : ℕ) (w f : List ℕ) {t : Bool} (e : t ≡ isStorage s g) where
-  pub group-storage : t ≡ true → nf ≤ 1024 → GroupPlan s src n i g d records nc no nf w f (Done nc no nf) w f
+module _ (rs : Rules) (s src : List ℕ) (n i g d records nc no nf : ℕ) (w f : List ℕ) {t : Bool} (e : t ≡ isStorage s g) where
+  pub group-storage : t ≡ true → nf ≤ 1024 → GroupPlan rs s src n i g d records nc no nf w f (Done nc no nf) w f
   unfolding gives planGroup
   group-storage h l =
       let o : isStorage s g ≡ true = sym e ∙ h in
@@ -53,11 +54,11 @@ module _ (s src : List ℕ) (n i g d records nc no nf : ℕ) (w f : List ℕ) {t
 
   module _ (h : t ≡ false) {own : ℕ} (q : own ≡ ownMaster (masterIn s src n i g)) {r : Settled} {w1 : List ℕ}
       (k : SettlePlan s src n i g d records nc no w r w1) {x : Progress} {w' f' : List ℕ}
-      (l : ChannelsPlan s src n i g d records own (r .master) (r .columns) (r .omissions) nf w1 f x w' f') where
+      (l : ChannelsPlan rs s src n i g d records own (r .master) (r .columns) (r .omissions) nf w1 f x w' f') where
     own-is : own ≡ ownMaster (masterOf s (groupOf d g (channelsIn src n i) records))
     own-is = q ∙ ap ownMaster (sym (master-group s src n i g d records))
 
-    pub group-planned : GroupPlan s src n i g d records nc no nf w f x w' f'
+    pub group-planned : GroupPlan rs s src n i g d records nc no nf w f x w' f'
     group-planned =
         let a = k .few in
         let b = k .fewOmitted in
@@ -68,12 +69,12 @@ module _ (s src : List ℕ) (n i g d records nc no nf : ℕ) (w f : List ℕ) {t
               let z = k .is b p nf f j i' (omega arith) in
               let v = z .budget in
               let u = rw own-is at (l .is b (z .plan) (z .column) (channelsIn src n i) (z .held) (z .master) (rw own-is (omega arith))) in
-              rw (is-timed p ∙ z .rest) u;
+              rw (is-timed p ∙ z .rest rs) u;
         }
       where
-        is-timed : (p : Plan) → planGroup s (groupsIn src n) (groupOf d g (channelsIn src n i) records) p
-            ≡ planTimed s (groupOf d g (channelsIn src n i) records) (timeOf s (groupsIn src n) (groupOf d g (channelsIn src n i) records)) p
-        is-timed p = timed-group s (groupsIn src n) (groupOf d g (channelsIn src n i) records) p (sym e ∙ h)
+        is-timed : (p : Plan) → planGroup rs s (groupsIn src n) (groupOf d g (channelsIn src n i) records) p
+            ≡ planTimed rs s (groupOf d g (channelsIn src n i) records) (timeOf s (groupsIn src n) (groupOf d g (channelsIn src n i) records)) p
+        is-timed p = timed-group rs s (groupsIn src n) (groupOf d g (channelsIn src n i) records) p (sym e ∙ h)
 
 -- ---- columns reserved: the channels of a group take no more than their number
 pub record Took (s : List ℕ) (all : List SrcGroup) (k : ℕ) (p q : Plan) : Type 0 where
@@ -88,58 +89,58 @@ decided-took s all g m c p (kept d) =
       few = rw length-append (le-refl _);
     }
 
-channels-took : (s : List ℕ) (all : List SrcGroup) (g : SrcGroup) (own : ℕ) (m : Option ℕ) (cs : List ℕ) (p q : Plan)
-    → planChannels s g own m cs p ≡ ok q → Took s all (others own cs) p q
+channels-took : (rs : Rules) (s : List ℕ) (all : List SrcGroup) (g : SrcGroup) (own : ℕ) (m : Option ℕ) (cs : List ℕ) (p q : Plan)
+    → planChannels rs s g own m cs p ≡ ok q → Took s all (others own cs) p q
 unfolding planChannels others
-channels-took s all g own m [] p q e = rw (ok-same e) (record { waits = refl; few = omega arith })
-channels-took s all g own m (c ∷ cs) p q e =
+channels-took rs s all g own m [] p q e = rw (ok-same e) (record { waits = refl; few = omega arith })
+channels-took rs s all g own m (c ∷ cs) p q e =
     eq-cases c own _ _ e
     (λ h i.
-    let t = channels-took s all g own m cs p q i in
+    let t = channels-took rs s all g own m cs p q i in
     let l = t .few in
     record { waits = t .waits; few = omega arith })
-    (λ h i. with-ok (decide s (p .fragments) (g .at) c) _ i (λ d j k.
+    (λ h i. with-ok (decide (rs .table) s (p .fragments) (g .at) c) _ i (λ d j k.
     let a = decided-took s all g m c p d in
-    let t = channels-took s all g own m cs (withDecision g m c p d) q k in
+    let t = channels-took rs s all g own m cs (withDecision g m c p d) q k in
     let l = t .few in
     let l' = a .few in
     let o : _≡_ {A = ℕ} 1 (ifEq c own 0 1) = eq-no _ _ _ _ h refl in
     record { waits = t .waits ∙ a .waits; few = omega arith }))
 
-pub group-budget : (s : List ℕ) (all : List SrcGroup) (g : SrcGroup) (p q : Plan) → In g all → planGroup s all g p ≡ ok q
+pub group-budget : (rs : Rules) (s : List ℕ) (all : List SrcGroup) (g : SrcGroup) (p q : Plan) → In g all → planGroup rs s all g p ≡ ok q
     → reserved s all q ≤ reserved s all p + othersOf s g
 unfolding planGroup
-group-budget s all g p q i e =
+group-budget rs s all g p q i e =
     pick-cases (isStorage s (g .at)) _ _ e
     (λ _ j. rw (ok-same j) (omega arith))
     (λ _ j. go (timeOf s all g) refl j)
   where
-    go : (o : TimeOf) → timeOf s all g ≡ o → planTimed s g o p ≡ ok q → reserved s all q ≤ reserved s all p + othersOf s g
+    go : (o : TimeOf) → timeOf s all g ≡ o → planTimed rs s g o p ≡ ok q → reserved s all q ≤ reserved s all p + othersOf s g
     go untimed h j =
-        let t = channels-took s all g (ownMaster (masterOf s g)) none (g .channels) p q j in
+        let t = channels-took rs s all g (ownMaster (masterOf s g)) none (g .channels) p q j in
         let l = t .few in
         let v = t .waits in
         omega arith
     go differs h j =
-        let t = channels-took s all g (ownMaster (masterOf s g)) none (g .channels) (withOmission (g .at) 1 p) q j in
+        let t = channels-took rs s all g (ownMaster (masterOf s g)) none (g .channels) (withOmission (g .at) 1 p) q j in
         let l = t .few in
         let v = t .waits in
         omega arith
     go (time t m) h j =
         let z = time-known s all g t m i h in
         let b = time-budget s all t m p (z .isIn) (z .master) in
-        let y = channels-took s all g (ownMaster (masterOf s g)) _ (g .channels) (withTime t m p) q j in
+        let y = channels-took rs s all g (ownMaster (masterOf s g)) _ (g .channels) (withTime t m p) q j in
         let l = y .few in
         let v = y .waits in
         omega arith
 
 -- ---- all groups: what is left of them gives what all of them give
-module _ (s : List ℕ) (all : List SrcGroup) where
-  groups-over : (p : Plan) → planGroups s all [] p ≡ ok p
+module _ (rs : Rules) (s : List ℕ) (all : List SrcGroup) where
+  groups-over : (p : Plan) → planGroups rs s all [] p ≡ ok p
   unfolding planGroups
   groups-over p = refl
 
-  groups-more : (g : SrcGroup) (gs : List SrcGroup) (p : Plan) → planGroups s all (g ∷ gs) p ≡ andThen (planGroup s all g p) (planGroups s all gs)
+  groups-more : (g : SrcGroup) (gs : List SrcGroup) (p : Plan) → planGroups rs s all (g ∷ gs) p ≡ andThen (planGroup rs s all g p) (planGroups rs s all gs)
   unfolding planGroups
   groups-more g gs p = refl
 
@@ -148,25 +149,25 @@ module _ (s : List ℕ) (all : List SrcGroup) where
   othersIn-more g gs = refl
 
 -- where the loop stands for one plan; gs are the groups left
-pub record Stood (s src : List ℕ) (n : ℕ) (gs : List SrcGroup) (nc no nf : ℕ) (b : Base) (p : Plan) (w f : List ℕ) : Type 0 where
+pub record Stood (rs : Rules) (s src : List ℕ) (n : ℕ) (gs : List SrcGroup) (nc no nf : ℕ) (b : Base) (p : Plan) (w f : List ℕ) : Type 0 where
   pub plan : Plan
   pub held : Held b plan nc no nf w f
   pub before : List SrcGroup
   pub split : groupsIn src n ≡ before ++ gs
   pub budget : reserved s (groupsIn src n) plan + othersIn s gs ≤ 512
-  pub rest : planGroups s (groupsIn src n) gs plan ≡ planGroups s (groupsIn src n) (groupsIn src n) p
+  pub rest : planGroups rs s (groupsIn src n) gs plan ≡ planGroups rs s (groupsIn src n) (groupsIn src n) p
 
-pub record Groups (s src : List ℕ) (n nf₀ : ℕ) (w₀ f₀ : List ℕ) (i g d nc no nf : ℕ) (w f : List ℕ) : Type 0 where
+pub record Groups (rs : Rules) (s src : List ℕ) (n nf₀ : ℕ) (w₀ f₀ : List ℕ) (i g d nc no nf : ℕ) (w f : List ℕ) : Type 0 where
   pub upTo : i ≤ n
   pub few : g ≤ i
   pub fewColumns : nc ≤ 1537 * i
   pub fewOmitted : no ≤ 1537 * i
   pub fewFragments : nf ≤ 1024
   pub now : (b : Base) (p : Plan) → Held b p 0 0 nf₀ w₀ f₀ → reserved s (groupsIn src n) p + othersIn s (groupsIn src n) ≤ 512
-      → Stood s src n (groupsFrom src n d g i) nc no nf b p w f
+      → Stood rs s src n (groupsFrom src n d g i) nc no nf b p w f
 
-pub groups-begin : {s src : List ℕ} {n nf : ℕ} {w f : List ℕ} → nf ≤ 1024 → Groups s src n nf w f 0 0 0 0 0 nf w f
-groups-begin {s} {src} {n} l =
+pub groups-begin : {rs : Rules} {s src : List ℕ} {n nf : ℕ} {w f : List ℕ} → nf ≤ 1024 → Groups rs s src n nf w f 0 0 0 0 0 nf w f
+groups-begin {rs} {s} {src} {n} l =
     record {
       upTo = omega arith;
       few = omega arith;
@@ -176,8 +177,8 @@ groups-begin {s} {src} {n} l =
       now = λ b p h y. rw (groups-all src n) (record { plan = p; held = h; before = []; split = refl; budget = y; rest = refl });
     }
 
-module _ {s src : List ℕ} {n nf₀ : ℕ} {w₀ f₀ : List ℕ} {i g d nc no nf : ℕ} {w f : List ℕ} (t : Groups s src n nf₀ w₀ f₀ i g d nc no nf w f) where
-  pub groups-end : n ≤ i → GroupsPlan s src n nf₀ w₀ f₀ (Done nc no nf) w f
+module _ {rs : Rules} {s src : List ℕ} {n nf₀ : ℕ} {w₀ f₀ : List ℕ} {i g d nc no nf : ℕ} {w f : List ℕ} (t : Groups rs s src n nf₀ w₀ f₀ i g d nc no nf w f) where
+  pub groups-end : n ≤ i → GroupsPlan rs s src n nf₀ w₀ f₀ (Done nc no nf) w f
   unfolding gives
   groups-end h =
       let u = t .upTo in
@@ -187,13 +188,13 @@ module _ {s src : List ℕ} {n nf₀ : ℕ} {w₀ f₀ : List ℕ} {i g d nc no 
         bound = (omega arith, omega arith, t .fewFragments);
         is = λ b p j y.
             let r = t .now b p j y in
-            let q : planGroups s (groupsIn src n) (groupsIn src n) p ≡ ok (r .plan) =
-            sym (r .rest) ∙ rw (groups-none src n d g i h, groups-over s (groupsIn src n) (r .plan)) in
+            let q : planGroups rs s (groupsIn src n) (groupsIn src n) p ≡ ok (r .plan) =
+            sym (r .rest) ∙ rw (groups-none src n d g i h, groups-over rs s (groupsIn src n) (r .plan)) in
             record { by = rw q (record { nc = nc; no = no; nf = nf; is = refl; held = r .held }) };
       }
 
   module _ (h : i < n) {m a : ℕ} (e : m ≡ getD src (1536 + i) 0) (q : a ≡ getD src i 0) where
-    pub groups-channel : m ≡ 0 → Groups s src n nf₀ w₀ f₀ (i + 1) g d nc no nf w f
+    pub groups-channel : m ≡ 0 → Groups rs s src n nf₀ w₀ f₀ (i + 1) g d nc no nf w f
     groups-channel z =
         let u = t .few in
         let v = t .fewColumns in
@@ -207,7 +208,7 @@ module _ {s src : List ℕ} {n nf₀ : ℕ} {w₀ f₀ : List ℕ} {i g d nc no 
           now = λ b p j y. rw (groups-cn src n d g i h e q z) at (t .now b p j y);
         }
 
-    pub groups-data : (m ≡ 0 → ⊥) → (m ≡ 1 → ⊥) → Groups s src n nf₀ w₀ f₀ (i + 1) g a nc no nf w f
+    pub groups-data : (m ≡ 0 → ⊥) → (m ≡ 1 → ⊥) → Groups rs s src n nf₀ w₀ f₀ (i + 1) g a nc no nf w f
     groups-data z z' =
         let u = t .few in
         let v = t .fewColumns in
@@ -222,7 +223,7 @@ module _ {s src : List ℕ} {n nf₀ : ℕ} {w₀ f₀ : List ℕ} {i g d nc no 
         }
 
     module _ (z : m ≡ 1) {records : ℕ} (k : records ≡ getD src (3584 + g) 0) {r : Progress} {w' f' : List ℕ}
-        (l : GroupPlan s src n (i + 1) a d records nc no nf w f r w' f') where
+        (l : GroupPlan rs s src n (i + 1) a d records nc no nf w f r w' f') where
       -- the group and those after it
       abbrev this : SrcGroup
       this = groupOf d a (channelsIn src n (i + 1)) records
@@ -231,34 +232,34 @@ module _ {s src : List ℕ} {n nf₀ : ℕ} {w₀ f₀ : List ℕ} {i g d nc no 
       later = groupsFrom src n d (g + 1) (i + 1)
 
       module _ (b : Base) (p : Plan) (j : Held b p 0 0 nf₀ w₀ f₀) (y : reserved s (groupsIn src n) p + othersIn s (groupsIn src n) ≤ 512) where
-        stood : Stood s src n (this ∷ later) nc no nf b p w f
+        stood : Stood rs s src n (this ∷ later) nc no nf b p w f
         stood = rw (groups-cg src n d g i h e q z k) at (t .now b p j y)
 
         isIn : In this (groupsIn src n)
         isIn = rw (stood .split) (in-right (stood .before) here)
 
         budgeted : reserved s (groupsIn src n) (stood .plan) + (othersOf s this + othersIn s later) ≤ 512
-        budgeted = rw (othersIn-more s (groupsIn src n) this later) at (stood .budget)
+        budgeted = rw (othersIn-more rs s (groupsIn src n) this later) at (stood .budget)
 
-        step-gives : Gives b (planGroup s (groupsIn src n) this (stood .plan)) r w' f'
+        step-gives : Gives b (planGroup rs s (groupsIn src n) this (stood .plan)) r w' f'
         step-gives = l .is b (stood .plan) (stood .held) isIn (let o = budgeted in omega arith)
 
-        step-rest : andThen (planGroup s (groupsIn src n) this (stood .plan)) (planGroups s (groupsIn src n) later)
-            ≡ planGroups s (groupsIn src n) (groupsIn src n) p
-        step-rest = sym (groups-more s (groupsIn src n) this later (stood .plan)) ∙ stood .rest
+        step-rest : andThen (planGroup rs s (groupsIn src n) this (stood .plan)) (planGroups rs s (groupsIn src n) later)
+            ≡ planGroups rs s (groupsIn src n) (groupsIn src n) p
+        step-rest = sym (groups-more rs s (groupsIn src n) this later (stood .plan)) ∙ stood .rest
 
-      pub groups-refused : {x x' : ℕ} → r ≡ Refused x x' → GroupsPlan s src n nf₀ w₀ f₀ (Refused x x') w' f'
+      pub groups-refused : {x x' : ℕ} → r ≡ Refused x x' → GroupsPlan rs s src n nf₀ w₀ f₀ (Refused x x') w' f'
       unfolding gives
       groups-refused {x} {x'} v =
           record {
             bound = tt;
             is = λ b p j y.
-                let o : planGroups s (groupsIn src n) (groupsIn src n) p ≡ refused x x' =
-                sym (step-rest b p j y) ∙ ap (λ u. andThen u (planGroups s (groupsIn src n) later)) (gives-refused (step-gives b p j y) v) in
+                let o : planGroups rs s (groupsIn src n) (groupsIn src n) p ≡ refused x x' =
+                sym (step-rest b p j y) ∙ ap (λ u. andThen u (planGroups rs s (groupsIn src n) later)) (gives-refused (step-gives b p j y) v) in
                 record { by = rw o };
           }
 
-      pub groups-on : {x y' z' : ℕ} → r ≡ Done x y' z' → Groups s src n nf₀ w₀ f₀ (i + 1) (g + 1) d x y' z' w' f'
+      pub groups-on : {x y' z' : ℕ} → r ≡ Done x y' z' → Groups rs s src n nf₀ w₀ f₀ (i + 1) (g + 1) d x y' z' w' f'
       groups-on {x} {y'} {z'} v =
           let bs : within (Done x y' z') (nc + 1537) (no + 1537) = rw v at (l .bound) in
           let u = t .few in
@@ -273,13 +274,13 @@ module _ {s src : List ℕ} {n nf₀ : ℕ} {w₀ f₀ : List ℕ} {i g d nc no 
             now = λ b p j y.
                 let on = gives-done (step-gives b p j y) v in
                 let more = budgeted b p j y in
-                let took = group-budget s (groupsIn src n) this (stood b p j y .plan) (on .plan) (isIn b p j y) (on .is) in
+                let took = group-budget rs s (groupsIn src n) this (stood b p j y .plan) (on .plan) (isIn b p j y) (on .is) in
                 record {
                   plan = on .plan;
                   held = on .held;
                   before = stood b p j y .before ++ (this ∷ []);
                   split = stood b p j y .split ∙ rw append-assoc;
                   budget = omega arith;
-                  rest = ap (λ u'. andThen u' (planGroups s (groupsIn src n) later)) (sym (on .is)) ∙ step-rest b p j y;
+                  rest = ap (λ u'. andThen u' (planGroups rs s (groupsIn src n) later)) (sym (on .is)) ∙ step-rest b p j y;
                 };
           }

@@ -9,6 +9,7 @@ use lib.ListN.{length}
 use Rattle.base.specs.Choice.{ifEq}
 use Rattle.base.specs.Checked.{Checked, ok, refused, andThen}
 use Rattle.chains.specs.Kept.{kept}
+use Rattle.plan.specs.Rules.{Rules}
 use Rattle.plan.specs.Columns.{Plan, decide, withDecision, planChannels}
 use Rattle.work_words.specs.PlanWords.{masterWord, signalFragments, laidPlan}
 use Rattle.planning.specs.declared.column.Progress.{Progress}
@@ -61,14 +62,14 @@ others own [] = 0
 others own (c ∷ cs) = ifEq c own 0 1 + others own cs
 
 -- a channel, for every plan that stands in the words with room for a column
-pub record ChannelPlan (s : List ℕ) (g d records master c nc no nf : ℕ) (w f : List ℕ) (r : Progress) (w' f' : List ℕ) : Type 0 where
+pub record ChannelPlan (rs : Rules) (s : List ℕ) (g d records master c nc no nf : ℕ) (w f : List ℕ) (r : Progress) (w' f' : List ℕ) : Type 0 where
   pub bound : within r (nc + 1) (no + 1)
   pub is : (b : Base) (p : Plan) (m : Option ℕ) (cs : List ℕ) → Held b p nc no nf w f → masterWord m ≡ master → nc < 512
-      → Gives b (andThen (decide s nf g c) (λ e. ok (withDecision (groupOf d g cs records) m c p e))) r w' f'
+      → Gives b (andThen (decide (rs .table) s nf g c) (λ e. ok (withDecision (groupOf d g cs records) m c p e))) r w' f'
 
 -- the channels from item i on, for every plan that stands in the words with room for their columns
-pub record ChannelsPlan (s src : List ℕ) (n i g d records own master nc no nf : ℕ) (w f : List ℕ) (r : Progress) (w' f' : List ℕ) : Type 0 where
+pub record ChannelsPlan (rs : Rules) (s src : List ℕ) (n i g d records own master nc no nf : ℕ) (w f : List ℕ) (r : Progress) (w' f' : List ℕ) : Type 0 where
   pub bound : within r (nc + 1536) (no + 1536)
   pub is : (b : Base) (p : Plan) (m : Option ℕ) (cs : List ℕ) → Held b p nc no nf w f → masterWord m ≡ master
       → nc + others own (channelsIn src n i) ≤ 512
-      → Gives b (planChannels s (groupOf d g cs records) own m (channelsIn src n i) p) r w' f'
+      → Gives b (planChannels rs s (groupOf d g cs records) own m (channelsIn src n i) p) r w' f'

@@ -141,7 +141,7 @@ module _ (s src : List ℕ) (n i g d records nc no : ℕ) (w : List ℕ) {x : Ti
         fewOmitted = omega arith;
         is = λ b p nf f k l y.
             let c = k .columns in
-            record { plan = p; column = none; held = k; master = refl; budget = omega arith; rest = rw o };
+            record { plan = p; column = none; held = k; master = refl; budget = omega arith; rest = λ rs. rw o };
       }
 
   pub settle-differs : {w' : List ℕ} → x ≡ Differs → w' ≡ blit (4096 + 2 * no) (g ∷ 1 ∷ []) w
@@ -153,7 +153,7 @@ module _ (s src : List ℕ) (n i g d records nc no : ℕ) (w : List ℕ) {x : Ti
         fewOmitted = omega arith;
         is = λ b p nf f k l y.
             let c = k .columns in
-            record { plan = withOmission g 1 p; column = none; held = held-omission k g 1 u; master = refl; budget = omega arith; rest = rw o };
+            record { plan = withOmission g 1 p; column = none; held = held-omission k g 1 u; master = refl; budget = omega arith; rest = λ rs. rw o };
       }
 
   pub settle-at : {c' g' d' r' : ℕ} {r : Settled} {w' : List ℕ} → x ≡ At c' g' d' r' → TimePlan c' g' d' r' nc no w r w'
@@ -195,5 +195,5 @@ module _ (s src : List ℕ) (n i g d records nc no : ℕ) (w : List ℕ) {x : Ti
             held = h .held;
             master = h .master;
             budget = omega arith;
-            rest = rw o;
+            rest = λ rs. rw o;
           }

@@ -4,6 +4,7 @@ use mathlib.Core.List.{List, [], _∷_}
 use mathlib.Core.Option.{Option, none, some}
 use mathlib.Core.Path.{_≡_}
 use lib.ListN.{length}
+use Rattle.plan.specs.Rules.{Rules}
 use Rattle.plan.specs.Columns.{SrcGroup, Column, Plan, masterOf, timeOf, timeColumn, withTime, planChannels, planTimed, ownMaster}
 use Rattle.work_words.specs.PlanWords.{masterWord}
 use Rattle.result.specs.Guarantee.{In}
@@ -38,7 +39,7 @@ pub record Settling (s : List ℕ) (all : List SrcGroup) (g : SrcGroup) (b : Bas
   pub held : Held b plan (r .columns) (r .omissions) nf w' f
   pub master : masterWord column ≡ r .master
   pub budget : r .columns + waiting s (plan .columns) all ≤ length (p .columns) + waiting s (p .columns) all
-  pub rest : planTimed s g (timeOf s all g) p ≡ planChannels s g (ownMaster (masterOf s g)) column (g .channels) plan
+  pub rest : (rs : Rules) → planTimed rs s g (timeOf s all g) p ≡ planChannels rs s g (ownMaster (masterOf s g)) column (g .channels) plan
 
 -- the time of a group, for every plan that stands in the words with room for it
 pub record SettlePlan (s src : List ℕ) (n i g d records nc no : ℕ) (w : List ℕ) (r : Settled) (w' : List ℕ) : Type 0 where

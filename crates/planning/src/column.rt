@@ -4,8 +4,10 @@ use crate::decide::decide;
 use crate::words::put_column;
 use crate::words::put_omission;
 use crate::words::word;
+use choices::Choices;
 ghost use mathlib.Core.Path.{_≡_};
 ghost use Prim.Native.Nat.{_≤_};
+ghost use Rattle.choices.specs.Chosen.{rules};
 ghost use Rattle.planning.specs.Planning.{signalIf, ChannelPlan, ChannelsPlan};
 
 // A refusal, or the numbers of columns, omissions and fragments so far.
@@ -35,6 +37,8 @@ fn signal_word(signal: bool, n: u64) -> u64
 // The CN at c of the group at g: of the DG at d, with so many records, and the column of its master, 0 for none.
 pub(crate) fn plan_channel(
     image: &[u8],
+    choices: Choices,
+    table: &[u8],
     fragments: &mut [u64],
     columns: &mut [u64],
     g: u64,
@@ -47,10 +51,10 @@ pub(crate) fn plan_channel(
     nf: u64,
 ) -> Progress
     requires { ⌜ (nc ≤ 4194304) × (no ≤ 4194304) × (nf ≤ 1024) ⌝ }
-    ensures { λ r. ⌜ ChannelPlan (now (image .entry)) g d records master c nc no nf (now (columns .entry)) (now (fragments .entry))
+    ensures { λ r. ⌜ ChannelPlan (rules choices (now (table .entry))) (now (image .entry)) g d records master c nc no nf (now (columns .entry)) (now (fragments .entry))
         r (now (columns .exit)) (now (fragments .exit)) ⌝ }
 {
-    let decision = decide(image, fragments, nf, g, c);
+    let decision = decide(image, table, fragments, nf, g, c);
     match decision {
         Decision::Refused { number, place } => Progress::Refused { number, place },
         Decision::Omitted { reason } => {
@@ -76,6 +80,8 @@ pub(crate) fn plan_channel(
 // The CN from item i on but own, with the same for each.
 pub(crate) fn plan_channels(
     image: &[u8],
+    choices: Choices,
+    table: &[u8],
     source: &[u64],
     fragments: &mut [u64],
     columns: &mut [u64],
@@ -91,7 +97,7 @@ pub(crate) fn plan_channels(
     nf: u64,
 ) -> Progress
     requires { ⌜ (n ≤ 1536) × (i ≤ n) × (nc ≤ 4190208) × (no ≤ 4190208) × (nf ≤ 1024) ⌝ }
-    ensures { λ r. ⌜ ChannelsPlan (now (image .entry)) (now (source .entry)) n i g d records own master nc no nf (now (columns .entry)) (now (fragments .entry))
+    ensures { λ r. ⌜ ChannelsPlan (rules choices (now (table .entry))) (now (image .entry)) (now (source .entry)) n i g d records own master nc no nf (now (columns .entry)) (now (fragments .entry))
         r (now (columns .exit)) (now (fragments .exit)) ⌝ }
 {
     let mut k = i;
@@ -111,6 +117,8 @@ pub(crate) fn plan_channels(
         if c != own {
             let planned = plan_channel(
                 image,
+                choices,
+                table,
                 fragments,
                 columns,
                 g,

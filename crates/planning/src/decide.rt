@@ -9,11 +9,14 @@ use chains::chain::chain;
 use channels::channel_type;
 use channels::fits_in;
 use channels::is_master_type;
+use choices::treatment_of;
 use fields::Check;
 ghost use mathlib.Core.Path.{_≡_};
 ghost use Rattle.mdf.specs.Chain.{Chain.signal, limits, chain};
-ghost use Rattle.plan.specs.Columns.{keptSignal, decideSignal, decideComposition, decide};
-ghost use Rattle.planning.specs.Decided.{left, laidDecision};
+ghost use Rattle.plan.specs.Table.{treatment};
+ghost use Rattle.plan.specs.Channel.{channelType};
+ghost use Rattle.plan.specs.Columns.{keptSignal, composed, signalLink, storedAt, decideChain, decide};
+ghost use Rattle.planning.specs.Decided.{testedAs, left, laidDecision};
 
 const CA: u64 = 1094918947;
 
@@ -22,6 +25,65 @@ pub enum Decision {
     Refused { number: u64, place: u64 },
     Omitted { reason: u64 },
     Kept { signal: bool, count: u64 },
+}
+
+// A refusal, or the reason that a test found, 0 for none.
+pub(crate) enum Tested {
+    Stopped { number: u64, place: u64 },
+    Found { reason: u64 },
+}
+
+// Reasons 5 and 6.
+fn composition(image: &[u8], c: u64) -> Tested
+    ensures { λ r. ⌜ testedAs r ≡ composed (now (image .entry)) c ⌝ }
+{
+    let a = link_at(image, c, 1);
+    if a == 0 {
+        return Tested::Found { reason: 0 };
+    }
+    let header = header_in(image, a);
+    if let Check::Refused { number, place } = header {
+        return Tested::Stopped { number, place };
+    }
+    let kind = kind_at(image, a);
+    if kind == CA {
+        return Tested::Found { reason: 5 };
+    }
+    if kind == CN {
+        return Tested::Found { reason: 6 };
+    }
+    Tested::Found { reason: 0 }
+}
+
+// Link 6 of a type 1 channel that is not stored as type 0, else 0.
+fn signal_link(image: &[u8], table: &[u8], c: u64) -> u64
+    ensures { λ r. ⌜ r ≡ signalLink (now (table .entry)) (now (image .entry)) c ⌝ }
+{
+    let t = channel_type(image, c);
+    if t != 1 {
+        return 0;
+    }
+    if treatment_of(table, t) == 2 {
+        return 0;
+    }
+    link_at(image, c, 5)
+}
+
+// Reason 7, of that link.
+fn storage(image: &[u8], a: u64) -> Tested
+    ensures { λ r. ⌜ testedAs r ≡ storedAt (now (image .entry)) a ⌝ }
+{
+    if a == 0 {
+        return Tested::Found { reason: 0 };
+    }
+    let header = header_in(image, a);
+    if let Check::Refused { number, place } = header {
+        return Tested::Stopped { number, place };
+    }
+    if kind_at(image, a) == CG {
+        return Tested::Found { reason: 7 };
+    }
+    Tested::Found { reason: 0 }
 }
 
 // The signal data at a; n fragments are kept before.
@@ -43,58 +105,23 @@ fn signal_at(image: &[u8], fragments: &mut [u64], n: u64, a: u64) -> Decision
     }
 }
 
-// Reason 7, or signal data.
-fn decide_signal(image: &[u8], fragments: &mut [u64], n: u64, c: u64) -> Decision
-    ensures { λ r. ⌜ left r (now (fragments .exit)) ≡ laidDecision (decideSignal (now (image .entry)) n c) n (now (fragments .entry)) ⌝ }
+// A column, with the signal data at that link.
+fn decide_chain(image: &[u8], fragments: &mut [u64], n: u64, a: u64) -> Decision
+    ensures { λ r. ⌜ left r (now (fragments .exit)) ≡ laidDecision (decideChain (now (image .entry)) n a) n (now (fragments .entry)) ⌝ }
 {
-    if channel_type(image, c) != 1 {
-        return Decision::Kept {
-            signal: false,
-            count: n,
-        };
-    }
-    let a = link_at(image, c, 5);
     if a == 0 {
         return Decision::Kept {
             signal: false,
             count: n,
         };
-    }
-    let header = header_in(image, a);
-    if let Check::Refused { number, place } = header {
-        return Decision::Refused { number, place };
-    }
-    if kind_at(image, a) == CG {
-        return Decision::Omitted { reason: 7 };
     }
     signal_at(image, fragments, n, a)
 }
 
-// Reasons 5 and 6.
-fn decide_composition(image: &[u8], fragments: &mut [u64], n: u64, c: u64) -> Decision
-    ensures { λ r. ⌜ left r (now (fragments .exit)) ≡ laidDecision (decideComposition (now (image .entry)) n c) n (now (fragments .entry)) ⌝ }
-{
-    let a = link_at(image, c, 1);
-    if a == 0 {
-        return decide_signal(image, fragments, n, c);
-    }
-    let header = header_in(image, a);
-    if let Check::Refused { number, place } = header {
-        return Decision::Refused { number, place };
-    }
-    let kind = kind_at(image, a);
-    if kind == CA {
-        return Decision::Omitted { reason: 5 };
-    }
-    if kind == CN {
-        return Decision::Omitted { reason: 6 };
-    }
-    decide_signal(image, fragments, n, c)
-}
-
-// Reasons 2, 3 and 4, then 5, 6 and 7, for the CN at c of the group at g.
-pub(crate) fn decide(image: &[u8], fragments: &mut [u64], n: u64, g: u64, c: u64) -> Decision
-    ensures { λ r. ⌜ left r (now (fragments .exit)) ≡ laidDecision (decide (now (image .entry)) n g c) n (now (fragments .entry)) ⌝ }
+// The reasons in their order, for the CN at c of the group at g.
+pub(crate) fn decide(image: &[u8], table: &[u8], fragments: &mut [u64], n: u64, g: u64, c: u64) -> Decision
+    ensures { λ r. ⌜ left r (now (fragments .exit))
+        ≡ laidDecision (decide (now (table .entry)) (now (image .entry)) n g c) n (now (fragments .entry)) ⌝ }
 {
     let fits = fits_in(image, g, c);
     if !fits {
@@ -103,8 +130,36 @@ pub(crate) fn decide(image: &[u8], fragments: &mut [u64], n: u64, g: u64, c: u64
     if is_master_type(image, c) {
         return Decision::Omitted { reason: 3 };
     }
-    if channel_type(image, c) == 4 {
+    let t = channel_type(image, c);
+    let treated = treatment_of(table, t);
+    if treated == 4 {
         return Decision::Omitted { reason: 4 };
     }
-    decide_composition(image, fragments, n, c)
+    let composed = composition(image, c);
+    match composed {
+        Tested::Stopped { number, place } => {
+            return Decision::Refused { number, place };
+        }
+        Tested::Found { reason } => {
+            if reason != 0 {
+                return Decision::Omitted { reason };
+            }
+        }
+    }
+    let a = signal_link(image, table, c);
+    let stored = storage(image, a);
+    match stored {
+        Tested::Stopped { number, place } => {
+            return Decision::Refused { number, place };
+        }
+        Tested::Found { reason } => {
+            if reason != 0 {
+                return Decision::Omitted { reason };
+            }
+        }
+    }
+    if treated == 8 {
+        return Decision::Omitted { reason: 8 };
+    }
+    decide_chain(image, fragments, n, a)
 }

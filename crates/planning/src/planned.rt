@@ -5,13 +5,17 @@ use crate::timing::own_of;
 use crate::timing::settle;
 use crate::words::word;
 use channels::is_storage;
+use choices::Choices;
 ghost use Prim.Native.Nat.{_≤_};
 ghost use lib.ListN.{length};
+ghost use Rattle.choices.specs.Chosen.{rules};
 ghost use Rattle.planning.specs.Planned.{GroupPlan, GroupsPlan};
 
 // The group with its CG at g, its channels from item i on, of the DG at d, with so many records.
 pub(crate) fn plan_group(
     image: &[u8],
+    choices: Choices,
+    table: &[u8],
     source: &[u64],
     fragments: &mut [u64],
     columns: &mut [u64],
@@ -25,7 +29,7 @@ pub(crate) fn plan_group(
     nf: u64,
 ) -> Progress
     requires { ⌜ (n ≤ 1536) × (i ≤ n) × (nc ≤ 4190000) × (no ≤ 4190000) × (nf ≤ 1024) × (4096 ≤ length (now columns)) ⌝ }
-    ensures { λ r. ⌜ GroupPlan (now (image .entry)) (now (source .entry)) n i g d records nc no nf (now (columns .entry)) (now (fragments .entry))
+    ensures { λ r. ⌜ GroupPlan (rules choices (now (table .entry))) (now (image .entry)) (now (source .entry)) n i g d records nc no nf (now (columns .entry)) (now (fragments .entry))
         r (now (columns .exit)) (now (fragments .exit)) ⌝ }
 {
     if is_storage(image, g) {
@@ -42,6 +46,8 @@ pub(crate) fn plan_group(
     let others = settled.omissions;
     plan_channels(
         image,
+        choices,
+        table,
         source,
         fragments,
         columns,
@@ -61,6 +67,8 @@ pub(crate) fn plan_group(
 // All groups of n items.
 pub(crate) fn plan_groups(
     image: &[u8],
+    choices: Choices,
+    table: &[u8],
     source: &[u64],
     fragments: &mut [u64],
     columns: &mut [u64],
@@ -68,7 +76,7 @@ pub(crate) fn plan_groups(
     nf: u64,
 ) -> Progress
     requires { ⌜ (n ≤ 1536) × (nf ≤ 1024) × (4096 ≤ length (now columns)) ⌝ }
-    ensures { λ r. ⌜ GroupsPlan (now (image .entry)) (now (source .entry)) n nf (now (columns .entry)) (now (fragments .entry))
+    ensures { λ r. ⌜ GroupsPlan (rules choices (now (table .entry))) (now (image .entry)) (now (source .entry)) n nf (now (columns .entry)) (now (fragments .entry))
         r (now (columns .exit)) (now (fragments .exit)) ⌝ }
 {
     let mut i: u64 = 0;
@@ -86,6 +94,8 @@ pub(crate) fn plan_groups(
             g += 1;
             let planned = plan_group(
                 image,
+                choices,
+                table,
                 source,
                 fragments,
                 columns,

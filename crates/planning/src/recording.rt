@@ -3,6 +3,7 @@ use crate::column::Progress;
 use crate::data::all_data_in;
 use crate::planned::plan_groups;
 use crate::stage::blocks_in;
+use choices::Choices;
 use fields::Check;
 use reading::answer::Read;
 use reading::recording::clear;
@@ -10,6 +11,7 @@ use reading::recording::read;
 ghost use mathlib.Core.Path.{_≡_};
 ghost use Prim.Native.Nat.{_≤_};
 ghost use lib.ListN.{length};
+ghost use Rattle.choices.specs.Chosen.{rules};
 ghost use Rattle.planning.specs.Answer.{StageOver, PlanRead, given, planOver, PlanLeft, planInto};
 
 // Document 01's refusal with number and place; or the number of blocks met, of the walk's fragments, of columns and of omissions.
@@ -51,6 +53,8 @@ fn stage_in(
 fn plan_read(
     image: &[u8],
     size: u64,
+    choices: Choices,
+    table: &[u8],
     source: &[u64],
     fragments: &mut [u64],
     columns: &mut [u64],
@@ -58,10 +62,10 @@ fn plan_read(
     nf: u64,
 ) -> Planned
     requires { ⌜ (n ≤ 1536) × (nf ≤ 1024) × (3072 ≤ length (now fragments)) × (6144 ≤ length (now columns)) ⌝ }
-    ensures { λ r. ⌜ PlanRead (now (image .entry)) size (now (source .entry)) (now (fragments .entry)) (now (columns .entry)) n nf
+    ensures { λ r. ⌜ PlanRead (rules choices (now (table .entry))) (now (image .entry)) size (now (source .entry)) (now (fragments .entry)) (now (columns .entry)) n nf
         r (now (fragments .exit)) (now (columns .exit)) ⌝ }
 {
-    let planned = plan_groups(image, source, fragments, columns, n, nf);
+    let planned = plan_groups(image, choices, table, source, fragments, columns, n, nf);
     match planned {
         Progress::Refused { number, place } => Planned::Refused { number, place },
         Progress::Done {
@@ -87,13 +91,15 @@ fn plan_read(
 fn plan_all(
     image: &[u8],
     size: u64,
+    choices: Choices,
+    table: &[u8],
     source: &mut [u64],
     fragments: &mut [u64],
     columns: &mut [u64],
 ) -> Planned
     requires { ⌜ (4096 ≤ length (now source)) × (3072 ≤ length (now fragments)) × (6144 ≤ length (now columns)) ⌝ }
     ensures { λ r. ⌜ given r (now (source .exit)) (now (fragments .exit)) (now (columns .exit))
-        ≡ planOver (now (image .entry)) size (now (source .entry)) (now (fragments .entry)) (now (columns .entry)) ⌝ }
+        ≡ planOver (rules choices (now (table .entry))) (now (image .entry)) size (now (source .entry)) (now (fragments .entry)) (now (columns .entry)) ⌝ }
 {
     let met = read(image, source, fragments);
     match met {
@@ -102,7 +108,7 @@ fn plan_all(
             items,
             groups,
             fragments: nf,
-        } => plan_read(image, size, source, fragments, columns, items, nf),
+        } => plan_read(image, size, choices, table, source, fragments, columns, items, nf),
     }
 }
 
@@ -110,12 +116,14 @@ fn plan_all(
 pub fn plan(
     image: &[u8],
     size: u64,
+    choices: Choices,
+    table: &[u8],
     source: &mut [u64],
     fragments: &mut [u64],
     columns: &mut [u64],
 ) -> Planned
     ensures { λ r. ⌜ PlanLeft.planLeft r (now (source .exit)) (now (fragments .exit)) (now (columns .exit))
-        ≡ planInto (now (image .entry)) size (now (source .entry)) (now (fragments .entry)) (now (columns .entry)) ⌝ }
+        ≡ planInto (rules choices (now (table .entry))) (now (image .entry)) size (now (source .entry)) (now (fragments .entry)) (now (columns .entry)) ⌝ }
 {
     if source.len() < 4096 {
         return Planned::Refused {
@@ -135,7 +143,7 @@ pub fn plan(
             place: 0,
         };
     }
-    let answer = plan_all(image, size, source, fragments, columns);
+    let answer = plan_all(image, size, choices, table, source, fragments, columns);
     if let Planned::Refused { number, place } = answer {
         clear(source);
         clear(fragments);

@@ -5,6 +5,7 @@ use mathlib.Core.List.{List, [], _∷_}
 use mathlib.Core.Bool.{Bool, true, false}
 use mathlib.Core.Option.{Option, none, some}
 use mathlib.Core.Path.{_≡_}
+use lib.Dec.{eqb}
 use lib.ListN.{length, getD}
 use Rattle.base.specs.Choice.{pick, ifLt, ifEq}
 use Rattle.base.specs.Field.{leAt}
@@ -14,6 +15,8 @@ use Rattle.mdf.specs.Block.{kindHD, kindDG, kindCG, kindCN, kindDL, sizeAt, lin
 use Rattle.mdf.specs.Chain.{Kind, dt, dv, Fragment}
 use Rattle.mdf.specs.Group.{groupFlags}
 use Rattle.mdf.specs.Identification.{fileMark}
+use Rattle.plan.specs.Rules.{Rules}
+use Rattle.plan.specs.Table.{treatment}
 use Rattle.plan.specs.Channel.{channelType, bitOffset, bitCount, channelFlags, keepsInval, channelBytes, width}
 use Rattle.plan.specs.Columns.{Column, Signal, noSignal, signalData}
 use Rattle.plan.specs.Data.{isNonempty}
@@ -112,11 +115,15 @@ groupDue s c =
       invalidation = keptByte s c;
     }
 
--- "5 becomes 0"; byte offset, invalidation bit position and number of attachments 0
-unfoldable pub channelDue : List ℕ → Column → ChannelFields
-channelDue s c =
+-- "5 becomes 0", or "2 store as type 0" by a table (document 02, request 6)
+unfoldable pub typeDue : List ℕ → ℕ → ℕ
+typeDue table t = pick (eqb (treatment table t) 2) 0 t
+
+-- byte offset, invalidation bit position and number of attachments 0
+unfoldable pub channelDue : List ℕ → List ℕ → Column → ChannelFields
+channelDue table s c =
     record {
-      channelType = ifEq (channelType s (c .channel)) 5 0 (channelType s (c .channel));
+      channelType = typeDue table (channelType s (c .channel));
       syncType = leAt 1 s (dataAt s (c .channel) + 1);
       dataType = leAt 1 s (dataAt s (c .channel) + 2);
       bitOffset = bitOffset s (c .channel);
@@ -130,8 +137,8 @@ channelDue s c =
     }
 
 -- ---- a column, with "DG 64, CG 104 (112 with a master), CN 160"
-unfoldable pub due : List ℕ → ℕ → List Placed → Placed → Shown
-due s size ps p =
+unfoldable pub due : Rules → List ℕ → ℕ → List Placed → Placed → Shown
+due o s size ps p =
     record {
       dg = p .dg;
       dgHead = record { kind = kindDG; size = 64; links = 4 };
@@ -146,7 +153,7 @@ due s size ps p =
       cnHead = record { kind = kindCN; size = 160; links = 8 };
       nextCN = 0;
       composition = 0;
-      channel = channelDue s (p .column);
+      channel = channelDue (o .table) s (p .column);
       list = listDue (blocksDue s size (p .column)) (equalDue s size (p .column));
       blocks = ok (fragmentsDue s size p);
       payload = ok (duePayload s (p .column));
@@ -155,9 +162,9 @@ due s size ps p =
     }
 
 -- "in planning's order"; all is the list that master numbers count
-unfoldable pub dueAll : List ℕ → ℕ → List Placed → List Placed → List Shown
-dueAll s size all [] = []
-dueAll s size all (p ∷ ps) = due s size all p ∷ dueAll s size all ps
+unfoldable pub dueAll : Rules → List ℕ → ℕ → List Placed → List Placed → List Shown
+dueAll o s size all [] = []
+dueAll o s size all (p ∷ ps) = due o s size all p ∷ dueAll o s size all ps
 
 -- ---- the file's front
 

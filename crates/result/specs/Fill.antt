@@ -10,7 +10,9 @@ use Rattle.base.specs.Field.{leAt, le}
 use Rattle.base.specs.Blit.{part}
 use Rattle.mdf.specs.Block.{kindHD, kindDG, kindCG, kindCN, kindDT, kindDV, kindDL, kindSD, kindMD, kindAt, sizeAt, linksAt, linkAt, dataAt}
 use Rattle.mdf.specs.Group.{groupFlags}
-use Rattle.plan.specs.Channel.{channelType, channelBytes, channelFlags, keepsInval, bit, Treatment, treatment}
+use Rattle.plan.specs.Rules.{Rules}
+use Rattle.plan.specs.Table.{treatment}
+use Rattle.plan.specs.Channel.{channelType, channelBytes, channelFlags, keepsInval, bit}
 use Rattle.plan.specs.Columns.{Column, Signal, noSignal, signalData}
 use Rattle.plan.specs.Geometry.{blockPayload}
 use Rattle.plan.specs.Copies.{kindFH, Copy, copyOf, Attachment}
@@ -134,11 +136,9 @@ cgBytes s memo ps p =
     ++ le 8 0 ++ le 8 (newLink memo (linkAt s (p .column .group .at) 5)) ++ masterLink ps (p .column .master)
     ++ cgData s (p .column)
 
--- "5 becomes 0"
-abbrev pub storedType : Treatment → ℕ → ℕ
-storedType Treatment.keep t = t
-storedType Treatment.omit t = t
-storedType Treatment.asFixed t = 0
+-- "5 becomes 0", or what a table says: "2 store as type 0" (document 02, request 6)
+unfoldable pub storedType : List ℕ → ℕ → ℕ
+storedType table t = ifEq (treatment table t) 2 0 t
 
 -- flag bit 12 is cleared, and bit 1 where no invalidation bit is kept
 abbrev pub cnFlags : ℕ → Bool → ℕ
@@ -146,9 +146,9 @@ cnFlags f true = f - bit 12 f * 4096
 cnFlags f false = f - bit 12 f * 4096 - bit 1 f * 2
 
 -- the 72 data bytes: type, byte offset 0, flags, invalidation bit 0, no attachments; the others as they were
-unfoldable pub cnData : List ℕ → ℕ → ℕ → List ℕ
-cnData s g c =
-    le 1 (storedType (treatment (channelType s c)) (channelType s c)) ++ part (dataAt s c + 1) 3 s ++ le 4 0 ++ part (dataAt s c + 8) 4 s
+unfoldable pub cnData : List ℕ → List ℕ → ℕ → ℕ → List ℕ
+cnData table s g c =
+    le 1 (storedType table (channelType s c)) ++ part (dataAt s c + 1) 3 s ++ le 4 0 ++ part (dataAt s c + 8) 4 s
     ++ le 4 (cnFlags (channelFlags s c) (keepsInval s g c)) ++ le 4 0 ++ part (dataAt s c + 20) 2 s ++ le 2 0 ++ part (dataAt s c + 24) 48 s
 
 -- CN link 6: its SD
@@ -157,13 +157,13 @@ sdLink noSignal a = 0
 sdLink (signalData fs) a = a
 
 -- CN: no next CN, no composition, links 3, 4, 5, 7, 8 led to the copies, its SD
-unfoldable pub cnBytes : List ℕ → List Copy → Placed → List ℕ
-cnBytes s memo p =
+unfoldable pub cnBytes : Rules → List ℕ → List Copy → Placed → List ℕ
+cnBytes o s memo p =
     header kindCN 160 8
     ++ le 8 0 ++ le 8 0 ++ le 8 (newLink memo (linkAt s (p .column .channel) 2)) ++ le 8 (newLink memo (linkAt s (p .column .channel) 3))
     ++ le 8 (newLink memo (linkAt s (p .column .channel) 4)) ++ le 8 (sdLink (p .column .signalOf) (p .sd))
     ++ le 8 (newLink memo (linkAt s (p .column .channel) 6)) ++ le 8 (newLink memo (linkAt s (p .column .channel) 7))
-    ++ cnData s (p .column .group .at) (p .column .channel)
+    ++ cnData (o .table) s (p .column .group .at) (p .column .channel)
 
 -- "24 + payload apart": the places of data blocks
 unfoldable pub blockLinks : ℕ → ℕ → ℕ → List ℕ
@@ -186,11 +186,11 @@ unfoldable pub dlBlocks : List ℕ → ℕ → Placed → List Block
 dlBlocks s size p = ifEq (columnBlocks s size (p .column)) 0 [] (block (dlOf p) (dlBytes s size p) ∷ [])
 
 -- "Then per column DG, CG, CN, and .. DL"; all is the list that master numbers count
-unfoldable pub structureBlocks : List ℕ → ℕ → List Copy → List Placed → List Placed → List Block
-structureBlocks s size memo all [] = []
-structureBlocks s size memo all (p ∷ ps) =
-    block (p .dg) (dgBytes s size memo p (nextDG ps)) ∷ block (cgOf p) (cgBytes s memo all p) ∷ block (cnOf p) (cnBytes s memo p)
-    ∷ (dlBlocks s size p ++ structureBlocks s size memo all ps)
+unfoldable pub structureBlocks : Rules → List ℕ → ℕ → List Copy → List Placed → List Placed → List Block
+structureBlocks o s size memo all [] = []
+structureBlocks o s size memo all (p ∷ ps) =
+    block (p .dg) (dgBytes s size memo p (nextDG ps)) ∷ block (cgOf p) (cgBytes s memo all p) ∷ block (cnOf p) (cnBytes o s memo p)
+    ∷ (dlBlocks s size p ++ structureBlocks o s size memo all ps)
 
 -- ---- data blocks: "Blocks are DT with, DV without, an invalidation byte."
 abbrev pub dataKind : Bool → ℕ

@@ -16,10 +16,10 @@ use Rattle.plan.specs.Data.{isNonempty}
 use Rattle.plan.specs.Copies.{isCopied}
 use Rattle.plan.specs.Layout.{Placed, columnBlocks}
 pub use Rattle.result.specs.Member.{In, here, there}
-use Rattle.result.specs.Recording.{Recorded, Met, SharedRecords, Sorted, IsMaster, Uses, Differs, reasonFor, OmissionDue, Among, filePlaces, signalChannels, SignalDue, signalSize, Followed, isAT, attachedFrom}
+use Rattle.result.specs.Recording.{Recorded, Met, SharedRecords, Sorted, IsMaster, Uses, Differs, Treats, reasonFor, OmissionDue, Among, filePlaces, signalChannels, SignalDue, signalSize, Followed, isAT, attachedFrom}
 use Rattle.result.specs.Payload.{recordsOf, signalBytes}
 use Rattle.result.specs.Fill.{Block}
-use Rattle.result.specs.Result.{Args, Decided, blocksOf}
+use Rattle.result.specs.Result.{Args, rulesOf, Decided, blocksOf}
 use Rattle.result.specs.Ordered.{Close}
 use Rattle.result.specs.Links.{shown}
 use Rattle.result.specs.Due.{dueAll, FrontDue}
@@ -82,9 +82,9 @@ NamesMaster s gs cs c true = c .master ≡ none
 NamesMaster s gs cs c false = MasterDue s gs cs c
 
 -- a time column is its group's master; any other column is of a channel that nothing omits
-abbrev pub Kinded : List ℕ → Column → Bool → Type 0
-Kinded s c true = IsMaster s (c .group .at) (c .group .channels) (c .channel)
-Kinded s c false = reasonFor s (c .group .at) (c .channel) ≡ 0
+abbrev pub Kinded : List ℕ → List ℕ → Column → Bool → Type 0
+Kinded table s c true = IsMaster s (c .group .at) (c .group .channels) (c .channel)
+Kinded table s c false = reasonFor table s (c .group .at) (c .channel) ≡ 0
 
 -- ---- the list
 
@@ -113,7 +113,7 @@ pub record Guaranteed (x : Args) (d : Decided) (f l : List ℕ) : Type 0 where
   -- the planned columns are those placed, in order
   pub planned : columnsPlaced (d .laidOut .placed) ≡ d .planned .columns
   -- followed from the header by links alone, the file shows exactly these, however far one looks; with their fields, payloads, signal data and masters
-  pub shows : (k : ℕ) → length (d .laidOut .placed) ≤ k → shown f k ≡ dueAll (x .image) (x .blockSize) (d .laidOut .placed) (d .laidOut .placed)
+  pub shows : (k : ℕ) → length (d .laidOut .placed) ≤ k → shown f k ≡ dueAll (rulesOf x) (x .image) (x .blockSize) (d .laidOut .placed) (d .laidOut .placed)
   -- the lent identification and HD; HD's comment, and names, units, conversions, sources and comments of every column, however deep one looks
   pub front : FrontDue x f
   pub comment : (k : ℕ) → LinkDue k (x .image) f (d .laidOut .past .chain) (linkAt (x .image) 64 5) (linkAt f 64 5)
@@ -139,10 +139,12 @@ pub record Guaranteed (x : Args) (d : Decided) (f l : List ℕ) : Type 0 where
       → columnsOf c (d .planned .columns) + omissionsOf c (d .planned .omissions) ≡ 1
   pub source : (c : Column) → In c (d .planned .columns)
       → In (c .group) (d .groups) × (isStorage (x .image) (c .group .at) ≡ false) × In (c .channel) (c .group .channels)
+  -- types are treated as the table's bytes say (document 02, request 6)
+  pub treated : Treats (x .table)
   -- a time column is its group's master, any other column has no reason to be omitted
-  pub kinded : (c : Column) → In c (d .planned .columns) → Kinded (x .image) c (c .isTime)
+  pub kinded : (c : Column) → In c (d .planned .columns) → Kinded (x .table) (x .image) c (c .isTime)
   -- an omission is of a channel for its reason, or of a group's CG with reason 1, which each group has whose remote master has another count
-  pub omitted : (o : Omission) → In o (d .planned .omissions) → OmissionDue (x .image) (d .groups) o
+  pub omitted : (o : Omission) → In o (d .planned .omissions) → OmissionDue (x .table) (x .image) (d .groups) o
   pub differing : (g : SrcGroup) → In g (d .groups) → isStorage (x .image) (g .at) ≡ false → Differs (x .image) (d .groups) g
       → In (record { at = g .at; reason = 1 }) (d .planned .omissions)
   -- signal columns and omissions are each in file order; the lent list has the omissions at its front
@@ -160,7 +162,7 @@ pub record Guaranteed (x : Args) (d : Decided) (f l : List ℕ) : Type 0 where
   pub shared : (g : SrcGroup) → In g (d .groups) → 1 < length (g .dataGroup .groups) → SharedRecords (x .image) g
   -- signal data is that of a type 1 channel's SD chain, and lacks no byte
   pub signals : (c : Column) → In c (d .planned .columns)
-      → SignalDue (x .image) (c .channel) (c .signalOf) × (length (signalBytes (x .image) (c .signalOf)) ≡ signalSize (c .signalOf))
+      → SignalDue (x .table) (x .image) (c .channel) (c .signalOf) × (length (signalBytes (x .image) (c .signalOf)) ≡ signalSize (c .signalOf))
   -- ---- "masters are named as planned"
   pub masters : (c : Column) → In c (d .planned .columns) → NamesMaster (x .image) (d .groups) (d .planned .columns) c (c .isTime)
   -- ---- the chains of history and attachments are followed to their end

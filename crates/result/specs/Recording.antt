@@ -1,5 +1,5 @@
 -- The recording's side of the guarantee, in document 01's words: what its links list, and what is due of its channels.
-use Prim.Native.Nat.{ℕ, zero, suc, _+_, _<_}
+use Prim.Native.Nat.{ℕ, zero, suc, _+_, _*_, _≤_, _<_}
 use mathlib.Core.Bool.{Bool, true, false}
 use mathlib.Core.List.{List, [], _∷_, _++_}
 use mathlib.Core.Option.{Option, none, some}
@@ -14,6 +14,7 @@ use Rattle.mdf.specs.Chain.{Kind, Fragment, Chain.records, Chain.signal, found,
 use Rattle.mdf.specs.Group.{Group, DataGroup, addresses, recordId, samples, invalBytes, isStorage}
 use Rattle.mdf.specs.Records.{joined, idBytes, sizeOf, Frame, unsortedRecords}
 use Rattle.mdf.specs.Walk.{cg, cn, Source, idSize}
+use Rattle.plan.specs.Table.{treatment}
 use Rattle.plan.specs.Channel.{channelType, fits, isMasterType, both}
 use Rattle.plan.specs.Columns.{kindCA, SrcGroup, remoteLink, Signal, noSignal, signalData, Column, Omission}
 use Rattle.plan.specs.Copies.{kindAT, Attachment}
@@ -159,23 +160,40 @@ Differs s gs g = (t : SrcGroup) × (m : ℕ) × Remote s gs g t m × (t .records
 unfoldable pub leadsTo : List ℕ → ℕ → ℕ → Bool
 leadsTo s a k = ifEq a 0 false (eqb (kindAt s a) k)
 
+-- what a table says of types, by its bytes: "a count byte n from 1 to 7, then n type bytes, then n treatment bytes: 0 keep, 1 omit, 2 store as type 0";
+-- "Omissions made by a table carry reason 8"; "Types not listed keep the built-in treatment": "type 4 is omitted, 5 becomes 0, others are kept"; types 2 and 3
+-- are always kept
+pub record Treats (table : List ℕ) : Type 0 where
+  pub sized : (length table ≡ 0) ⊎ ((1 ≤ getD table 0 0) × (getD table 0 0 ≤ 7) × (length table ≡ 1 + 2 * getD table 0 0))
+  pub listed : (k : ℕ) → k < getD table 0 0 → getD table (1 + getD table 0 0 + k) 0 ≤ 2
+  pub kept : (k : ℕ) → k < getD table 0 0 → getD table (1 + getD table 0 0 + k) 0 ≡ 0 → treatment table (getD table (1 + k) 0) ≡ 0
+  pub omitted : (k : ℕ) → k < getD table 0 0 → getD table (1 + getD table 0 0 + k) 0 ≡ 1 → treatment table (getD table (1 + k) 0) ≡ 8
+  pub stored : (k : ℕ) → k < getD table 0 0 → getD table (1 + getD table 0 0 + k) 0 ≡ 2 → treatment table (getD table (1 + k) 0) ≡ 2
+  pub unlisted : (t : ℕ) → ((k : ℕ) → k < getD table 0 0 → getD table (1 + k) 0 ≡ t → ⊥) → treatment table t ≡ ifEq t 4 4 (ifEq t 5 2 0)
+  pub masters : (t : ℕ) → (t ≡ 2) ⊎ (t ≡ 3) → treatment table t ≡ 0
+
+-- "A type 1 channel stored as type 0 loses its signal data, its source being nothing": whether a channel's link 6 is about signal data
+unfoldable pub hasSignal : List ℕ → List ℕ → ℕ → Bool
+hasSignal table s c = both (eqb (channelType s c) 1) (pick (eqb (treatment table (channelType s c)) 2) false true)
+
 -- why a channel of the group with its CG at g is omitted, 0 where it isn't: "Reasons, tested in this order: .. 2 doesn't fit; 3 further master;
--- 4 type 4; 5 array, CN link 2 leads to CA; 6 structure, it leads to CN; 7 type 1 whose CN link 6 leads to a CG"
-unfoldable pub reasonFor : List ℕ → ℕ → ℕ → ℕ
-reasonFor s g c =
+-- 4 type 4; 5 array, CN link 2 leads to CA; 6 structure, it leads to CN; 7 type 1 whose CN link 6 leads to a CG"; 8 by a table, "tested after reason 7"
+unfoldable pub reasonFor : List ℕ → List ℕ → ℕ → ℕ → ℕ
+reasonFor table s g c =
     pick (fits s g c)
     (pick (isMasterType s c) 3
-    (ifEq (channelType s c) 4 4
+    (ifEq (treatment table (channelType s c)) 4 4
     (pick (leadsTo s (linkAt s c 1) kindCA) 5
     (pick (leadsTo s (linkAt s c 1) kindCN) 6
-    (pick (both (eqb (channelType s c) 1) (leadsTo s (linkAt s c 5) kindCG)) 7 0)))))
+    (pick (both (hasSignal table s c) (leadsTo s (linkAt s c 5) kindCG)) 7
+    (ifEq (treatment table (channelType s c)) 8 8 0))))))
     2
 
 -- an omission is of a channel for its reason, or of a group: "1 remote master with another count (address of the group's own CG ..)"
-pub data OmissionDue (s : List ℕ) (gs : List SrcGroup) (o : Omission) : Type 0 where
-  ofChannel : (g : SrcGroup) → In g gs → isStorage s (g .at) ≡ false → In (o .at) (g .channels) → o .reason ≡ reasonFor s (g .at) (o .at)
-      → (o .reason ≡ 0 → ⊥) → OmissionDue s gs o
-  ofGroup : (g : SrcGroup) → In g gs → isStorage s (g .at) ≡ false → o .at ≡ g .at → o .reason ≡ 1 → Differs s gs g → OmissionDue s gs o
+pub data OmissionDue (table s : List ℕ) (gs : List SrcGroup) (o : Omission) : Type 0 where
+  ofChannel : (g : SrcGroup) → In g gs → isStorage s (g .at) ≡ false → In (o .at) (g .channels) → o .reason ≡ reasonFor table s (g .at) (o .at)
+      → (o .reason ≡ 0 → ⊥) → OmissionDue table s gs o
+  ofGroup : (g : SrcGroup) → In g gs → isStorage s (g .at) ≡ false → o .at ≡ g .at → o .reason ≡ 1 → Differs s gs g → OmissionDue table s gs o
 
 -- the list is the other with some left out
 pub data Among : List ℕ → List ℕ → Type 0 where
@@ -195,9 +213,9 @@ signalChannels (c ∷ cs) = pick (c .isTime) [] (c .channel ∷ []) ++ signalCha
 
 -- the signal data of channel c: "source is the joined data of a type 1 channel's SD chain, else nothing", "Any other nonzero link 6 of type 1 is an
 -- SD chain"; n fragments were found before the chain
-abbrev pub SignalDue : List ℕ → ℕ → Signal → Type 0
-SignalDue s c noSignal = channelType s c ≡ 1 → linkAt s c 5 ≡ 0
-SignalDue s c (signalData fs) = (channelType s c ≡ 1) × (n : ℕ) × (chain signal limits s n (linkAt s c 5) ≡ found fs)
+abbrev pub SignalDue : List ℕ → List ℕ → ℕ → Signal → Type 0
+SignalDue table s c noSignal = hasSignal table s c ≡ true → linkAt s c 5 ≡ 0
+SignalDue table s c (signalData fs) = (hasSignal table s c ≡ true) × (n : ℕ) × (chain signal limits s n (linkAt s c 5) ≡ found fs)
 
 -- bookkeeping: its bytes
 abbrev pub signalSize : Signal → ℕ

@@ -14,7 +14,7 @@ use Rattle.mdf.specs.Count.{counts}
 use Rattle.plan.specs.Columns.{SrcGroup, srcGroups, Column, Signal, noSignal, signalData, Plan, plan, omissionWords}
 use Rattle.plan.specs.Data.{allDataIn, blocksIn}
 use Rattle.plan.specs.Copies.{Copy}
-use Rattle.plan.specs.Rules.{Rules, unitIn}
+use Rattle.plan.specs.Rules.{Rules, choicesIn}
 use Rattle.plan.specs.Layout.{Layout, layout, columnBlocks}
 use Rattle.result.specs.Fill.{Block, block, newLink, copiedBlocks, mdBytes, fhBytes, nextDG, structureBlocks, dataBlocks, nextAttachment, attachmentBlocks, hdBytes}
 
@@ -27,14 +27,11 @@ pub record Args : Type 0 where
   pub time : ℕ
   -- document 02's choices
   pub unit : ℕ
+  pub table : List ℕ
 
 -- bookkeeping: what is chosen, as the definitions use it
 abbrev pub rulesOf : Args → Rules
-rulesOf x = record { unit = x .unit }
-
--- "26 .. follows 2" (document 02, request 5)
-unfoldable pub choicesIn : Args → Verdict
-choicesIn x = unitIn (x .unit)
+rulesOf x = record { unit = x .unit; table = x .table }
 
 -- ---- the file
 
@@ -60,7 +57,7 @@ blocksOf x l =
     ∷ (copiedBlocks (x .image) (l .past .chain) (memoOf l) (l .fh) (l .past .made .memo)
     ++ (block (l .md) (mdBytes (x .text)) ∷ block (l .fh) (fhBytes (l .md) (x .time))
     ∷ (copiedBlocks (x .image) (l .past .chain) (memoOf l) (l .fh) (drop (length (l .past .made .memo)) (l .metadata .memo))
-    ++ (structureBlocks (x .image) (x .blockSize) (memoOf l) (l .placed) (l .placed)
+    ++ (structureBlocks (rulesOf x) (x .image) (x .blockSize) (memoOf l) (l .placed) (l .placed)
     ++ (dataBlocks (x .image) (x .blockSize) (l .placed)
     ++ attachmentBlocks (x .image) (l .past .chain) (memoOf l) (l .fh) (l .attached .attachments))))))
 
@@ -142,12 +139,12 @@ unfoldable pub decided : Args → Checked Decided
 decided x =
     andThen (lentIn x) (λ _.
     andThen (ifEq (x .blockSize) 0 (refused 2 0) fine) (λ _.
-    andThen (choicesIn x) (λ _.
+    andThen (choicesIn (rulesOf x)) (λ _.
     andThen (ifLt 4294967296 (length (x .image)) (refused 3 0) fine) (λ _.
     andThen (identified (x .image)) (λ _.
     andThen (walk (x .image)) (λ st.
     andThen (counts (x .image) (dataGroups st)) (λ ns.
-    andThen (plan (x .image) (length (st .fragments)) (srcGroups (dataGroups st) ns)) (λ p.
+    andThen (plan (rulesOf x) (x .image) (length (st .fragments)) (srcGroups (dataGroups st) ns)) (λ p.
     andThen (allDataIn (x .image) (p .columns) (dataGroups st)) (λ _.
     andThen (blocksIn (x .image) (x .blockSize) (p .columns)) (λ _.
     andThen (layout (rulesOf x) (x .image) (x .blockSize) (length (x .text)) (p .columns)) (λ l.

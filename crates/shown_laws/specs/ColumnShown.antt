@@ -20,13 +20,15 @@ use Rattle.mdf.specs.Chain.{Chain.records, Chain.signal, leaf, leafOf, found, c
 use Rattle.mdf.specs.Group.{recordId, groupFlags, samples, invalBytes}
 use Rattle.mdf.specs.Records.{joined}
 use Rattle.mdf.specs.Walk.{idSize}
+use Rattle.plan.specs.Rules.{Rules}
+use Rattle.plan.specs.Table.{treatment}
 use Rattle.plan.specs.Channel.{channelType, bitOffset, byteOffset, bitCount, channelFlags, invalPosition, bit, both, keepsInval}
 use Rattle.plan.specs.Columns.{Column, Signal, noSignal, signalData, remoteLink}
 use Rattle.plan.specs.Copies.{Copy}
 use Rattle.plan.specs.Layout.{Placed, cgOf, cnOf, dlOf, cgSize, dlSize, columnWidth, columnBlocks}
 use Rattle.result.specs.Payload.{payloads, columnPayloads, signalBytes}
 use Rattle.result.specs.Fill.{Block, block, header, words, dgBytes, cgBytes, cnBytes, cnData, dlBytes, dlBlocks, payloadBlocks, sdBlocks}
-use Rattle.result.specs.Fill.{sdLink, blockLinks, columnPayload, cgAt, cgFlags, cgData, cnFlags, one, dataKind}
+use Rattle.result.specs.Fill.{sdLink, blockLinks, columnPayload, cgAt, cgFlags, cgData, storedType, cnFlags, one, dataKind}
 use Rattle.mdf.specs.Chain.{fileLimits}
 use Rattle.result.specs.Links.{headAt, groupFields, channelFields, listAt, listShown, shownAt}
 use Rattle.result.specs.Due.{
@@ -44,6 +46,7 @@ use Rattle.result.specs.Due.{
   channelFlagsDue,
   keptByte,
   groupDue,
+  typeDue,
   channelDue,
   due,
 }
@@ -299,15 +302,16 @@ kept-bit s g c e = go (eqb (bit 0 (channelFlags s c)) 0) (eqb (bit 1 (channelFla
     go true false t q h = absurd (false≢true h)
     go false b t q h = absurd (false≢true h)
 
-type-small : (t : ℕ) → t < 256 → ifEq t 5 0 t < 256
-type-small t h = choice-small t 5 0 t 256 (lit< tt) h
+type-small : (table : List ℕ) (t : ℕ) → t < 256 → storedType table t < 256
+unfolding storedType
+type-small table t h = choice-small (treatment table t) 2 0 t 256 (lit< tt) h
 
 channel-flags-small : (g : ℕ) (t : Bool) → g < 256 ^ 4 → cnFlags g t < 256 ^ 4
 channel-flags-small g true h = omega arith
 channel-flags-small g false h = omega arith
 
-module _ {f : List ℕ} (s : List ℕ) (image : (i : ℕ) → getD s i 0 < 256) (q : Column) (inside : dataAt s (q .channel) + 72 ≤ length s) (cn : ℕ)
-    (st : Stands f (dataAt f cn) (cnData s (q .group .at) (q .channel))) where
+module _ {f : List ℕ} (table s : List ℕ) (image : (i : ℕ) → getD s i 0 < 256) (q : Column) (inside : dataAt s (q .channel) + 72 ≤ length s) (cn : ℕ)
+    (st : Stands f (dataAt f cn) (cnData table s (q .group .at) (q .channel))) where
   three : length (part (dataAt s (q .channel) + 1) 3 s) ≡ 3
   three = length-part _ 3 s (omega arith)
 
@@ -320,13 +324,11 @@ module _ {f : List ℕ} (s : List ℕ) (image : (i : ℕ) → getD s i 0 < 256) 
   many : length (part (dataAt s (q .channel) + 24) 48 s) ≡ 48
   many = length-part _ 48 s (omega arith)
 
-  cn-type : channelType f cn ≡ ifEq (channelType s (q .channel)) 5 0 (channelType s (q .channel))
+  cn-type : channelType f cn ≡ typeDue table (channelType s (q .channel))
   unfolding cnData channelType
   cn-type =
-      let small : ifEq (leAt 1 s (dataAt s (q .channel))) 5 0 (leAt 1 s (dataAt s (q .channel))) < 256 =
-      type-small _ (field-below s image 1 (dataAt s (q .channel))) in
-      let e = stored-type (leAt 1 s (dataAt s (q .channel))) in
-      read-type _ _ _ _ _ _ three four two st (rw e small) ∙ e
+      read-type _ _ _ _ _ _ three four two st (type-small table _ (field-below s image 1 (dataAt s (q .channel))))
+      ∙ stored-type table (leAt 1 s (dataAt s (q .channel)))
 
   -- sync type, data type and bit offset; bit count; precision: as they were
   cn-three : (i x y : ℕ) → i + 1 ≤ 3 → dataAt f cn + 1 + i ≡ x → dataAt s (q .channel) + 1 + i ≡ y → leAt 1 f x ≡ leAt 1 s y
@@ -352,7 +354,7 @@ module _ {f : List ℕ} (s : List ℕ) (image : (i : ℕ) → getD s i 0 < 256) 
   unfolding cnData
   cn-ranges = rw many at (many-stands _ _ _ _ _ _ three four two st .is)
 
-  pub channel-read : channelFields f cn ≡ channelDue s q
+  pub channel-read : channelFields f cn ≡ channelDue table s q
   unfolding channelFields channelDue bitOffset byteOffset bitCount invalPosition cnData
   channel-read =
       rw (
@@ -369,7 +371,7 @@ module _ {f : List ℕ} (s : List ℕ) (image : (i : ℕ) → getD s i 0 < 256) 
         cn-ranges,
       )
 
--- ---- DG, CG and CN of a column
+-- ---- DG and CG of a column
 module _ {f : List ℕ} (s : List ℕ) (size : ℕ) (memo : List Copy) (all : List Placed) (p : Placed) (next : ℕ) (k : ColumnSound s size p) where
   module _ (st : Stands f (p .dg) (dgBytes s size memo p next)) where
     dg-stands : Stands f (p .dg) (header kindDG 64 (length (dgLinks s size memo p next)) ++ words (dgLinks s size memo p next) ++ le 8 0)
@@ -485,54 +487,56 @@ module _ {f : List ℕ} (s : List ℕ) (size : ℕ) (memo : List Copy) (all : Li
         (λ z. block-link kindCG (cgSize (p .column .master)) (cgWords s memo all p) _ cg-stands 6 (omega arith)
         (word-small all (p .column .master) h))
 
-  module _ (st : Stands f (cnOf p) (cnBytes s memo p)) where
-    cn-stands : Stands f (cnOf p)
-        (header kindCN 160 (length (cnLinks s memo p)) ++ words (cnLinks s memo p) ++ cnData s (p .column .group .at) (p .column .channel))
-    cn-stands = rw (cn-shape s memo p) at st
+-- ---- its CN
+module _ {f : List ℕ} (o : Rules) (s : List ℕ) (size : ℕ) (memo : List Copy) (p : Placed) (k : ColumnSound s size p)
+    (st : Stands f (cnOf p) (cnBytes o s memo p)) where
+  cn-stands : Stands f (cnOf p)
+      (header kindCN 160 (length (cnLinks s memo p)) ++ words (cnLinks s memo p) ++ cnData (o .table) s (p .column .group .at) (p .column .channel))
+  cn-stands = rw (cn-shape o s memo p) at st
 
-    pub cn-link : (i : ℕ) → i < 8 → getD (cnLinks s memo p) i 0 < 256 ^ 8 → linkAt f (cnOf p) i ≡ getD (cnLinks s memo p) i 0
-    unfolding cnLinks
-    cn-link i h b = block-link kindCN 160 (cnLinks s memo p) _ cn-stands i h b
+  pub cn-link : (i : ℕ) → i < 8 → getD (cnLinks s memo p) i 0 < 256 ^ 8 → linkAt f (cnOf p) i ≡ getD (cnLinks s memo p) i 0
+  unfolding cnLinks
+  cn-link i h b = block-link kindCN 160 (cnLinks s memo p) _ cn-stands i h b
 
-    pub cn-head : headAt f (cnOf p) ≡ record { kind = kindCN; size = 160; links = 8 }
-    unfolding headAt cnLinks
-    cn-head =
-        rw (
-          block-kind kindCN 160 (cnLinks s memo p) _ cn-stands (lit< tt),
-          block-size kindCN 160 (cnLinks s memo p) _ cn-stands (lit< tt),
-          block-links kindCN 160 (cnLinks s memo p) _ cn-stands (lit< tt),
-        )
+  pub cn-head : headAt f (cnOf p) ≡ record { kind = kindCN; size = 160; links = 8 }
+  unfolding headAt cnLinks
+  cn-head =
+      rw (
+        block-kind kindCN 160 (cnLinks s memo p) _ cn-stands (lit< tt),
+        block-size kindCN 160 (cnLinks s memo p) _ cn-stands (lit< tt),
+        block-links kindCN 160 (cnLinks s memo p) _ cn-stands (lit< tt),
+      )
 
-    pub cn-next : linkAt f (cnOf p) 0 ≡ 0
-    unfolding cnLinks
-    cn-next = block-link kindCN 160 (cnLinks s memo p) _ cn-stands 0 (lit< tt) (lit< tt)
+  pub cn-next : linkAt f (cnOf p) 0 ≡ 0
+  unfolding cnLinks
+  cn-next = block-link kindCN 160 (cnLinks s memo p) _ cn-stands 0 (lit< tt) (lit< tt)
 
-    pub cn-composition : linkAt f (cnOf p) 1 ≡ 0
-    unfolding cnLinks
-    cn-composition = block-link kindCN 160 (cnLinks s memo p) _ cn-stands 1 (lit< tt) (lit< tt)
+  pub cn-composition : linkAt f (cnOf p) 1 ≡ 0
+  unfolding cnLinks
+  cn-composition = block-link kindCN 160 (cnLinks s memo p) _ cn-stands 1 (lit< tt) (lit< tt)
 
-    cn-fields : Stands f (dataAt f (cnOf p)) (cnData s (p .column .group .at) (p .column .channel))
-    unfolding cnLinks
-    cn-fields = block-data kindCN 160 (cnLinks s memo p) _ cn-stands (lit< tt)
+  cn-fields : Stands f (dataAt f (cnOf p)) (cnData (o .table) s (p .column .group .at) (p .column .channel))
+  unfolding cnLinks
+  cn-fields = block-data kindCN 160 (cnLinks s memo p) _ cn-stands (lit< tt)
 
-    pub channel-shown : channelFields f (cnOf p) ≡ channelDue s (p .column)
-    channel-shown = channel-read s (k .image) (p .column) (k .channelIn) (cnOf p) cn-fields
+  pub channel-shown : channelFields f (cnOf p) ≡ channelDue (o .table) s (p .column)
+  channel-shown = channel-read (o .table) s (k .image) (p .column) (k .channelIn) (cnOf p) cn-fields
 
-    pub cn-sd : linkAt f (cnOf p) 5 ≡ sdLink (p .column .signalOf) (p .sd)
-    unfolding cnLinks
-    cn-sd =
-        block-link kindCN 160 (cnLinks s memo p) _ cn-stands 5 (lit< tt) (sd-small (p .column .signalOf) (p .sd) _ (omega (arith, k .sdEnds)))
+  pub cn-sd : linkAt f (cnOf p) 5 ≡ sdLink (p .column .signalOf) (p .sd)
+  unfolding cnLinks
+  cn-sd =
+      block-link kindCN 160 (cnLinks s memo p) _ cn-stands 5 (lit< tt) (sd-small (p .column .signalOf) (p .sd) _ (omega (arith, k .sdEnds)))
 
 -- what links show of a column whose blocks stand is what is due
-pub column-shown : {f : List ℕ} (s : List ℕ) (size : ℕ) (memo : List Copy) (all : List Placed) (p : Placed) (next : ℕ)
+pub column-shown : {f : List ℕ} (o : Rules) (s : List ℕ) (size : ℕ) (memo : List Copy) (all : List Placed) (p : Placed) (next : ℕ)
     → ColumnSound s size p → ((m : ℕ) → cgAt m all < 256 ^ 8)
-    → Stands f (p .dg) (dgBytes s size memo p next) → Stands f (cgOf p) (cgBytes s memo all p) → Stands f (cnOf p) (cnBytes s memo p)
+    → Stands f (p .dg) (dgBytes s size memo p next) → Stands f (cgOf p) (cgBytes s memo all p) → Stands f (cnOf p) (cnBytes o s memo p)
     → ((b : Block) → In b (dlBlocks s size p) → Stands f (b .at) (b .bytes))
     → ((b : Block) → In b (blocksAt s size p) → Stands f (b .at) (b .bytes))
     → ((b : Block) → In b (sdBlocks s (p .column .signalOf) (p .sd)) → Stands f (b .at) (b .bytes))
-    → shownAt f (p .dg) ≡ due s size all p
+    → shownAt f (p .dg) ≡ due o s size all p
 unfolding shownAt due
-column-shown {f} s size memo all p next k h dg cg cn list blocks sd =
+column-shown {f} o s size memo all p next k h dg cg cn list blocks sd =
     rw (
       dg-cg s size memo all p next k dg,
       cg-cn s size memo all p next k cg,
@@ -543,15 +547,15 @@ column-shown {f} s size memo all p next k h dg cg cn list blocks sd =
       cg-reductions s size memo all p next k cg,
       group-shown s size memo all p next k cg,
       cg-master s size memo all p next k cg h,
-      cn-head s size memo all p next k cn,
-      cn-next s size memo all p next k cn,
-      cn-composition s size memo all p next k cn,
-      channel-shown s size memo all p next k cn,
+      cn-head o s size memo p k cn,
+      cn-next o s size memo p k cn,
+      cn-composition o s size memo p k cn,
+      channel-shown o s size memo p k cn,
       dg-dl s size memo all p next k dg,
       list-shown s size p k list,
       column-chain s size p k list blocks 0 (omega (arith, k .few)),
       column-joined s size p k list blocks,
-      cn-sd s size memo all p next k cn,
+      cn-sd o s size memo p k cn,
       signal-chain s (p .column .signalOf) (p .sd) 0 (k .sdAbove) (k .sdEnds) sd (lit< tt),
       signal-joined s (p .column .signalOf) (p .sd) sd,
     )

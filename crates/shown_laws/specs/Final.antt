@@ -7,7 +7,7 @@ use Rattle.base.specs.Blit.{blit, part}
 use Rattle.plan.specs.Layout.{Layout, Placed}
 use Rattle.result.specs.Fill.{Block}
 use Rattle.result.specs.Ordered.{Ordered}
-use Rattle.result.specs.Result.{Args, blocksOf, fileOf}
+use Rattle.result.specs.Result.{Args, rulesOf, blocksOf, fileOf}
 use Rattle.result.specs.Links.{shown}
 use Rattle.result.specs.Due.{dueAll}
 use Rattle.result.specs.Guarantee.{Stands, In, AllApart}
@@ -38,5 +38,5 @@ module _ (x : Args) (l : Layout) (out : List ℕ) (order : Ordered 0 (blocksOf x
 
     -- read by links it shows exactly what is due
     pub file-shows : ((p : Placed) → In p (l .placed) → ColumnSound (x .image) (x .blockSize) p) → (k : ℕ) → length (l .placed) ≤ k
-        → shown (blit 0 (fileOf x l) out) k ≡ dueAll (x .image) (x .blockSize) (l .placed) (l .placed)
+        → shown (blit 0 (fileOf x l) out) k ≡ dueAll (rulesOf x) (x .image) (x .blockSize) (l .placed) (l .placed)
     file-shows columns k h = shows-due x l (record { stands = file-filled; columns = columns }) k h

@@ -5,19 +5,19 @@ use mathlib.Core.List.{List, [], _∷_, _++_, append-assoc, append-nil}
 use mathlib.Core.Option.{Option, none, some}
 use Prim.Native.Nat.{ℕ, _+_, _*_, _/_, _%_, _^_, _<_}
 use native.Mathlib.Omega.{arith}
-use lib.Dec.{lit<, eqb}
-use borrow.Author.Tests.{eqb-true}
+use lib.Dec.{lit<}
 use lib.ListN.{length, length-append}
 use Rattle.base.specs.Choice.{pick, ifEq}
 use Rattle.base.specs.Field.{leAt, le}
 use Rattle.base.specs.FieldLaws.{length-le}
 use Rattle.mdf.specs.Block.{kindHD, kindDG, kindCG, kindCN, linkAt}
-use Rattle.plan.specs.Channel.{bit, Treatment, treatment}
+use Rattle.plan.specs.Rules.{Rules}
+use Rattle.plan.specs.Channel.{bit}
 use Rattle.plan.specs.Copies.{Copy}
 use Rattle.plan.specs.Layout.{Placed, cgOf, cnOf, dlOf, cgLinks, cgSize, columnBlocks}
 use Rattle.result.specs.Fill.{header, words, newLink, dgBytes, cgBytes, cnBytes, hdBytes, hdData, cgAt, cgFlags, masterLink, cgData, cnData}
 use Rattle.result.specs.Fill.{sdLink, cnFlags, storedType}
-use Rattle.result.specs.Due.{groupFlagsDue, channelFlagsDue}
+use Rattle.result.specs.Due.{groupFlagsDue, channelFlagsDue, typeDue}
 use Rattle.result.specs.Guarantee.{Stands}
 use Rattle.shown_laws.specs.Standing.{stands-front, stands-at, read}
 
@@ -71,11 +71,11 @@ cnLinks s memo p =
     ∷ newLink memo (linkAt s (p .column .channel) 4) ∷ sdLink (p .column .signalOf) (p .sd)
     ∷ newLink memo (linkAt s (p .column .channel) 6) ∷ newLink memo (linkAt s (p .column .channel) 7) ∷ []
 
-pub cn-shape : (s : List ℕ) (memo : List Copy) (p : Placed)
-    → cnBytes s memo p
-    ≡ header kindCN 160 (length (cnLinks s memo p)) ++ words (cnLinks s memo p) ++ cnData s (p .column .group .at) (p .column .channel)
+pub cn-shape : (o : Rules) (s : List ℕ) (memo : List Copy) (p : Placed)
+    → cnBytes o s memo p
+    ≡ header kindCN 160 (length (cnLinks s memo p)) ++ words (cnLinks s memo p) ++ cnData (o .table) s (p .column .group .at) (p .column .channel)
 unfolding cnBytes cnLinks words
-cn-shape s memo p = simp (append-assoc, append-nil)
+cn-shape o s memo p = simp (append-assoc, append-nil)
 
 -- ---- the data of a new CG: records r, flags g, path separator, data bytes n, invalidation bytes i
 module _ {f : List ℕ} {a : ℕ} (r g n i : ℕ) (two : List ℕ)
@@ -187,14 +187,7 @@ channel-flags g false h =
     let r : g / 4096 / 2 ≡ g / 8192 = omega arith in
     omega arith
 
--- ---- the type of a new CN: "5 becomes 0"
-pub stored-type : (t : ℕ) → storedType (treatment t) t ≡ ifEq t 5 0 t
-unfolding treatment ifEq
-stored-type t = go (eqb t 4) (eqb t 5) refl refl
-  where
-    go : (a b : Bool) → eqb t 4 ≡ a → eqb t 5 ≡ b
-        → storedType (pick a Treatment.omit (pick b Treatment.asFixed Treatment.keep)) t ≡ pick b 0 t
-    go true true e k = absurd (omega (arith, eqb-true t 4 e, eqb-true t 5 k))
-    go true false e k = refl
-    go false true e k = refl
-    go false false e k = refl
+-- ---- the type of a new CN: "5 becomes 0", or "2 store as type 0" by a table
+pub stored-type : (table : List ℕ) (t : ℕ) → storedType table t ≡ typeDue table t
+unfolding storedType typeDue ifEq
+stored-type table t = refl

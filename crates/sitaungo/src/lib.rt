@@ -7,6 +7,7 @@ use writing::convert::Converted;
 use writing::convert::convert;
 ghost use mathlib.Core.Path.{_≡_};
 ghost use lib.ListN.{length};
+ghost use Rattle.plan.specs.Rules.{builtIn};
 ghost use Rattle.result.specs.Result as result;
 ghost use Rattle.placing.specs.Decision.{untimed, four};
 ghost use Rattle.writing.specs.Answer.{args, Bytes, Promised};
@@ -45,7 +46,9 @@ pub struct ColumnOptions {
     pub unit: u64,
 }
 
-// One recording into one file, by what is chosen: `convert` of the crate writing.
+// One recording into one file, by what is chosen: `convert` of the crate writing. `types` is the table of treatments: no bytes, or a count n
+// from 1 to 7, then n channel types, then n treatments: 0 keep, 1 omit, 2 store as type 0. Types that it doesn't list are treated as built in:
+// 4 is omitted, 5 stored as type 0, any other kept.
 #[no_mangle]
 pub extern "C" fn sitaungo_convert_with(
     image: &[u8],
@@ -54,6 +57,7 @@ pub extern "C" fn sitaungo_convert_with(
     text: &[u8],
     time: u64,
     options: ColumnOptions,
+    types: &[u8],
     source: &mut [u64],
     fragments: &mut [u64],
     columns: &mut [u64],
@@ -63,12 +67,12 @@ pub extern "C" fn sitaungo_convert_with(
 ) -> Outcome
     ensures done { λ r. ⌜ left r (now (out .exit)) (now (list .exit))
         (four (now (source .exit)) (now (fragments .exit)) (now (columns .exit)) (now (copies .exit)))
-        ≡ exported (result.convert (args (now (image .entry)) size (now (ident .entry)) (now (text .entry)) time (record { unit = options .unit })) (now (out .entry)) (now (list .entry))
+        ≡ exported (result.convert (args (now (image .entry)) size (now (ident .entry)) (now (text .entry)) time (record { unit = options .unit; table = now (types .entry) })) (now (out .entry)) (now (list .entry))
         (four (now (source .entry)) (now (fragments .entry)) (now (columns .entry)) (now (copies .entry)))) ⌝ }
-    ensures promised { λ _. ⌜ Promised (args (now (image .entry)) size (now (ident .entry)) (now (text .entry)) time (record { unit = options .unit }))
+    ensures promised { λ _. ⌜ Promised (args (now (image .entry)) size (now (ident .entry)) (now (text .entry)) time (record { unit = options .unit; table = now (types .entry) }))
         (length (now (out .entry))) (length (now (list .entry)))
         (four (now (source .entry)) (now (fragments .entry)) (now (columns .entry)) (now (copies .entry))) (now (out .exit)) (now (list .exit)) ⌝ }
-    ensures readable { λ _. ⌜ Readable (args (now (image .entry)) size (now (ident .entry)) (now (text .entry)) time (record { unit = options .unit }))
+    ensures readable { λ _. ⌜ Readable (args (now (image .entry)) size (now (ident .entry)) (now (text .entry)) time (record { unit = options .unit; table = now (types .entry) }))
         (length (now (out .entry))) (length (now (list .entry)))
         (four (now (source .entry)) (now (fragments .entry)) (now (columns .entry)) (now (copies .entry))) (now (out .exit)) ⌝ }
 {
@@ -81,6 +85,7 @@ pub extern "C" fn sitaungo_convert_with(
         text,
         time,
         Choices { unit: options.unit },
+        types,
         source,
         fragments,
         columns,
@@ -116,7 +121,7 @@ pub extern "C" fn sitaungo_convert_with(
     }
 }
 
-// One recording into one file, by what is built in: unit 8.
+// One recording into one file, by what is built in: unit 8, no table.
 #[no_mangle]
 pub extern "C" fn sitaungo_convert(
     image: &[u8],
@@ -133,12 +138,12 @@ pub extern "C" fn sitaungo_convert(
 ) -> Outcome
     ensures done { λ r. ⌜ left r (now (out .exit)) (now (list .exit))
         (four (now (source .exit)) (now (fragments .exit)) (now (columns .exit)) (now (copies .exit)))
-        ≡ exported (result.convert (args (now (image .entry)) size (now (ident .entry)) (now (text .entry)) time (record { unit = 8 })) (now (out .entry)) (now (list .entry))
+        ≡ exported (result.convert (args (now (image .entry)) size (now (ident .entry)) (now (text .entry)) time builtIn) (now (out .entry)) (now (list .entry))
         (four (now (source .entry)) (now (fragments .entry)) (now (columns .entry)) (now (copies .entry)))) ⌝ }
-    ensures promised { λ _. ⌜ Promised (args (now (image .entry)) size (now (ident .entry)) (now (text .entry)) time (record { unit = 8 }))
+    ensures promised { λ _. ⌜ Promised (args (now (image .entry)) size (now (ident .entry)) (now (text .entry)) time builtIn)
         (length (now (out .entry))) (length (now (list .entry)))
         (four (now (source .entry)) (now (fragments .entry)) (now (columns .entry)) (now (copies .entry))) (now (out .exit)) (now (list .exit)) ⌝ }
-    ensures readable { λ _. ⌜ Readable (args (now (image .entry)) size (now (ident .entry)) (now (text .entry)) time (record { unit = 8 }))
+    ensures readable { λ _. ⌜ Readable (args (now (image .entry)) size (now (ident .entry)) (now (text .entry)) time builtIn)
         (length (now (out .entry))) (length (now (list .entry)))
         (four (now (source .entry)) (now (fragments .entry)) (now (columns .entry)) (now (copies .entry))) (now (out .exit)) ⌝ }
 {
@@ -149,6 +154,7 @@ pub extern "C" fn sitaungo_convert(
         text,
         time,
         ColumnOptions { unit: 8 },
+        b"",
         source,
         fragments,
         columns,
@@ -158,7 +164,8 @@ pub extern "C" fn sitaungo_convert(
     )
 }
 
-// The listing of a recording's conversion, by what is chosen, into an output of so many bytes and a list of so many words, and its length: `list` of the crate listing.
+// The listing of a recording's conversion, by what is chosen, with `types` as above, into an output of so many bytes and a list of so many words,
+// and its length: `list` of the crate listing.
 #[no_mangle]
 pub extern "C" fn sitaungo_list_with(
     image: &[u8],
@@ -166,6 +173,7 @@ pub extern "C" fn sitaungo_list_with(
     ident: &[u8],
     text: &[u8],
     options: ColumnOptions,
+    types: &[u8],
     out: u64,
     list_words: u64,
     source: &mut [u64],
@@ -174,7 +182,7 @@ pub extern "C" fn sitaungo_list_with(
     copies: &mut [u64],
     lines: &mut [u8],
 ) -> usize
-    ensures { λ r. ⌜ Listed (untimed (now (image .entry)) size (now (ident .entry)) (now (text .entry)) (record { unit = options .unit })) out «list_words»
+    ensures { λ r. ⌜ Listed (untimed (now (image .entry)) size (now (ident .entry)) (now (text .entry)) (record { unit = options .unit; table = now (types .entry) })) out «list_words»
         (four (now (source .entry)) (now (fragments .entry)) (now (columns .entry)) (now (copies .entry))) (now (lines .entry))
         r (now (lines .exit)) (four (now (source .exit)) (now (fragments .exit)) (now (columns .exit)) (now (copies .exit))) ⌝ }
 {
@@ -185,6 +193,7 @@ pub extern "C" fn sitaungo_list_with(
         ident,
         text,
         Choices { unit: options.unit },
+        types,
         out,
         list_words,
         source,
@@ -194,7 +203,7 @@ pub extern "C" fn sitaungo_list_with(
     )
 }
 
-// The same by what is built in: into an output of so many bytes and a list of so many words, and its length: `list` of the crate listing.
+// The same by what is built in: unit 8, no table.
 #[no_mangle]
 pub extern "C" fn sitaungo_list(
     image: &[u8],
@@ -209,7 +218,7 @@ pub extern "C" fn sitaungo_list(
     copies: &mut [u64],
     lines: &mut [u8],
 ) -> usize
-    ensures { λ r. ⌜ Listed (untimed (now (image .entry)) size (now (ident .entry)) (now (text .entry)) (record { unit = 8 })) out «list_words»
+    ensures { λ r. ⌜ Listed (untimed (now (image .entry)) size (now (ident .entry)) (now (text .entry)) builtIn) out «list_words»
         (four (now (source .entry)) (now (fragments .entry)) (now (columns .entry)) (now (copies .entry))) (now (lines .entry))
         r (now (lines .exit)) (four (now (source .exit)) (now (fragments .exit)) (now (columns .exit)) (now (copies .exit))) ⌝ }
 {
@@ -219,6 +228,7 @@ pub extern "C" fn sitaungo_list(
         ident,
         text,
         ColumnOptions { unit: 8 },
+        b"",
         out,
         list_words,
         source,

@@ -6,14 +6,14 @@ use Rattle.base.specs.Checked.{Checked, ok, refused, andThen}
 use Rattle.result.specs.Result.{Args, Report, Decided, answer, fileOf, Outcome, workIn}
 use Rattle.result.specs.Guarantee.{Guaranteed}
 use Rattle.guarantee.specs.Theorem.{AllBytes}
-use Rattle.choices.specs.declared.Choices.{Choices}
+use Rattle.plan.specs.Rules.{Rules}
 use Rattle.writing.specs.declared.convert.Report as counted
 use Rattle.writing.specs.declared.convert.Converted.{Converted}
 use Rattle.writing.specs.declared.convert.Converted.the-variants.{Refused, Done}
 
 -- a call's arguments
-abbrev pub args : List ℕ → ℕ → List ℕ → List ℕ → ℕ → Choices → Args
-args image size ident text time chosen = record { image = image; blockSize = size; ident = ident; text = text; time = time; unit = chosen .unit }
+abbrev pub args : List ℕ → ℕ → List ℕ → List ℕ → ℕ → Rules → Args
+args image size ident text time chosen = record { image = image; blockSize = size; ident = ident; text = text; time = time; unit = chosen .unit; table = chosen .table }
 
 abbrev pub reportOf : counted.Report → Report
 reportOf r = record {

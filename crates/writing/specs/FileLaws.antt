@@ -40,7 +40,8 @@ use Rattle.guarantee.specs.Theorem.{o, in-image, ordered}
 use Rattle.placing.specs.declared.layout.Numbers as numbers
 use Rattle.writing.specs.PlacedIn.{placedOne, placedIn}
 use Rattle.writing.specs.PlacedInLaws.{length-placed, next-in, structure-in, structure-ready}
-use Rattle.writing.specs.Structure.{StructureReady}
+use Rattle.writing.specs.Structure.{onTable, StructureReady}
+use Rattle.writing.specs.StructureLaws.{by-table}
 use Rattle.writing.specs.Attachments.{attachmentsIn, NextPlace}
 use Rattle.writing.specs.LaidWordsLaws.{Numbers, copies-order, history-room, columns-room, attachments-room, attachments-few, history-blocks, columns-blocks, attachments-blocks, copies-read, chain-read, attachments-read}
 use Rattle.writing.specs.Wrote.{endOf, Wrote}
@@ -174,7 +175,7 @@ module _ {x : Args} {items pieces columns omitted : ℕ} {n : numbers.Numbers} {
   partColumns = copiedBlocks s (l .past .chain) (memoOf l) (l .fh) (drop (length (l .past .made .memo)) (l .metadata .memo))
 
   abbrev pub partStructure : List Block
-  partStructure = structureBlocks s (x .blockSize) (memoOf l) (l .placed) (l .placed)
+  partStructure = structureBlocks (rulesOf x) s (x .blockSize) (memoOf l) (l .placed) (l .placed)
 
   abbrev pub partData : List Block
   partData = dataBlocks s (x .blockSize) (l .placed)
@@ -248,12 +249,13 @@ module _ {x : Args} {items pieces columns omitted : ℕ} {n : numbers.Numbers} {
   new-same : block (n .md) (mdBytes (x .text)) ∷ block (n .fh) (fhBytes (n .md) (x .time)) ∷ [] ≡ partNew
   new-same = new-eq (x .text) (x .time) (st .by .numbered .md) (st .by .numbered .fh)
 
-  structure-same : structureBlocks s (x .blockSize) (copiesIn m (n .copies)) (placedIn w m 0 columns) (placedIn w m 0 columns) ≡ partStructure
+  structure-same : structureBlocks (onTable (x .table)) s (x .blockSize) (copiesIn m (n .copies)) (placedIn w m 0 columns) (placedIn w m 0 columns) ≡ partStructure
   structure-same =
-      ap (λ (k : ℕ). structureBlocks s (x .blockSize) (copiesIn m (n .copies)) (placedIn w m 0 k) (placedIn w m 0 k)) number-placed
+      ap (λ (k : ℕ). structureBlocks (onTable (x .table)) s (x .blockSize) (copiesIn m (n .copies)) (placedIn w m 0 k) (placedIn w m 0 k)) number-placed
       ∙ structure-in (length (st .by .source .fragments)) (d .planned) l (st .c) (st .d) w m (st .by .inColumns) (st .by .numbered .words) (columns-placed laid)
-      (known .fewColumns) (st .by .longC) (st .by .longD) s (x .blockSize) (copiesIn m (n .copies))
-      ∙ ap (λ (k : List Copy). structureBlocks s (x .blockSize) k (l .placed) (l .placed)) memo-is
+      (known .fewColumns) (st .by .longC) (st .by .longD) (onTable (x .table)) s (x .blockSize) (copiesIn m (n .copies))
+      ∙ ap (λ (k : List Copy). structureBlocks (onTable (x .table)) s (x .blockSize) k (l .placed) (l .placed)) memo-is
+      ∙ by-table (rulesOf x) s (x .blockSize) (memoOf l) (l .placed) (l .placed)
 
   -- the words of reading and planning, by the steps that are known
   source-same : st .by .source ≡ known .steps .source
@@ -345,15 +347,16 @@ module _ {x : Args} {items pieces columns omitted : ℕ} {n : numbers.Numbers} {
     new-done b {r} {next} z = begun-next partNew ys b (subst (λ (bs : List Block). Wrote a bs r last next) new-same z)
 
     pub structure-asks : Begun before (partStructure ++ ys) (l .fileSize) a out last
-        → StructureReady s (x .blockSize) w m columns (n .copies) a (length last)
+        → StructureReady (onTable (x .table)) s (x .blockSize) w m columns (n .copies) a (length last)
     structure-asks b =
-        subst (λ (k : ℕ). StructureReady s (x .blockSize) w m k (n .copies) a (length last)) (sym number-placed)
+        subst (λ (k : ℕ). StructureReady (onTable (x .table)) s (x .blockSize) w m k (n .copies) a (length last)) (sym number-placed)
         (structure-ready (length (st .by .source .fragments)) (d .planned) l (st .c) (st .d) w m (st .by .inColumns) (st .by .numbered .words) (columns-placed laid)
         (known .fewColumns) (st .by .longC) (st .by .longD) (in-image x d known)
-        (subst (λ (k : List Copy). Ordered a (structureBlocks s (x .blockSize) k (l .placed) (l .placed)) (length last)) (sym memo-is) (begun-room partStructure ys b)))
+        (subst (λ (k : List Copy). Ordered a (structureBlocks (onTable (x .table)) s (x .blockSize) k (l .placed) (l .placed)) (length last)) (sym memo-is)
+        (subst (λ (bs : List Block). Ordered a bs (length last)) (sym (by-table (rulesOf x) s (x .blockSize) (memoOf l) (l .placed) (l .placed))) (begun-room partStructure ys b))))
 
     pub structure-done : Begun before (partStructure ++ ys) (l .fileSize) a out last → {r : ℕ} {next : List ℕ}
-        → Wrote a (structureBlocks s (x .blockSize) (copiesIn m (n .copies)) (placedIn w m 0 columns) (placedIn w m 0 columns)) r last next
+        → Wrote a (structureBlocks (onTable (x .table)) s (x .blockSize) (copiesIn m (n .copies)) (placedIn w m 0 columns) (placedIn w m 0 columns)) r last next
         → Begun (before ++ partStructure) ys (l .fileSize) r out next
     structure-done b {r} {next} z = begun-next partStructure ys b (subst (λ (bs : List Block). Wrote a bs r last next) structure-same z)
 

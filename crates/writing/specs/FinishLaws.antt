@@ -15,7 +15,7 @@ use Rattle.work_words.specs.Words.{laidItems}
 use Rattle.work_words.specs.CopyWords.{laidCopies}
 use Rattle.plan.specs.Columns.{srcGroups, Omission, omissionAddresses, omissionReasons, omissionWords}
 use Rattle.work_words.specs.PlanWords.{laidPlan}
-use Rattle.result.specs.Result.{Args, Report, Decided, decided, lentIn, answer, report, sourceGroupsOf, timeColumns, blocksWritten, Outcome, zeros, choicesIn}
+use Rattle.result.specs.Result.{Args, Report, Decided, decided, lentIn, answer, report, sourceGroupsOf, timeColumns, blocksWritten, Outcome, zeros}
 use Rattle.result.specs.Result.{workIn, fileOf, convert}
 use Rattle.guarantee.specs.Theorem.{guaranteed}
 use Rattle.plan_laws.specs.WalkLaws.{walk-sound}
@@ -29,7 +29,7 @@ use Rattle.writing.specs.declared.convert.Converted.the-variants.{Refuse
 use Rattle.writing.specs.declared.convert.Report as counted
 use Rattle.placing.specs.declared.decide.Decision.{Decision}
 use Rattle.placing.specs.declared.decide.Decision.the-variants as done
-use Rattle.choices.specs.declared.Choices.{Choices}
+use Rattle.plan.specs.Rules.{Rules}
 use Rattle.placing.specs.Decision.{untimed, four, DecidedIn, RefusedIn, Decides}
 use Rattle.writing.specs.Answer.{args, reportOf, left, Bytes, Promised}
 use Rattle.writing.specs.Finish.{Stands, Counts, Reported, Finished}
@@ -40,8 +40,8 @@ use Rattle.writing.specs.Counted.{timeAt, blocksAt}
 use Rattle.writing.specs.ReportLaws.{groups-report, times-report, blocks-report, blocks-few}
 
 -- nothing is decided by the time
-pub decided-untimed : (image : List ℕ) (size : ℕ) (ident text : List ℕ) (time : ℕ) (chosen : Choices) → decided (args image size ident text time chosen) ≡ decided (untimed image size ident text chosen)
-unfolding decided lentIn choicesIn
+pub decided-untimed : (image : List ℕ) (size : ℕ) (ident text : List ℕ) (time : ℕ) (chosen : Rules) → decided (args image size ident text time chosen) ≡ decided (untimed image size ident text chosen)
+unfolding decided lentIn
 decided-untimed image size ident text time chosen = refl
 
 -- ---- refusals after the decision
@@ -181,7 +181,7 @@ pub decides-refused : {x : Args} {a b c d : List ℕ} {r : Decision} {a' b' c' d
     → Decides x a b c d r a' b' c' d' → r ≡ done.Refused n p → RefusedIn x n p (four a b c d) (four a' b' c' d')
 decides-refused {x} {a} {b} {c} {d} {a' = a'} {b' = b'} {c' = c'} {d' = d'} h e = subst (λ r. Decides x a b c d r a' b' c' d') e h
 
-pub stands-timed : {image : List ℕ} {size : ℕ} {ident text : List ℕ} (time : ℕ) {chosen : Choices} {i f k o : ℕ} {n : Numbers} {a b c d a' b' c' d' : List ℕ}
+pub stands-timed : {image : List ℕ} {size : ℕ} {ident text : List ℕ} (time : ℕ) {chosen : Rules} {i f k o : ℕ} {n : Numbers} {a b c d a' b' c' d' : List ℕ}
     → DecidedIn (untimed image size ident text chosen) i f k o n a b c d a' b' c' d' → Stands (args image size ident text time chosen) i f k o n a' b' c' d'
 stands-timed {image} {size} {ident} {text} time {chosen} {a = a} {b = b} {c = c} {d = d} t =
     record {
@@ -216,11 +216,11 @@ unfolding answer
 refused-answer x o l (refused m q) e = cc
 refused-answer x o l (ok z) e = rw e
 
-lent-untimed : (image : List ℕ) (size : ℕ) (ident text : List ℕ) (time : ℕ) (chosen : Choices) → lentIn (args image size ident text time chosen) ≡ lentIn (untimed image size ident text chosen)
+lent-untimed : (image : List ℕ) (size : ℕ) (ident text : List ℕ) (time : ℕ) (chosen : Rules) → lentIn (args image size ident text time chosen) ≡ lentIn (untimed image size ident text chosen)
 unfolding lentIn
 lent-untimed image size ident text time chosen = refl
 
-pub refused-left : (image : List ℕ) (size : ℕ) (ident text : List ℕ) (time : ℕ) (chosen : Choices) (out list : List ℕ) (ws ws' : List (List ℕ)) (n p : ℕ)
+pub refused-left : (image : List ℕ) (size : ℕ) (ident text : List ℕ) (time : ℕ) (chosen : Rules) (out list : List ℕ) (ws ws' : List (List ℕ)) (n p : ℕ)
     → RefusedIn (untimed image size ident text chosen) n p ws ws' → left (Refused n p) out list ws' ≡ convert (args image size ident text time chosen) out list ws
 unfolding convert
 refused-left image size ident text time chosen out list ws ws' n p r =
@@ -231,7 +231,7 @@ work-fine : (a b c d : List ℕ) → 8192 ≤ length a → 8192 ≤ length b →
 unfolding workIn
 work-fine a b c d h i j k = sym (lt-no _ _ _ _ h (lt-no _ _ _ _ i (lt-no _ _ _ _ j (lt-no _ _ _ _ k refl))))
 
-pub done-left : {i f k o : ℕ} {n : Numbers} {a b c d a' b' c' d' : List ℕ} (image : List ℕ) (size : ℕ) (ident text : List ℕ) (time : ℕ) (chosen : Choices) (out list : List ℕ) (r : Converted) (out' list' a'' b'' c'' d'' : List ℕ)
+pub done-left : {i f k o : ℕ} {n : Numbers} {a b c d a' b' c' d' : List ℕ} (image : List ℕ) (size : ℕ) (ident text : List ℕ) (time : ℕ) (chosen : Rules) (out list : List ℕ) (r : Converted) (out' list' a'' b'' c'' d'' : List ℕ)
     → DecidedIn (untimed image size ident text chosen) i f k o n a b c d a' b' c' d' → Finished (args image size ident text time chosen) out list r out' list'
     → a'' ≡ replicate (length a') 0 → b'' ≡ replicate (length b') 0 → c'' ≡ replicate (length c') 0 → d'' ≡ replicate (length d') 0
     → left r out' list' (four a'' b'' c'' d'') ≡ convert (args image size ident text time chosen) out list (four a b c d)

@@ -16,6 +16,7 @@ use Rattle.plan.specs.Copies.{Copy}
 use Rattle.work_words.specs.CopyWords.{placedAt, placedWords, laidCopies}
 use Rattle.plan.specs.Layout.{columnWidth, columnBlocks, Placed, cgOf, cnOf, Layout}
 use Rattle.work_words.specs.PlanWords.{timeWord, masterWord, signalWord, columnWords, columnsWords, omissionsAt, omissionPairs, laidPlan}
+use Rattle.plan.specs.Rules.{Rules}
 use Rattle.result.specs.Fill.{
   Block,
   block,
@@ -86,7 +87,7 @@ unfolding bareAll bare
 bare-next [] = refl
 bare-next (p ∷ ps) = refl
 
-module _ (s : List ℕ) (size : ℕ) (m : List Copy) where
+module _ (rs : Rules) (s : List ℕ) (size : ℕ) (m : List Copy) where
   bare-dg : (p : Placed) {x y : ℕ} → x ≡ y → dgBytes s size m (bare p) x ≡ dgBytes s size m p y
   unfolding dgBytes bare bareColumn columnBlocks columnWidth
   bare-dg p e = rw e
@@ -95,7 +96,7 @@ module _ (s : List ℕ) (size : ℕ) (m : List Copy) where
   unfolding cgBytes cgData bare bareColumn
   bare-group all p = rw (bare-master all (p .column .master))
 
-  bare-cn : (p : Placed) → cnBytes s m (bare p) ≡ cnBytes s m p
+  bare-cn : (p : Placed) → cnBytes rs s m (bare p) ≡ cnBytes rs s m p
   unfolding cnBytes bare bareColumn
   bare-cn p = rw (bare-sd (p .column .signalOf) (p .sd))
 
@@ -108,7 +109,7 @@ module _ (s : List ℕ) (size : ℕ) (m : List Copy) where
   unfolding bare bareColumn
   bare-places p x y z bs = refl
 
-  pub bare-structure : (all ps : List Placed) → structureBlocks s size m (bareAll all) (bareAll ps) ≡ structureBlocks s size m all ps
+  pub bare-structure : (all ps : List Placed) → structureBlocks rs s size m (bareAll all) (bareAll ps) ≡ structureBlocks rs s size m all ps
   unfolding structureBlocks bareAll
   bare-structure all [] = refl
   bare-structure all (p ∷ ps) =
@@ -268,10 +269,10 @@ module _ (n : ℕ) (p : Plan) (l : Layout) (w v columns memo : List ℕ) (planne
       placed-back columns memo n 0 (l .placed) f g
 
   -- the columns in words have the blocks of those placed
-  pub structure-in : (s : List ℕ) (size : ℕ) (m : List Copy)
-      → structureBlocks s size m (placedIn columns memo 0 (length (l .placed))) (placedIn columns memo 0 (length (l .placed)))
-      ≡ structureBlocks s size m (l .placed) (l .placed)
-  structure-in s size m = rw placed-in (bare-structure s size m (l .placed) (l .placed))
+  pub structure-in : (rs : Rules) (s : List ℕ) (size : ℕ) (m : List Copy)
+      → structureBlocks rs s size m (placedIn columns memo 0 (length (l .placed))) (placedIn columns memo 0 (length (l .placed)))
+      ≡ structureBlocks rs s size m (l .placed) (l .placed)
+  structure-in rs s size m = rw placed-in (bare-structure rs s size m (l .placed) (l .placed))
 
   pub next-in : nextDG (placedIn columns memo 0 (length (l .placed))) ≡ nextDG (l .placed)
   next-in = rw placed-in (bare-next (l .placed))
@@ -282,15 +283,15 @@ module _ (n : ℕ) (p : Plan) (l : Layout) (w v columns memo : List ℕ) (planne
       let g : (c : Column) → In c (columnsPlaced (l .placed)) → InImage s c = rw same f in
       rw zero-add at (seen-back columns memo 0 (l .placed) placed-in g k h)
 
-  pub structure-ready : {s : List ℕ} {size used a e : ℕ} → ((c : Column) → In c (p .columns) → InImage s c)
-      → Ordered a (structureBlocks s size (copiesIn memo used) (l .placed) (l .placed)) e
-      → StructureReady s size columns memo (length (l .placed)) used a e
+  pub structure-ready : {rs : Rules} {s : List ℕ} {size used a e : ℕ} → ((c : Column) → In c (p .columns) → InImage s c)
+      → Ordered a (structureBlocks rs s size (copiesIn memo used) (l .placed) (l .placed)) e
+      → StructureReady rs s size columns memo (length (l .placed)) used a e
   unfolding laidPlan laidCopies
-  structure-ready {s} {size} {used} {a} {e} f o =
+  structure-ready {rs} {s} {size} {used} {a} {e} f o =
       record {
         few = few-placed;
         long = rw planned (simp length-blit (omega arith));
         placed = rw placed (simp length-blit room);
-        ordered = rw (structure-in s size (copiesIn memo used)) o;
+        ordered = rw (structure-in rs s size (copiesIn memo used)) o;
         seen = seen-in f;
       }

@@ -6,12 +6,13 @@ use mathlib.Core.Path.{_≡_}
 use lib.ListN.{length, getD}
 use Rattle.base.specs.Choice.{pick, ifLt, ifEq}
 use Rattle.mdf.specs.Block.{linkAt, dataAt}
-use Rattle.plan.specs.Channel.{channelBytes, keepsInval, width}
+use Rattle.plan.specs.Rules.{Rules}
+use Rattle.plan.specs.Channel.{channelType, channelBytes, keepsInval, width}
 use Rattle.plan.specs.Copies.{Copy}
 use Rattle.work_words.specs.CopyWords.{placedAt}
 use Rattle.plan.specs.Geometry.{blockCount, blockPayload}
 use Rattle.plan.specs.Layout.{cgSize, dlSize}
-use Rattle.result.specs.Fill.{Block, block, newLink, sdLink, structureBlocks}
+use Rattle.result.specs.Fill.{Block, block, newLink, storedType, sdLink, structureBlocks}
 use Rattle.result.specs.Ordered.{Ordered}
 use Rattle.copies_laws.specs.LengthLaws.{InImage}
 use Rattle.filling.specs.Blocks.{dgFrom, cgFrom, cnFrom, dlFrom}
@@ -32,9 +33,10 @@ unfoldable pub nextPlace : List ℕ → ℕ → ℕ → ℕ
 nextPlace memo n k = ifLt (k + 1) n (getD memo (placedAt + 3 * (k + 1)) 0) 0
 
 -- column number k of n
-unfoldable pub columnOf : List ℕ → ℕ → List ℕ → List ℕ → ℕ → ℕ → PlacedColumn
-columnOf s size columns memo n k = record {
+unfoldable pub columnOf : List ℕ → List ℕ → ℕ → List ℕ → List ℕ → ℕ → ℕ → PlacedColumn
+columnOf table s size columns memo n k = record {
   channel = getD columns (8 * k) 0;
+  stored = storedType table (channelType s (getD columns (8 * k) 0));
   group = getD columns (8 * k + 1) 0;
   parent = getD columns (8 * k + 2) 0;
   records = getD columns (8 * k + 3) 0;
@@ -66,7 +68,7 @@ module _ (s : List ℕ) (memo : List Copy) (h : PlacedColumn) where
 
   unfoldable pub columnCN : List ℕ
   columnCN =
-      cnFrom s (h .channel) (keepsInval s (h .group) (h .channel)) (newLink memo (linkAt s (h .channel) 2)) (newLink memo (linkAt s (h .channel) 3))
+      cnFrom s (h .channel) (h .stored) (keepsInval s (h .group) (h .channel)) (newLink memo (linkAt s (h .channel) 2)) (newLink memo (linkAt s (h .channel) 3))
       (newLink memo (linkAt s (h .channel) 4)) (h .sd) (newLink memo (linkAt s (h .channel) 6)) (newLink memo (linkAt s (h .channel) 7))
 
 unfoldable pub columnDL : PlacedColumn → List ℕ
@@ -92,9 +94,14 @@ pub record Room (s : List ℕ) (h : PlacedColumn) (a e : ℕ) : Type 0 where
   pub channel : dataAt s (h .channel) + 72 ≤ length s
 
 -- ---- all columns
-pub record StructureReady (s : List ℕ) (size : ℕ) (columns memo : List ℕ) (n used a e : ℕ) : Type 0 where
+
+-- what their blocks take of the choices
+abbrev pub onTable : List ℕ → Rules
+onTable table = record { unit = 8; table = table }
+
+pub record StructureReady (rs : Rules) (s : List ℕ) (size : ℕ) (columns memo : List ℕ) (n used a e : ℕ) : Type 0 where
   pub few : n ≤ 512
   pub long : 4096 ≤ length columns
   pub placed : 8192 ≤ length memo
-  pub ordered : Ordered a (structureBlocks s size (copiesIn memo used) (placedIn columns memo 0 n) (placedIn columns memo 0 n)) e
+  pub ordered : Ordered a (structureBlocks rs s size (copiesIn memo used) (placedIn columns memo 0 n) (placedIn columns memo 0 n)) e
   pub seen : (k : ℕ) → k < n → InImage s (columnIn columns (8 * k))

@@ -17,7 +17,9 @@ use Rattle.base.specs.FieldLaws.{length-le}
 use Rattle.base.specs.Blit.{blit}
 use Rattle.base.specs.BlitLaws.{length-part}
 use Rattle.mdf.specs.Block.{linkAt, dataAt}
-use Rattle.plan.specs.Channel.{channelBytes, keepsInval, width}
+use Rattle.plan.specs.Rules.{Rules}
+use Rattle.plan.specs.Table.{treatment}
+use Rattle.plan.specs.Channel.{channelType, channelBytes, keepsInval, width}
 use Rattle.plan.specs.Copies.{Copy, copyOf}
 use Rattle.work_words.specs.CopyWords.{placedAt}
 use Rattle.plan.specs.Geometry.{powerIn, stepOf, perBlock, perFull, blockCount, blockPayload}
@@ -27,6 +29,7 @@ use Rattle.result.specs.Fill.{
   block,
   orZero,
   newLink,
+  storedType,
   sdLink,
   nextDG,
   cgAt,
@@ -62,6 +65,7 @@ use Rattle.writing.specs.Structure.{
   cgLength,
   Room,
   StructureReady,
+  onTable,
 }
 use Rattle.writing.specs.Wrote.{endOf, Wrote}
 use Rattle.writing.specs.WroteLaws.{ordered-end, ordered-back, ordered-first, wrote-none, wrote-block, wrote-append}
@@ -158,14 +162,26 @@ pub size-near : (m : Option ℕ) → cgSize m ≤ 112
 size-near none = omega arith
 size-near (some m) = le-refl 112
 
-module _ (s : List ℕ) (size : ℕ) (columns memo : List ℕ) (n k : ℕ) where
-  pub column-made : {remote : Bool} {master x sd blocks payload : ℕ} → remote ≡ hasMaster (masterIn (getD columns (8 * k + 5) 0))
+-- the stored type: t is the channel's, v its treatment
+module _ (table s : List ℕ) (c : ℕ) {t v : ℕ} (e : t ≡ channelType s c) (k : v ≡ treatment table t) where
+  pub stored-zero : v ≡ 2 → 0 ≡ storedType table (channelType s c)
+  unfolding storedType
+  stored-zero h = eq-yes _ _ _ _ (ap (treatment table) (sym e) ∙ sym k ∙ h) refl
+
+  pub stored-same : (v ≡ 2 → ⊥) → t ≡ storedType table (channelType s c)
+  unfolding storedType
+  stored-same h = eq-no _ _ _ _ (λ q. h (k ∙ ap (treatment table) e ∙ q)) e
+
+module _ (table s : List ℕ) (size : ℕ) (columns memo : List ℕ) (n k : ℕ) where
+  pub column-made : {remote : Bool} {stored master x sd blocks payload : ℕ} → remote ≡ hasMaster (masterIn (getD columns (8 * k + 5) 0))
       → master ≡ masterPlace memo n (getD columns (8 * k + 5) 0) → x ≡ cgSize (masterIn (getD columns (8 * k + 5) 0))
       → sd ≡ sdLink (signalIn (getD columns (8 * k + 6) 0)) (getD memo (placedAt + 3 * k + 2) 0)
       → blocks ≡ blockCount size (width s (getD columns (8 * k + 1) 0) (getD columns (8 * k) 0)) (getD columns (8 * k + 3) 0)
       → payload ≡ blockPayload size (width s (getD columns (8 * k + 1) 0) (getD columns (8 * k) 0)) (getD columns (8 * k + 3) 0)
+      → stored ≡ storedType table (channelType s (getD columns (8 * k) 0))
       → record {
         channel = getD columns (8 * k) 0;
+        stored = stored;
         group = getD columns (8 * k + 1) 0;
         parent = getD columns (8 * k + 2) 0;
         records = getD columns (8 * k + 3) 0;
@@ -178,9 +194,9 @@ module _ (s : List ℕ) (size : ℕ) (columns memo : List ℕ) (n k : ℕ) where
         blocks = blocks;
         payload = payload;
       }
-      ≡ columnOf s size columns memo n k
+      ≡ columnOf table s size columns memo n k
   unfolding columnOf
-  column-made a b c d e f = rw (a, b, c, d, e, f)
+  column-made a b c d e f g = rw (a, b, c, d, e, f, g)
 
 -- ---- links
 link-or : (o : Option ℕ) → linkOf o ≡ orZero o
@@ -206,7 +222,7 @@ module _ (s : List ℕ) (m : List Copy) (h : PlacedColumn) (d e : List ℕ) wher
   filled-cg i a b c x y = i ∙ rw (a, b, c, x, y)
 
   pub filled-cn : {name source conversion unit comment : ℕ} {keeps : Bool}
-      → e ≡ blit 0 (cnFrom s (h .channel) keeps name source conversion (h .sd) unit comment) d
+      → e ≡ blit 0 (cnFrom s (h .channel) (h .stored) keeps name source conversion (h .sd) unit comment) d
       → name ≡ newLink m (linkAt s (h .channel) 2) → source ≡ newLink m (linkAt s (h .channel) 3) → conversion ≡ newLink m (linkAt s (h .channel) 4)
       → unit ≡ newLink m (linkAt s (h .channel) 6) → comment ≡ newLink m (linkAt s (h .channel) 7) → keeps ≡ keepsInval s (h .group) (h .channel)
       → e ≡ blit 0 (columnCN s m h) d
@@ -371,45 +387,52 @@ unfolding placedIn
 placed-cons columns memo k j = refl
 
 -- each block of column number k
-module _ (s : List ℕ) (size : ℕ) (m : List Copy) (columns memo : List ℕ) (n k : ℕ) where
-  dg-same : {x y : ℕ} → x ≡ y → dgBytes s size m (placedOne columns memo k) x ≡ columnDG s m (columnOf s size columns memo n k) y
+module _ (rs : Rules) (s : List ℕ) (size : ℕ) (m : List Copy) (columns memo : List ℕ) (n k : ℕ) where
+  dg-same : {x y : ℕ} → x ≡ y → dgBytes s size m (placedOne columns memo k) x ≡ columnDG s m (columnOf (rs .table) s size columns memo n k) y
   unfolding columnDG columnOf columnBlocks columnWidth placedOne columnIn
   dg-same {x} e = dg-from s size m (placedOne columns memo k) x ∙ rw e
 
-  cg-same : cgBytes s m (placedIn columns memo 0 n) (placedOne columns memo k) ≡ columnCG s m (columnOf s size columns memo n k)
+  cg-same : cgBytes s m (placedIn columns memo 0 n) (placedOne columns memo k) ≡ columnCG s m (columnOf (rs .table) s size columns memo n k)
   unfolding columnCG columnOf placedOne columnIn
   cg-same = cg-from s m (placedIn columns memo 0 n) (placedOne columns memo k) ∙ rw (master-in columns memo n (getD columns (8 * k + 5) 0))
 
-  cn-same : cnBytes s m (placedOne columns memo k) ≡ columnCN s m (columnOf s size columns memo n k)
+  cn-same : cnBytes rs s m (placedOne columns memo k) ≡ columnCN s m (columnOf (rs .table) s size columns memo n k)
   unfolding columnCN columnOf placedOne columnIn
-  cn-same = cn-from s size m (placedOne columns memo k)
+  cn-same = cn-from rs s m (placedOne columns memo k) _ refl
 
-  dl-same : dlBlocks s size (placedOne columns memo k) ≡ columnDLs (columnOf s size columns memo n k)
+  dl-same : dlBlocks s size (placedOne columns memo k) ≡ columnDLs (columnOf (rs .table) s size columns memo n k)
   unfolding dlBlocks columnDLs columnDL columnOf columnBlocks columnWidth columnPayload placedOne columnIn
   dl-same = rw (dl-from s size m (placedOne columns memo k))
 
   parts-open : (next : ℕ) (bs : List Block)
-      → block (placedOne columns memo k .dg) (columnDG s m (columnOf s size columns memo n k) next)
-      ∷ block (cgOf (placedOne columns memo k)) (columnCG s m (columnOf s size columns memo n k))
-      ∷ block (cnOf (placedOne columns memo k)) (columnCN s m (columnOf s size columns memo n k)) ∷ (columnDLs (columnOf s size columns memo n k) ++ bs)
-      ≡ columnParts s m (columnOf s size columns memo n k) next ++ bs
+      → block (placedOne columns memo k .dg) (columnDG s m (columnOf (rs .table) s size columns memo n k) next)
+      ∷ block (cgOf (placedOne columns memo k)) (columnCG s m (columnOf (rs .table) s size columns memo n k))
+      ∷ block (cnOf (placedOne columns memo k)) (columnCN s m (columnOf (rs .table) s size columns memo n k)) ∷ (columnDLs (columnOf (rs .table) s size columns memo n k) ++ bs)
+      ≡ columnParts s m (columnOf (rs .table) s size columns memo n k) next ++ bs
   unfolding columnParts columnOf placedOne columnIn
   parts-open next bs = refl
 
+-- of what is chosen the blocks take the table alone
+pub by-table : (rs : Rules) (s : List ℕ) (size : ℕ) (m : List Copy) (all ps : List Placed)
+    → structureBlocks (onTable (rs .table)) s size m all ps ≡ structureBlocks rs s size m all ps
+unfolding structureBlocks cnBytes
+by-table rs s size m all [] = refl
+by-table rs s size m all (p ∷ ps) = rw (by-table rs s size m all ps)
+
 -- one column's blocks, then the others'
-pub structure-cons : (s : List ℕ) (size : ℕ) (m : List Copy) (columns memo : List ℕ) (n k j : ℕ) → k + suc j ≡ n
-    → structureBlocks s size m (placedIn columns memo 0 n) (placedIn columns memo k (suc j))
-    ≡ columnParts s m (columnOf s size columns memo n k) (nextPlace memo n k)
-    ++ structureBlocks s size m (placedIn columns memo 0 n) (placedIn columns memo (k + 1) j)
+pub structure-cons : (rs : Rules) (s : List ℕ) (size : ℕ) (m : List Copy) (columns memo : List ℕ) (n k j : ℕ) → k + suc j ≡ n
+    → structureBlocks rs s size m (placedIn columns memo 0 n) (placedIn columns memo k (suc j))
+    ≡ columnParts s m (columnOf (rs .table) s size columns memo n k) (nextPlace memo n k)
+    ++ structureBlocks rs s size m (placedIn columns memo 0 n) (placedIn columns memo (k + 1) j)
 unfolding structureBlocks
-structure-cons s size m columns memo n k j e =
-    ap (structureBlocks s size m (placedIn columns memo 0 n)) (placed-cons columns memo k j)
+structure-cons rs s size m columns memo n k j e =
+    ap (structureBlocks rs s size m (placedIn columns memo 0 n)) (placed-cons columns memo k j)
     ∙ rw (
-      dg-same s size m columns memo n k (next-in columns memo n k j e),
-      cg-same s size m columns memo n k,
-      cn-same s size m columns memo n k,
-      dl-same s size m columns memo n k,
-    ) (parts-open s size m columns memo n k (nextPlace memo n k) _)
+      dg-same rs s size m columns memo n k (next-in columns memo n k j e),
+      cg-same rs s size m columns memo n k,
+      cn-same rs s size m columns memo n k,
+      dl-same rs s size m columns memo n k,
+    ) (parts-open rs s size m columns memo n k (nextPlace memo n k) _)
 
 -- ---- room, by the order of blocks
 dl-none : (n : ℕ) → n ≡ 0 → dlSize n ≡ 0
@@ -443,18 +466,18 @@ parts-room s memo h a e next o q g c =
       channel = c;
     }
 
-module _ (s : List ℕ) (size : ℕ) (m : List Copy) (columns memo : List ℕ) (n : ℕ) where
+module _ (rs : Rules) (s : List ℕ) (size : ℕ) (m : List Copy) (columns memo : List ℕ) (n : ℕ) where
   -- column number k has room
   pub room-of : (k j a e : ℕ) → k + suc j ≡ n → InImage s (columnIn columns (8 * k))
-      → Ordered a (structureBlocks s size m (placedIn columns memo 0 n) (placedIn columns memo k (suc j))) e
-      → Room s (columnOf s size columns memo n k) a e
+      → Ordered a (structureBlocks rs s size m (placedIn columns memo 0 n) (placedIn columns memo k (suc j))) e
+      → Room s (columnOf (rs .table) s size columns memo n k) a e
   unfolding columnOf columnIn
   room-of k j a e q i o =
-      let t : Ordered a (columnParts s m (columnOf s size columns memo n k) (nextPlace memo n k)
-      ++ structureBlocks s size m (placedIn columns memo 0 n) (placedIn columns memo (k + 1) j)) e =
-      rw (structure-cons s size m columns memo n k j q) at o in
-      parts-room s m (columnOf s size columns memo n k) a e (nextPlace memo n k)
-      (ordered-first a (columnParts s m (columnOf s size columns memo n k) (nextPlace memo n k)) _ e t)
+      let t : Ordered a (columnParts s m (columnOf (rs .table) s size columns memo n k) (nextPlace memo n k)
+      ++ structureBlocks rs s size m (placedIn columns memo 0 n) (placedIn columns memo (k + 1) j)) e =
+      rw (structure-cons rs s size m columns memo n k j q) at o in
+      parts-room s m (columnOf (rs .table) s size columns memo n k) a e (nextPlace memo n k)
+      (ordered-first a (columnParts s m (columnOf (rs .table) s size columns memo n k) (nextPlace memo n k)) _ e t)
       (ap (λ (x : ℕ). getD memo (placedAt + 3 * k) 0 + 64 + x) (size-master (masterIn (getD columns (8 * k + 5) 0)))) (i .group) (i .channel)
 
 ordered-here : (a e : ℕ) (b : Block) (bs : List Block) → Ordered a (b ∷ bs) e → b .at ≤ e
@@ -466,68 +489,68 @@ unfolding Ordered
 ordered-next a e b bs o = o .1
 
 -- every column's DG lies before the end
-dg-in : (s : List ℕ) (size : ℕ) (m : List Copy) (all : List Placed) (columns memo : List ℕ) (k n i a e : ℕ)
-    → Ordered a (structureBlocks s size m all (placedIn columns memo k n)) e → i < n → getD memo (placedAt + 3 * (k + i)) 0 ≤ e
+dg-in : (rs : Rules) (s : List ℕ) (size : ℕ) (m : List Copy) (all : List Placed) (columns memo : List ℕ) (k n i a e : ℕ)
+    → Ordered a (structureBlocks rs s size m all (placedIn columns memo k n)) e → i < n → getD memo (placedAt + 3 * (k + i)) 0 ≤ e
 unfolding structureBlocks placedIn placedOne
-dg-in s size m all columns memo k zero i a e o h = absurd (omega arith)
-dg-in s size m all columns memo k (suc n) zero a e o h = rw add-zero (ordered-here a e _ _ o)
-dg-in s size m all columns memo k (suc n) (suc i) a e o h =
+dg-in rs s size m all columns memo k zero i a e o h = absurd (omega arith)
+dg-in rs s size m all columns memo k (suc n) zero a e o h = rw add-zero (ordered-here a e _ _ o)
+dg-in rs s size m all columns memo k (suc n) (suc i) a e o h =
     let q : k + suc i ≡ k + 1 + i = omega arith in
     let x = ordered-next _ e _ _ (ordered-next _ e _ _ (ordered-next a e _ _ o)) in
-    rw q (dg-in s size m all columns memo (k + 1) n i _ e (ordered-back _ (dlBlocks s size (placedOne columns memo k)) _ e x) (omega arith))
+    rw q (dg-in rs s size m all columns memo (k + 1) n i _ e (ordered-back _ (dlBlocks s size (placedOne columns memo k)) _ e x) (omega arith))
 
-pub near-ready : {s : List ℕ} {size : ℕ} {columns memo : List ℕ} {n used a e : ℕ} → StructureReady s size columns memo n used a e
+pub near-ready : {rs : Rules} {s : List ℕ} {size : ℕ} {columns memo : List ℕ} {n used a e : ℕ} → StructureReady rs s size columns memo n used a e
     → e < 9223372036854775808 → Near memo n
-near-ready {s} {size} {columns} {memo} {n} {used} {a} {e} q h =
+near-ready {rs} {s} {size} {columns} {memo} {n} {used} {a} {e} q h =
     record {
       few = q .few;
       long = q .placed;
       below = λ i l.
           let x : getD memo (placedAt + 3 * i) 0 ≤ e =
-          rw zero-add at (dg-in s size (copiesIn memo used) (placedIn columns memo 0 n) columns memo 0 n i a e (q .ordered) l) in
+          rw zero-add at (dg-in rs s size (copiesIn memo used) (placedIn columns memo 0 n) columns memo 0 n i a e (q .ordered) l) in
           omega (arith, x, h);
     }
 
 -- ---- all columns, the first of which is number k, are left to be written; written, they give what all give
-pub record Structures (s : List ℕ) (size : ℕ) (columns memo : List ℕ) (n used a : ℕ) (out₀ : List ℕ) (k to : ℕ) (out : List ℕ) : Type 0 where
+pub record Structures (rs : Rules) (s : List ℕ) (size : ℕ) (columns memo : List ℕ) (n used a : ℕ) (out₀ : List ℕ) (k to : ℕ) (out : List ℕ) : Type 0 where
   pub few : k ≤ n
   pub same : length out ≡ length out₀
-  pub ordered : Ordered to (structureBlocks s size (copiesIn memo used) (placedIn columns memo 0 n) (placedIn columns memo k (n - k))) (length out)
+  pub ordered : Ordered to (structureBlocks rs s size (copiesIn memo used) (placedIn columns memo 0 n) (placedIn columns memo k (n - k))) (length out)
   pub rest : (r : ℕ) (last : List ℕ)
-      → Wrote to (structureBlocks s size (copiesIn memo used) (placedIn columns memo 0 n) (placedIn columns memo k (n - k))) r out last
-      → Wrote a (structureBlocks s size (copiesIn memo used) (placedIn columns memo 0 n) (placedIn columns memo 0 n)) r out₀ last
+      → Wrote to (structureBlocks rs s size (copiesIn memo used) (placedIn columns memo 0 n) (placedIn columns memo k (n - k))) r out last
+      → Wrote a (structureBlocks rs s size (copiesIn memo used) (placedIn columns memo 0 n) (placedIn columns memo 0 n)) r out₀ last
 
-module _ {s : List ℕ} {size : ℕ} {columns memo : List ℕ} {n used a : ℕ} {out₀ : List ℕ} where
-  pub structures-begin : StructureReady s size columns memo n used a (length out₀) → Structures s size columns memo n used a out₀ 0 a out₀
+module _ {rs : Rules} {s : List ℕ} {size : ℕ} {columns memo : List ℕ} {n used a : ℕ} {out₀ : List ℕ} where
+  pub structures-begin : StructureReady rs s size columns memo n used a (length out₀) → Structures rs s size columns memo n used a out₀ 0 a out₀
   structures-begin q =
       record { few = omega arith; same = refl; ordered = rw sub-zero (q .ordered); rest = λ r last w. rw sub-zero at w }
 
-  pub structures-end : {k to : ℕ} {out : List ℕ} → Structures s size columns memo n used a out₀ k to out → n ≤ k
-      → Wrote a (structureBlocks s size (copiesIn memo used) (placedIn columns memo 0 n) (placedIn columns memo 0 n)) to out₀ out
+  pub structures-end : {k to : ℕ} {out : List ℕ} → Structures rs s size columns memo n used a out₀ k to out → n ≤ k
+      → Wrote a (structureBlocks rs s size (copiesIn memo used) (placedIn columns memo 0 n) (placedIn columns memo 0 n)) to out₀ out
   unfolding placedIn structureBlocks
   structures-end {k} {to} {out} t h =
       let e : n - k ≡ 0 = omega arith in
       t .rest to out (rw e (wrote-none to out))
 
-  pub structures-room : {k to : ℕ} {out : List ℕ} {e : ℕ} → StructureReady s size columns memo n used a e
-      → Structures s size columns memo n used a out₀ k to out → k < n → Room s (columnOf s size columns memo n k) to (length out)
+  pub structures-room : {k to : ℕ} {out : List ℕ} {e : ℕ} → StructureReady rs s size columns memo n used a e
+      → Structures rs s size columns memo n used a out₀ k to out → k < n → Room s (columnOf (rs .table) s size columns memo n k) to (length out)
   structures-room {k} {to} {out} q t h =
       let e : n - k ≡ suc (n - (k + 1)) = omega arith in
-      room-of s size (copiesIn memo used) columns memo n k (n - (k + 1)) to (length out) (omega arith) (q .seen k h) (rw e at (t .ordered))
+      room-of rs s size (copiesIn memo used) columns memo n k (n - (k + 1)) to (length out) (omega arith) (q .seen k h) (rw e at (t .ordered))
 
-  pub structures-turn : {k to r next : ℕ} {h : PlacedColumn} {out last : List ℕ} → Structures s size columns memo n used a out₀ k to out → k < n
-      → h ≡ columnOf s size columns memo n k → next ≡ nextPlace memo n k
+  pub structures-turn : {k to r next : ℕ} {h : PlacedColumn} {out last : List ℕ} → Structures rs s size columns memo n used a out₀ k to out → k < n
+      → h ≡ columnOf (rs .table) s size columns memo n k → next ≡ nextPlace memo n k
       → Wrote to (columnParts s (copiesIn memo used) h next) r out last → length last ≡ length out
-      → Structures s size columns memo n used a out₀ (k + 1) r last
+      → Structures rs s size columns memo n used a out₀ (k + 1) r last
   structures-turn {k} {to} {r} {out = out} {last = last} t h c x v l =
-      let w : Wrote to (columnParts s (copiesIn memo used) (columnOf s size columns memo n k) (nextPlace memo n k)) r out last = rw (c, x) at v in
+      let w : Wrote to (columnParts s (copiesIn memo used) (columnOf (rs .table) s size columns memo n k) (nextPlace memo n k)) r out last = rw (c, x) at v in
       let m : List Copy = copiesIn memo used in
       let all : List Placed = placedIn columns memo 0 n in
       let e : n - k ≡ suc (n - (k + 1)) = omega arith in
-      let parts : List Block = columnParts s m (columnOf s size columns memo n k) (nextPlace memo n k) in
-      let later : List Block = structureBlocks s size m all (placedIn columns memo (k + 1) (n - (k + 1))) in
-      let whole : structureBlocks s size m all (placedIn columns memo k (n - k)) ≡ parts ++ later =
-      rw e (structure-cons s size m columns memo n k (n - (k + 1)) (omega arith)) in
+      let parts : List Block = columnParts s m (columnOf (rs .table) s size columns memo n k) (nextPlace memo n k) in
+      let later : List Block = structureBlocks rs s size m all (placedIn columns memo (k + 1) (n - (k + 1))) in
+      let whole : structureBlocks rs s size m all (placedIn columns memo k (n - k)) ≡ parts ++ later =
+      rw e (structure-cons rs s size m columns memo n k (n - (k + 1)) (omega arith)) in
       let o : Ordered to (parts ++ later) (length out) = rw whole at (t .ordered) in
       record {
         few = omega arith;

@@ -12,6 +12,7 @@ use reading::recording::clear;
 ghost use mathlib.Core.Path.{_≡_};
 ghost use lib.ListN.{length};
 ghost use Rattle.result.specs.Result as result;
+ghost use Rattle.choices.specs.Chosen.{rules};
 ghost use Rattle.placing.specs.Decision.{four};
 ghost use Rattle.writing.specs.Answer.{args, left, Bytes, Promised};
 ghost use Rattle.writing.specs.Finish.{Stands, Counts, Reported, Finished};
@@ -83,6 +84,7 @@ fn finish(
     text: &[u8],
     time: u64,
     choices: Choices,
+    table: &[u8],
     source: &[u64],
     fragments: &[u64],
     columns: &[u64],
@@ -93,9 +95,9 @@ fn finish(
     omitted: u64,
     numbers: Numbers,
 ) -> Converted
-    requires { ⌜ Stands (args (now image) size (now ident) (now text) time choices) items pieces n omitted numbers
+    requires { ⌜ Stands (args (now image) size (now ident) (now text) time (rules choices (now table))) items pieces n omitted numbers
         (now source) (now fragments) (now columns) (now copies) ⌝ }
-    ensures { λ r. ⌜ Finished (args (now (image .entry)) size (now (ident .entry)) (now (text .entry)) time choices) (now (out .entry)) (now (list .entry))
+    ensures { λ r. ⌜ Finished (args (now (image .entry)) size (now (ident .entry)) (now (text .entry)) time (rules choices (now (table .entry)))) (now (out .entry)) (now (list .entry))
         r (now (out .exit)) (now (list .exit)) ⌝ }
 {
     let bytes = numbers.file_size;
@@ -120,6 +122,7 @@ fn finish(
         text,
         time,
         choices,
+        table,
         source,
         fragments,
         columns,
@@ -152,6 +155,7 @@ pub fn convert(
     text: &[u8],
     time: u64,
     choices: Choices,
+    table: &[u8],
     source: &mut [u64],
     fragments: &mut [u64],
     columns: &mut [u64],
@@ -161,14 +165,14 @@ pub fn convert(
 ) -> Converted
     ensures done { λ r. ⌜ left r (now (out .exit)) (now (list .exit))
         (four (now (source .exit)) (now (fragments .exit)) (now (columns .exit)) (now (copies .exit)))
-        ≡ result.convert (args (now (image .entry)) size (now (ident .entry)) (now (text .entry)) time choices) (now (out .entry)) (now (list .entry))
+        ≡ result.convert (args (now (image .entry)) size (now (ident .entry)) (now (text .entry)) time (rules choices (now (table .entry)))) (now (out .entry)) (now (list .entry))
         (four (now (source .entry)) (now (fragments .entry)) (now (columns .entry)) (now (copies .entry))) ⌝ }
-    ensures promised { λ _. ⌜ Promised (args (now (image .entry)) size (now (ident .entry)) (now (text .entry)) time choices)
+    ensures promised { λ _. ⌜ Promised (args (now (image .entry)) size (now (ident .entry)) (now (text .entry)) time (rules choices (now (table .entry))))
         (length (now (out .entry))) (length (now (list .entry)))
         (four (now (source .entry)) (now (fragments .entry)) (now (columns .entry)) (now (copies .entry))) (now (out .exit)) (now (list .exit)) ⌝ }
 {
     are_bytes(image);
-    let decision = decide(image, size, ident, text, choices, source, fragments, columns, copies);
+    let decision = decide(image, size, ident, text, choices, table, source, fragments, columns, copies);
     match decision {
         Decision::Refused { number, place } => Converted::Refused { number, place },
         Decision::Done {
@@ -187,6 +191,7 @@ pub fn convert(
                 text,
                 time,
                 choices,
+                table,
                 source,
                 fragments,
                 columns,

@@ -21,6 +21,7 @@ ghost use Rattle.mdf.specs.Block.{linkAt};
 ghost use Rattle.placing.specs.Standing.{copiesIn};
 ghost use Rattle.result.specs.Fill.{newLink};
 ghost use Rattle.result.specs.Result.{decided};
+ghost use Rattle.choices.specs.Chosen.{rules};
 ghost use Rattle.writing.specs.Answer.{args, fileFor};
 ghost use Rattle.writing.specs.Finish.{Stands};
 
@@ -62,6 +63,7 @@ pub(crate) fn write_file(
     text: &[u8],
     time: u64,
     choices: Choices,
+    table: &[u8],
     source: &[u64],
     fragments: &[u64],
     columns: &[u64],
@@ -72,10 +74,10 @@ pub(crate) fn write_file(
     omitted: u64,
     numbers: Numbers,
 )
-    requires { ⌜ Stands (args (now image) size (now ident) (now text) time choices) items pieces n omitted numbers
+    requires { ⌜ Stands (args (now image) size (now ident) (now text) time (rules choices (now table))) items pieces n omitted numbers
         (now source) (now fragments) (now columns) (now copies) × (numbers .«file_size» ≤ length (now out)) ⌝ }
-    ensures { λ _. ⌜ now (out .exit) ≡ blit 0 (fileFor (args (now (image .entry)) size (now (ident .entry)) (now (text .entry)) time choices)
-        (decided (args (now (image .entry)) size (now (ident .entry)) (now (text .entry)) time choices))) (now (out .entry)) ⌝ }
+    ensures { λ _. ⌜ now (out .exit) ≡ blit 0 (fileFor (args (now (image .entry)) size (now (ident .entry)) (now (text .entry)) time (rules choices (now (table .entry))))
+        (decided (args (now (image .entry)) size (now (ident .entry)) (now (text .entry)) time (rules choices (now (table .entry)))))) (now (out .entry)) ⌝ }
 {
     let used = numbers.copies;
     let chain = numbers.chain;
@@ -98,7 +100,7 @@ pub(crate) fn write_file(
         numbers.history,
         numbers.metadata,
     );
-    let e = write_structure(out, d, image, size, columns, copies, n, used);
+    let e = write_structure(out, d, image, table, size, columns, copies, n, used);
     let f = write_data(
         out,
         e,

@@ -1,22 +1,25 @@
 // A placed column, from the words of planning and of placing.
 use channels::block_count;
+use channels::channel_type;
 use channels::per_full;
 use channels::width_of;
+use choices::treatment_of;
 ghost use mathlib.Core.Path.{_≡_};
 ghost use Prim.Native.Nat.{_+_, _*_, _≤_, _<_};
 ghost use lib.ListN.{length};
-ghost use Rattle.plan.specs.Channel.{width};
+ghost use Rattle.plan.specs.Channel.{channelType, width};
 ghost use Rattle.plan.specs.Geometry.{blockCount, blockPayload};
 ghost use Rattle.plan.specs.Layout.{cgSize};
-ghost use Rattle.result.specs.Fill.{sdLink};
+ghost use Rattle.result.specs.Fill.{storedType, sdLink};
 ghost use Rattle.filling.specs.FillLaws.{hasMaster};
 ghost use Rattle.writing.specs.PlacedIn.{masterIn, signalIn};
 ghost use Rattle.writing.specs.Structure.{masterPlace, nextPlace, columnOf, Near};
 
-// Its CN, CG and DG in the image, its number of records, whether its master is in another group and that group's new CG; the places of its
+// Its CN in the image and the type that it is stored with, its CG and DG, its number of records, whether its master is in another group and that group's new CG; the places of its
 // DG, CN, first data block and SD, 0 without signal data; the number of its data blocks and the payload of one.
 pub struct PlacedColumn {
     pub channel: u64,
+    pub stored: u64,
     pub group: u64,
     pub parent: u64,
     pub records: u64,
@@ -103,9 +106,21 @@ fn payload_of(image: &[u8], size: u64, g: u64, c: u64, n: u64) -> u64
     m * w
 }
 
+// The type that the CN at c is stored with, by the table.
+fn stored_type(image: &[u8], table: &[u8], c: u64) -> u64
+    ensures { λ r. ⌜ r ≡ storedType (now (table .entry)) (channelType (now (image .entry)) c) ⌝ }
+{
+    let t = channel_type(image, c);
+    if treatment_of(table, t) == 2 {
+        return 0;
+    }
+    t
+}
+
 // Column number k of n.
 pub(crate) fn column_of(
     image: &[u8],
+    table: &[u8],
     size: u64,
     columns: &[u64],
     memo: &[u64],
@@ -113,7 +128,7 @@ pub(crate) fn column_of(
     k: u64,
 ) -> PlacedColumn
     requires { ⌜ Near (now memo) n × (k < n) × (4096 ≤ length (now columns)) ⌝ }
-    ensures { λ r. ⌜ r ≡ columnOf (now (image .entry)) size (now (columns .entry)) (now (memo .entry)) n k ⌝ }
+    ensures { λ r. ⌜ r ≡ columnOf (now (table .entry)) (now (image .entry)) size (now (columns .entry)) (now (memo .entry)) n k ⌝ }
 {
     let i = (8 * k) as usize;
     let j = (6656 + 3 * k) as usize;
@@ -128,8 +143,10 @@ pub(crate) fn column_of(
     let sd = sd_link(columns[i + 6], memo[j + 2]);
     let blocks = blocks_of(image, size, group, channel, records);
     let payload = payload_of(image, size, group, channel, records);
+    let stored = stored_type(image, table, channel);
     PlacedColumn {
         channel,
+        stored,
         group,
         parent: columns[i + 2],
         records,

@@ -22,7 +22,7 @@ ghost use Rattle.plan.specs.Layout.{dlSize};
 ghost use Rattle.placing.specs.Standing.{copiesIn};
 ghost use Rattle.result.specs.Fill.{block, newLink, structureBlocks};
 ghost use Rattle.writing.specs.PlacedIn.{placedIn};
-ghost use Rattle.writing.specs.Structure.{columnDG, columnCG, columnCN, columnDLs, columnParts, cgLength, Room, StructureReady};
+ghost use Rattle.writing.specs.Structure.{onTable, columnDG, columnCG, columnCN, columnDLs, columnParts, cgLength, Room, StructureReady};
 ghost use Rattle.writing.specs.Wrote.{Wrote};
 
 // Link i of the block at a, led to its copy.
@@ -93,6 +93,7 @@ fn fill_cn(d: &mut [u8], image: &[u8], memo: &[u64], used: u64, h: PlacedColumn)
         d,
         image,
         h.channel,
+        h.stored,
         keeps,
         name,
         source,
@@ -202,21 +203,22 @@ pub(crate) fn write_structure(
     out: &mut [u8],
     at: usize,
     image: &[u8],
+    table: &[u8],
     size: u64,
     columns: &[u64],
     memo: &[u64],
     n: u64,
     used: u64,
 ) -> usize
-    requires { ⌜ StructureReady (now image) size (now columns) (now memo) n used at (length (now out)) ⌝ }
-    ensures { λ r. ⌜ Wrote at (structureBlocks (now (image .entry)) size (copiesIn (now (memo .entry)) used)
+    requires { ⌜ StructureReady (onTable (now table)) (now image) size (now columns) (now memo) n used at (length (now out)) ⌝ }
+    ensures { λ r. ⌜ Wrote at (structureBlocks (onTable (now (table .entry))) (now (image .entry)) size (copiesIn (now (memo .entry)) used)
         (placedIn (now (columns .entry)) (now (memo .entry)) 0 n) (placedIn (now (columns .entry)) (now (memo .entry)) 0 n)) r
         (now (out .entry)) (now (out .exit)) ⌝ }
 {
     let mut k = 0;
     let mut to = at;
     while k < n {
-        let h = column_of(image, size, columns, memo, n, k);
+        let h = column_of(image, table, size, columns, memo, n, k);
         let next = next_place(memo, n, k);
         to = write_column(out, to, image, memo, used, h, next);
         k += 1;

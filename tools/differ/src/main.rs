@@ -7,6 +7,7 @@
 //! differ files RUNS SEED: the reader of column files beside a plain one.
 //! differ plots RUNS SEED: tables of ranges beside single reads and the plain reader.
 //! differ units RUNS SEED: the images of a seed with a unit each.
+//! differ types RUNS SEED: the images of a seed with a table of treatments each, beside a model of planning.
 mod alone;
 mod answers;
 mod blocks;
@@ -20,9 +21,11 @@ mod listed;
 mod omissions;
 mod port_side;
 mod random;
+mod result;
 mod rust_side;
 mod shrink;
 mod tally;
+mod types;
 mod units;
 mod walk;
 
@@ -50,9 +53,10 @@ fn main() -> ExitCode {
         ["files", runs, seed] => return status(files::compared(number(runs), number(seed))),
         ["plots", runs, seed] => return status(files::plots::compared(number(runs), number(seed))),
         ["units", runs, seed] => return status(units::compared(number(runs), number(seed))),
+        ["types", runs, seed] => return status(types::compared(number(runs), number(seed))),
         [runs, seed] => return compared(number(runs), number(seed)),
         _ => {
-            eprintln!("differ RUNS SEED | image SEED K FILE | one FILE SIZE | answers FILE | files RUNS SEED | plots RUNS SEED | units RUNS SEED");
+            eprintln!("differ RUNS SEED | image SEED K FILE | one FILE SIZE | answers FILE | (files | plots | units | types) RUNS SEED");
             return ExitCode::from(2);
         }
     }

@@ -1,4 +1,4 @@
-//! The port: `sitaungo_convert` and `sitaungo_convert_with` of the static library, with what it must leave alone or clear looked at after each call.
+//! The port: conversion and listing of the static library, with what they must leave alone or clear looked at after each call.
 use crate::blocks::word;
 use crate::child::{serve, Child, Pack, Unpack};
 
@@ -6,6 +6,8 @@ use crate::child::{serve, Child, Pack, Unpack};
 pub const WORK: usize = 8192;
 /// Words of an omission list that always do.
 pub const LIST: usize = 2049;
+/// Bytes of a listing that always do.
+const LINES: usize = 119_354;
 
 /// What output bytes and list words hold at entry.
 const OUT_BYTE: u8 = 0xa5;
@@ -39,9 +41,16 @@ extern "C" {
     ) -> Outcome;
     fn sitaungo_convert_with(
         image: *const u8, image_len: usize, size: u64, ident: *const u8, ident_len: usize, text: *const u8, text_len: usize, time: u64,
-        options: Options, source: *mut u64, source_len: usize, fragments: *mut u64, fragments_len: usize, columns: *mut u64, columns_len: usize,
+        options: Options, types: *const u8, types_len: usize,
+        source: *mut u64, source_len: usize, fragments: *mut u64, fragments_len: usize, columns: *mut u64, columns_len: usize,
         copies: *mut u64, copies_len: usize, out: *mut u8, out_len: usize, list: *mut u64, list_len: usize,
     ) -> Outcome;
+    fn sitaungo_list_with(
+        image: *const u8, image_len: usize, size: u64, ident: *const u8, ident_len: usize, text: *const u8, text_len: usize,
+        options: Options, types: *const u8, types_len: usize, out: u64, list_words: u64,
+        source: *mut u64, source_len: usize, fragments: *mut u64, fragments_len: usize, columns: *mut u64, columns_len: usize,
+        copies: *mut u64, copies_len: usize, lines: *mut u8, lines_len: usize,
+    ) -> usize;
 }
 
 /// What is lent besides the image.
@@ -74,6 +83,24 @@ pub fn last_history(result: &[u8]) -> usize {
     std::iter::successors(Some(word(result, 96) as usize), next).take(result.len()).last().unwrap_or(0)
 }
 
+/// What a call chooses.
+#[derive(Clone, Debug)]
+pub struct Choices {
+    pub unit: u64,
+    /// The table of treatments.
+    pub types: Vec<u8>,
+}
+
+impl Choices {
+    pub fn unit(unit: u64) -> Option<Choices> {
+        Some(Choices { unit, types: Vec::new() })
+    }
+
+    pub fn types(types: &[u8]) -> Option<Choices> {
+        Some(Choices { unit: 8, types: types.to_vec() })
+    }
+}
+
 /// A call's image, block size and lent values, and the lengths of its slices.
 #[derive(Clone)]
 pub struct Call<'a> {
@@ -82,7 +109,7 @@ pub struct Call<'a> {
     pub image_len: usize,
     pub size: u64,
     /// None: the call that chooses nothing.
-    pub unit: Option<u64>,
+    pub choices: Option<Choices>,
     pub lent: Lent,
     pub out: usize,
     pub list: usize,
@@ -91,7 +118,7 @@ pub struct Call<'a> {
 
 impl<'a> Call<'a> {
     pub fn new(image: &'a [u8], size: u64, lent: Lent, out: usize) -> Call<'a> {
-        Call { image, image_len: image.len(), size, unit: None, lent, out, list: LIST, work: [WORK; 4] }
+        Call { image, image_len: image.len(), size, choices: None, lent, out, list: LIST, work: [WORK; 4] }
     }
 }
 
@@ -124,15 +151,27 @@ impl Port {
 
     /// None where the process ended.
     pub fn convert(&mut self, call: &Call) -> Option<Answer> {
-        let mut p = Pack::default();
-        p.bytes(call.image);
-        p.words(&[call.image_len as u64, call.size, call.lent.time, call.out as u64, call.list as u64]);
-        p.words(&[call.unit.is_some() as u64, call.unit.unwrap_or(0)]);
-        p.words(&call.work.map(|n| n as u64));
-        p.bytes(&call.lent.ident);
-        p.bytes(&call.lent.text);
-        self.0.ask(&p.0).map(|a| unpack(&a))
+        self.0.ask(&packed(call, false)).map(|a| unpack(&a))
     }
+
+    /// The listing of what the call chooses, unit 8 and no table where it chooses nothing; none also where it left something that must be zero or stay.
+    pub fn list(&mut self, call: &Call) -> Option<String> {
+        self.0.ask(&packed(call, true)).and_then(|a| String::from_utf8(a).ok()).filter(|lines| !lines.is_empty())
+    }
+}
+
+fn packed(call: &Call, lists: bool) -> Vec<u8> {
+    let none = Choices { unit: 8, types: Vec::new() };
+    let choices = call.choices.as_ref().unwrap_or(&none);
+    let mut p = Pack::default();
+    p.bytes(call.image);
+    p.words(&[call.image_len as u64, call.size, call.lent.time, call.out as u64, call.list as u64]);
+    p.words(&[lists as u64, call.choices.is_some() as u64, choices.unit]);
+    p.words(&call.work.map(|n| n as u64));
+    p.bytes(&choices.types);
+    p.bytes(&call.lent.ident);
+    p.bytes(&call.lent.text);
+    p.0
 }
 
 fn unpack(answer: &[u8]) -> Answer {
@@ -162,6 +201,7 @@ struct Slices {
     work: [Vec<u64>; 4],
     out: Vec<u8>,
     list: Vec<u64>,
+    lines: Vec<u8>,
     /// What output and list hold at entry, and zero words.
     out_before: Vec<u8>,
     list_before: Vec<u64>,
@@ -173,7 +213,9 @@ struct Slices {
 struct Request<'a> {
     image: &'a [u8],
     size: u64,
-    unit: Option<u64>,
+    chooses: bool,
+    unit: u64,
+    types: &'a [u8],
     time: u64,
     out: usize,
     list: usize,
@@ -187,13 +229,15 @@ impl Slices {
         let mut u = Unpack(request);
         let bytes = u.bytes();
         let [image_len, size, time, out, list] = u.words();
-        let [chosen, unit] = u.words();
-        let unit = (chosen == 1).then_some(unit);
+        let [lists, chooses, unit] = u.words();
         let work = u.words().map(|n| n as usize);
         let longer = lengthened(bytes, image_len as usize);
-        let image = longer.as_deref().unwrap_or(bytes);
-        let r = Request { image, size, unit, time, out: out as usize, list: list as usize, work, ident: u.bytes(), text: u.bytes() };
+        let (image, out, list, chooses) = (longer.as_deref().unwrap_or(bytes), out as usize, list as usize, chooses == 1);
+        let r = Request { image, size, chooses, unit, types: u.bytes(), time, out, list, work, ident: u.bytes(), text: u.bytes() };
         self.prepare(&r);
+        if lists == 1 {
+            return self.list(&r);
+        }
         let o = self.call(&r);
         let faults = self.faults(&o, &r);
         let answer = self.pack(&o, faults, r.list);
@@ -228,19 +272,41 @@ impl Slices {
         let [a, b, c, d] = &mut self.work;
         // Safety: each pointer leads to as many items as the length after it says, and no two slices overlap.
         unsafe {
-            match r.unit {
-                None => sitaungo_convert(
+            if r.chooses {
+                sitaungo_convert_with(
+                    r.image.as_ptr(), r.image.len(), r.size, r.ident.as_ptr(), r.ident.len(), r.text.as_ptr(), r.text.len(), r.time,
+                    Options { unit: r.unit }, r.types.as_ptr(), r.types.len(),
+                    a.as_mut_ptr(), r.work[0], b.as_mut_ptr(), r.work[1], c.as_mut_ptr(), r.work[2], d.as_mut_ptr(), r.work[3],
+                    self.out.as_mut_ptr(), r.out, self.list.as_mut_ptr(), r.list,
+                )
+            } else {
+                sitaungo_convert(
                     r.image.as_ptr(), r.image.len(), r.size, r.ident.as_ptr(), r.ident.len(), r.text.as_ptr(), r.text.len(), r.time,
                     a.as_mut_ptr(), r.work[0], b.as_mut_ptr(), r.work[1], c.as_mut_ptr(), r.work[2], d.as_mut_ptr(), r.work[3],
                     self.out.as_mut_ptr(), r.out, self.list.as_mut_ptr(), r.list,
-                ),
-                Some(unit) => sitaungo_convert_with(
-                    r.image.as_ptr(), r.image.len(), r.size, r.ident.as_ptr(), r.ident.len(), r.text.as_ptr(), r.text.len(), r.time,
-                    Options { unit }, a.as_mut_ptr(), r.work[0], b.as_mut_ptr(), r.work[1], c.as_mut_ptr(), r.work[2], d.as_mut_ptr(), r.work[3],
-                    self.out.as_mut_ptr(), r.out, self.list.as_mut_ptr(), r.list,
-                ),
+                )
             }
         }
+    }
+
+    /// The lines; none where work words aren't zero, or as they were after refusal 1, or bytes past the lines changed.
+    #[rustfmt::skip]
+    fn list(&mut self, r: &Request) -> Vec<u8> {
+        self.lines.clear();
+        self.lines.resize(LINES, OUT_BYTE);
+        let [a, b, c, d] = &mut self.work;
+        // Safety: as above.
+        let n = unsafe {
+            sitaungo_list_with(
+                r.image.as_ptr(), r.image.len(), r.size, r.ident.as_ptr(), r.ident.len(), r.text.as_ptr(), r.text.len(),
+                Options { unit: r.unit }, r.types.as_ptr(), r.types.len(), r.out as u64, r.list as u64,
+                a.as_mut_ptr(), r.work[0], b.as_mut_ptr(), r.work[1], c.as_mut_ptr(), r.work[2], d.as_mut_ptr(), r.work[3],
+                self.lines.as_mut_ptr(), LINES,
+            )
+        };
+        let word = if self.lines.starts_with(b"refused 1 ") { self.word_before() } else { 0 };
+        let kept = self.work.iter().flatten().all(|w| *w == word) && self.lines[n..].iter().all(|x| *x == OUT_BYTE);
+        self.lines[..if kept { n } else { 0 }].to_vec()
     }
 
     /// Bits of `FAULTS`.

@@ -1,13 +1,13 @@
 //! differ units RUNS SEED: images converted with a unit each, held to the Rust's result; see docs/COMPARED.md. Every image is converted without a choice
 //! and with one of the ten units, every `ALL`th with each of them and with units that are refused.
-use crate::blocks::{kind_at, link, link_count, word};
+use crate::blocks::{link, link_count};
 use crate::case::Case;
 use crate::compare::{Finding, Pair, Verdict};
 use crate::omissions;
-use crate::port_side::{Answer, Call, Lent, Port, WORK};
+use crate::port_side::{Answer, Call, Choices, Lent, Port, WORK};
 use crate::random::Random;
+use crate::result::{columns, end_of, Column, Shown};
 use crate::rust_side::{self, Converted};
-use crate::walk::{data_groups, DataGroup};
 use std::collections::BTreeMap;
 
 const UNITS: [u64; 10] = [8, 16, 32, 64, 128, 256, 512, 1024, 2048, 4096];
@@ -19,14 +19,6 @@ const SHOWN: u64 = 20;
 
 /// The length of an image over 4 GiB, tried once.
 const LONG: usize = (1 << 32) + 1;
-
-/// A column of a file, by links.
-struct Column {
-    dl: usize,
-    cn: usize,
-    blocks: Vec<usize>,
-    signal: Option<usize>,
-}
 
 /// What was met, for the table.
 #[derive(Default)]
@@ -84,14 +76,14 @@ impl Run {
             _ => {
                 let refused = found.port.as_ref().and_then(|p| p.refused);
                 *self.refused.entry(refused.map_or(0, |r| r.0)).or_default() += 1;
-                refuses(port, &Call { unit: Some(unit), ..Call::new(image, size, Lent::fitting(), 0) }, refused)
+                refuses(port, &Call { choices: Choices::unit(unit), ..Call::new(image, size, Lent::fitting(), 0) }, refused)
             }
         }
     }
 
     fn accepted(&mut self, port: &mut Port, image: &[u8], size: u64, unit: u64, c: &Converted) -> Result<(), String> {
         let due = moved(&c.bytes, c.counts[5] as usize, unit as usize);
-        let call = Call { unit: Some(unit), ..Call::new(image, size, Lent::of(&c.bytes), due.len() + size as usize % 3) };
+        let call = Call { choices: Choices::unit(unit), ..Call::new(image, size, Lent::of(&c.bytes), due.len() + size as usize % 3) };
         let answer = port.convert(&call).ok_or("the port ended")?;
         held(image, c, &answer, unit)?;
         if answer.bytes != due || unit == 8 && answer.bytes != c.bytes {
@@ -126,7 +118,7 @@ impl Run {
     /// 26 after 1 and 2 and before all else, 3 among it.
     fn bad(&mut self, port: &mut Port, image: &[u8], size: u64, random: &mut Random) -> Result<(), String> {
         let unit = random.pick(&BAD);
-        let call = Call { unit: Some(unit), ..Call::new(image, size, Lent::fitting(), random.below(3)) };
+        let call = Call { choices: Choices::unit(unit), ..Call::new(image, size, Lent::fitting(), random.below(3)) };
         let mut work = [WORK; 4];
         work[random.below(4)] -= 1;
         refuses(port, &call, Some((26, 0)))?;
@@ -136,7 +128,7 @@ impl Run {
         if !self.long_tried {
             self.long_tried = true;
             refuses(port, &Call { image_len: LONG, ..call.clone() }, Some((26, 0)))?;
-            refuses(port, &Call { image_len: LONG, unit: Some(4096), ..call }, Some((3, 0)))?;
+            refuses(port, &Call { image_len: LONG, choices: Choices::unit(4096), ..call }, Some((3, 0)))?;
         }
         Ok(())
     }
@@ -154,7 +146,7 @@ impl Run {
 fn refuses(port: &mut Port, call: &Call, due: Option<(u64, u64)>) -> Result<(), String> {
     let a = port.convert(call).ok_or("the port ended")?;
     if a.refused != due || !a.faults.is_empty() {
-        return Err(format!("expected {due:?}, got {:?} {:?}, unit {:?}", a.refused, a.faults, call.unit));
+        return Err(format!("expected {due:?}, got {:?} {:?}, {:?}", a.refused, a.faults, call.choices));
     }
     Ok(())
 }
@@ -171,7 +163,7 @@ fn held(image: &[u8], c: &Converted, answer: &Answer, unit: u64) -> Result<(), S
         (answer.counts[..6] != c.counts[..6], "another report"),
         (answer.counts[6] != file.len() as u64, "another size than the report's"),
         (!omissions::agree(&omissions::of(image, &c.skipped), &answer.omissions), "other omissions"),
-        (shown(file) != shown(&c.bytes), "other payloads or signal data"),
+        (!all_shown(file).eq(all_shown(&c.bytes)), "other payloads or signal data"),
         (!columns(file).iter().all(starts), "a start that is no multiple of the unit"),
         (gaps.iter().any(|(a, b)| a + unit as usize <= *b), "a gap as long as the unit"),
         (gaps.iter().any(|(a, b)| file.get(*a..*b).map_or(true, |gap| gap.iter().any(|x| *x != 0))), "a gap that isn't zero"),
@@ -179,26 +171,9 @@ fn held(image: &[u8], c: &Converted, answer: &Answer, unit: u64) -> Result<(), S
     wrong.iter().find(|w| w.0).map_or(Ok(()), |w| Err(w.1.into()))
 }
 
-fn columns(file: &[u8]) -> Vec<Column> {
-    let one = |dg: usize, cn: usize| {
-        let dl = link(file, dg, 2);
-        let blocks =
-            if dl == 0 { Vec::new() } else { (1..link_count(file, dl).min(file.len() as u64) as usize).map(|i| link(file, dl, i)).collect() };
-        Column { dl, cn, blocks, signal: Some(link(file, cn, 5)).filter(|at| *at != 0) }
-    };
-    let channel = |d: &DataGroup| d.groups.first().and_then(|g| g.channels.first()).copied();
-    data_groups(file).iter().filter_map(|d| channel(d).map(|cn| one(d.at, cn))).collect()
-}
-
-fn end_of(file: &[u8], at: usize) -> usize {
-    at.saturating_add(word(file, at + 8) as usize)
-}
-
-/// Kind and payload of each block of each column, and its signal data: what links show.
-fn shown(file: &[u8]) -> Vec<(Vec<(&[u8], &[u8])>, Option<&[u8]>)> {
-    let part = |at: usize| file.get(at + 24..end_of(file, at)).unwrap_or(b"");
-    let one = |c: &Column| (c.blocks.iter().map(|b| (kind_at(file, *b), part(*b))).collect(), c.signal.map(part));
-    columns(file).iter().map(one).collect()
+/// What links show of each column.
+fn all_shown(file: &[u8]) -> impl Iterator<Item = Shown<'_>> {
+    columns(file).into_iter().map(|c| c.shown(file))
 }
 
 /// Data blocks and SD in the order of the file, as ranges; the blocks of one column are one range.

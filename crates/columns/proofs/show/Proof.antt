@@ -26,6 +26,9 @@ slice-aggregate-convert-6 c = search needs
 slice-aggregate-convert-7 : tie.Need-slice-aggregate-convert-7
 slice-aggregate-convert-7 c = search needs
 
+slice-aggregate-convert-8 : tie.Need-slice-aggregate-convert-8
+slice-aggregate-convert-8 c = search needs
+
 convert-requires : tie.Need-convert-requires
 convert-requires c κs = search needs
 
@@ -46,6 +49,9 @@ slice-aggregate-list-5 c = search needs
 
 slice-aggregate-list-6 : tie.Need-slice-aggregate-list-6
 slice-aggregate-list-6 c = search needs
+
+slice-aggregate-list-7 : tie.Need-slice-aggregate-list-7
+slice-aggregate-list-7 c = search needs
 
 list-requires : tie.Need-list-requires
 list-requires c κs = search needs
@@ -73,6 +79,7 @@ show-spec =
     slice-aggregate-convert-5
     slice-aggregate-convert-6
     slice-aggregate-convert-7
+    slice-aggregate-convert-8
     convert-requires
     slice-aggregate-list
     slice-aggregate-list-2
@@ -80,6 +87,7 @@ show-spec =
     slice-aggregate-list-4
     slice-aggregate-list-5
     slice-aggregate-list-6
+    slice-aggregate-list-7
     list-requires
     array-share-prefix-lines
     slice-aggregate-write-all

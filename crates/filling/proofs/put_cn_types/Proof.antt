@@ -9,9 +9,6 @@ use borrow.Author.Needs.{needs}
 use Rattle.filling.proofs.put_cn_types.Statement.{statement}
 use Rattle.filling.proofs.put_cn_types.Tie as tie
 
-stored-type-requires : tie.Need-stored-type-requires
-stored-type-requires c κs = search needs
-
 put-u8-requires : tie.Need-put-u8-requires
 put-u8-requires c κs = search needs
 
@@ -34,9 +31,8 @@ returns : tie.Need-returns
 unfolding cnTypes
 returns c =
     let l = c .before .before .before .before .before .before .before .before .before .before .put-data .ensures in
-    let a = blit-next _ _ _ _ _ _ _ (rw
-        (c .before .before .before .before .before .before .before .before .before .before .before .before .before .before .before .stored-type .ensures)
-        at (c .before .before .before .before .before .before .before .before .before .before .before .before .before .before .put-u8 .ensures))
+    let a = blit-next _ _ _ _ _ _ _
+        (c .before .before .before .before .before .before .before .before .before .before .before .before .before .before .put-u8 .ensures)
         (l .is) (simp length-le) in
     let b = blit-next _ _ _ _ _ _ _ a (c .before .before .before .before .before .before .put-u32 .ensures) (simp (length-append,
         length-le) (omega (arith, l .past))) in
@@ -47,7 +43,6 @@ pub put-cn-types-spec : {M : Type 1} → statement M
 put-cn-types-spec =
     tie.close
     (tie.spec
-    stored-type-requires
     put-u8-requires
     put-data-requires
     put-u32-requires

@@ -1,5 +1,6 @@
 -- 1 of each kind, or what the rest decides.
 use mathlib.Core.List.{[]}
+use Rattle.plan.specs.Rules.{builtIn}
 use Rattle.placing.specs.DecisionLaws.{short-first, short-second, short-third, short-fourth, work-fine, short-work, lent-refused, text-fits, rest-refused, rest-decided, rests-refused, cleared, decides-some}
 use native.Mathlib.Omega.{arith}
 use lib.ListN.{length, length-set}
@@ -48,11 +49,11 @@ enum-told c = search needs
 -- src/decide.rt:101:9
 decide-rest-requires : tie.Need-decide-rest-requires
 decide-rest-requires c κs = let a =
-    c .before .before .before .before .before .before .before .before .before .before .before .before .before .before .before .before .before .before .args
+    c .before .before .before .before .before .before .before .before .before .before .before .before .before .before .before .before .before .before .before .args
     in (c .before .before .before .before .before .before .before .before .before .before .if1 .left,
     c .before .before .before .before .before .before .before .before .before .if2 .left,
     c .before .before .before .before .before .before .before .before .if3 .left,
-    c .before .before .before .before .before .before .before .if4 .left, text-fits [] 0 _ _ (record { unit = 8 }) _ (work-fine (a .source .now)
+    c .before .before .before .before .before .before .before .if4 .left, text-fits [] 0 _ _ builtIn _ (work-fine (a .source .now)
     (a .fragments .now) (a .columns .now) (a .copies .now)
     (c .before .before .before .before .before .before .before .before .before .before .if1 .left)
     (c .before .before .before .before .before .before .before .before .before .if2 .left)
@@ -100,7 +101,7 @@ same-length-4 c = search needs
 -- src/decide.rt:107:9
 returns-6 : tie.Need-returns-6
 returns-6 c =
-    let a = c .before .before .before .before .before .before .before .before .before .before .before .before .before .before .before .before .before .before .before .before .before .before .before .before .before .before .before .before .before .before .before .before .before .before .before .before .before .before .before .before .before .before .before .before .before .before .args
+    let a = c .before .before .before .before .before .before .before .before .before .before .before .before .before .before .before .before .before .before .before .before .before .before .before .before .before .before .before .before .before .before .before .before .before .before .before .before .before .before .before .before .before .before .before .before .before .before .before .args
         in
     rest-refused _ _ _ _ _ _ (work-fine _ _ _ _
         (c .before .before .before .before .before .before .before .before .before .before .before .before .before .before .before .before .before .before .before .before .before .before .before .before .before .before .before .before .before .before .before .before .before .before .before .before .before .before .if1 .left)
@@ -113,10 +114,10 @@ returns-6 c =
         (c .before .before .before .before .before .before .before .before .before .before .before .before .before .before .before .before .before .before .before .before .before .before .before .before .before .before .before .decide-rest .ensures)
         (c .before .before .before .before .before .before .before .before .before .before .before .before .before .before .before .before .before .found .given .1))
     (cleared (a .source .now) (a .fragments .now) (a .columns .now) (a .copies .now)
-        (c .before .before .before .before .before .before .before .before .before .before .before .before .before .before .before .before .before .before .before .before .before .before .before .before .before .before .before .decide-rest .last .1 .1 .1 .1 .0)
         (c .before .before .before .before .before .before .before .before .before .before .before .before .before .before .before .before .before .before .before .before .before .before .before .before .before .before .before .decide-rest .last .1 .1 .1 .1 .1 .0)
         (c .before .before .before .before .before .before .before .before .before .before .before .before .before .before .before .before .before .before .before .before .before .before .before .before .before .before .before .decide-rest .last .1 .1 .1 .1 .1 .1 .0)
         (c .before .before .before .before .before .before .before .before .before .before .before .before .before .before .before .before .before .before .before .before .before .before .before .before .before .before .before .decide-rest .last .1 .1 .1 .1 .1 .1 .1 .0)
+        (c .before .before .before .before .before .before .before .before .before .before .before .before .before .before .before .before .before .before .before .before .before .before .before .before .before .before .before .decide-rest .last .1 .1 .1 .1 .1 .1 .1 .1 .0)
         _ _ _ _ (omega arith) (omega arith) (omega arith) (omega arith)
     (c .before .before .before .before .before .before .before .before .before .before .before .before .before .before .clear .ensures)
         (c .before .before .before .before .before .before .before .before .before .before .clear2 .ensures)
@@ -144,7 +145,7 @@ same-length-8 c = search needs
 -- src/decide.rt:77:1
 returns-7 : tie.Need-returns-7
 returns-7 c =
-    let a = c .before .before .before .before .before .before .before .before .before .before .before .before .before .before .before .before .before .before .before .before .before .before .before .before .before .before .before .before .before .args
+    let a = c .before .before .before .before .before .before .before .before .before .before .before .before .before .before .before .before .before .before .before .before .before .before .before .before .before .before .before .before .before .before .args
         in
     decides-some _ _ _ _ _ _ _ _ _ _ _ _ _ _
         (c .before .before .before .before .before .before .before .before .before .before .decide-rest .ensures)

@@ -1,5 +1,4 @@
 -- The decision gives the omission or the column, and its words.
-use mathlib.Core.List.{[]}
 use Rattle.planning.specs.ChannelLaws.{channel-refused, channel-omitted, channel-bounds, channel-kept}
 use native.Mathlib.Omega.{arith}
 use borrow.Author.Needs.{needs}
@@ -18,8 +17,8 @@ enum-known-decision-2 c = search needs
 put-omission-requires : tie.Need-put-omission-requires
 put-omission-requires c κs = search needs
 
-add-t25 : tie.Need-add-t25
-add-t25 c = search needs
+add-t27 : tie.Need-add-t27
+add-t27 c = search needs
 
 enum-known-decision-3 : tie.Need-enum-known-decision-3
 enum-known-decision-3 c = search needs
@@ -28,23 +27,23 @@ signal-word-requires : tie.Need-signal-word-requires
 signal-word-requires c κs = search needs
 
 sub-put-column : tie.Need-sub-put-column
-sub-put-column c = omega (arith, channel-bounds _ _ 0 0 0 _ 0 0 _ [] _
+sub-put-column c = omega (arith, channel-bounds _ _ _ _ _ _
     (c .before .before .before .before .before .before .before .decide .result)
-    (c .before .before .before .before .before .before .before .decide .last .1 .0)
+    (c .before .before .before .before .before .before .before .decide .last .1 .1 .0)
     (c .before .before .before .before .before .before .before .decide .ensures) (c .before .before .before .decision3 .given .1)
     (omega arith))
 
 put-column-requires : tie.Need-put-column-requires
 put-column-requires c κs = search needs
 
-add-t29 : tie.Need-add-t29
-add-t29 c = search needs
+add-t31 : tie.Need-add-t31
+add-t31 c = search needs
 
 same-length : tie.Need-same-length
 same-length c = search needs
 
 returns : tie.Need-returns
-returns c = channel-refused _ _ _ _ _ _ _ _ _ _ _ _ _ (c .before .before .before .before .before .decide .ensures)
+returns c = channel-refused _ _ _ _ _ _ _ _ _ _ _ _ _ _ (c .before .before .before .before .before .decide .ensures)
     (c .before .decision .given .1)
 
 same-length-2 : tie.Need-same-length-2
@@ -54,7 +53,7 @@ same-length-3 : tie.Need-same-length-3
 same-length-3 c = search needs
 
 returns-2 : tie.Need-returns-2
-returns-2 c = channel-omitted _ _ _ _ _ _ _ _ _ _ _ _ _
+returns-2 c = channel-omitted _ _ _ _ _ _ _ _ _ _ _ _ _ _
     (c .before .before .before .before .before .before .before .before .before .decide .ensures)
     (c .before .before .before .before .before .decision2 .given .1) (omega arith) (c .before .before .put-omission .ensures)
 
@@ -65,7 +64,7 @@ same-length-5 : tie.Need-same-length-5
 same-length-5 c = search needs
 
 returns-3 : tie.Need-returns-3
-returns-3 c = channel-kept _ _ _ _ _ _ _ _ _ _ _ _ _
+returns-3 c = channel-kept _ _ _ _ _ _ _ _ _ _ _ _ _ _
     (c .before .before .before .before .before .before .before .before .before .before .decide .ensures)
     (c .before .before .before .before .before .before .decision3 .given .1) (omega arith)
     (c .before .before .before .before .signal-word .ensures) (c .before .before .put-column .ensures)
@@ -78,12 +77,12 @@ plan-channel-spec =
     enum-known-decision
     enum-known-decision-2
     put-omission-requires
-    add-t25
+    add-t27
     enum-known-decision-3
     signal-word-requires
     sub-put-column
     put-column-requires
-    add-t29
+    add-t31
     same-length
     returns
     same-length-2

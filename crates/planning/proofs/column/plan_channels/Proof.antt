@@ -1,4 +1,5 @@
 -- What is left of the channels gives what all of them give.
+use Rattle.choices.specs.Chosen.{rules}
 use Rattle.planning.specs.ChannelLaws.{Channels, channels-begin, channels-last, channels-stop, channels-pass, channels-refused, channels-on}
 use Prim.Native.Nat.{_-_}
 use mathlib.Core.Path.{_≡_, refl}
@@ -9,14 +10,14 @@ use Rattle.planning.proofs.column.plan_channels.Statement.{statement}
 use Rattle.planning.proofs.column.plan_channels.Tie as tie
 
 abbrev Inv-loop : tie.InvT-loop
-Inv-loop image source fragments₀ columns₀ n i g d records own master nc om nf k₀ columns-now₀ omissions-now₀ fragments-now₀
+Inv-loop image choices table source fragments₀ columns₀ n i g d records own master nc om nf k₀ columns-now₀ omissions-now₀ fragments-now₀
     fragments columns k columns-now omissions-now fragments-now = (length columns ≡ length columns₀) × (length fragments ≡ length
     fragments₀)
-    × Channels image source n i g d records own master nc om nf columns₀ fragments₀ k columns-now omissions-now fragments-now
+    × Channels (rules choices table) image source n i g d records own master nc om nf columns₀ fragments₀ k columns-now omissions-now fragments-now
         columns fragments
 
 abbrev μ-loop : tie.MeasureT-loop
-μ-loop image source fragments₀ columns₀ n i g d records own master nc om nf k₀ columns-now₀ omissions-now₀ fragments-now₀
+μ-loop image choices table source fragments₀ columns₀ n i g d records own master nc om nf k₀ columns-now₀ omissions-now₀ fragments-now₀
     fragments columns k columns-now omissions-now fragments-now = n - k
 
 loop-holds : tie.Need-loop-holds Inv-loop μ-loop

@@ -1,5 +1,6 @@
 -- What is left of the groups gives what all of them give.
 use Rattle.planning.specs.PlannedLaws.{Groups, groups-begin, groups-end, groups-channel, groups-data, groups-refused, groups-on}
+use Rattle.choices.specs.Chosen.{rules}
 use Prim.Native.Nat.{_-_}
 use mathlib.Core.Path.{_≡_, refl}
 use lib.ListN.{length}
@@ -9,12 +10,12 @@ use Rattle.planning.proofs.planned.plan_groups.Statement.{statement}
 use Rattle.planning.proofs.planned.plan_groups.Tie as tie
 
 abbrev Inv-loop : tie.InvT-loop
-Inv-loop image source fragments₀ columns₀ n nf i₀ g₀ d₀ columns-now₀ omissions-now₀ fragments-now₀ fragments columns i g d
+Inv-loop image choices table source fragments₀ columns₀ n nf i₀ g₀ d₀ columns-now₀ omissions-now₀ fragments-now₀ fragments columns i g d
     columns-now omissions-now fragments-now = (length columns ≡ length columns₀) × (length fragments ≡ length fragments₀)
-    × Groups image source n nf columns₀ fragments₀ i g d columns-now omissions-now fragments-now columns fragments
+    × Groups (rules choices table) image source n nf columns₀ fragments₀ i g d columns-now omissions-now fragments-now columns fragments
 
 abbrev μ-loop : tie.MeasureT-loop
-μ-loop image source fragments₀ columns₀ n nf i₀ g₀ d₀ columns-now₀ omissions-now₀ fragments-now₀ fragments columns i g d
+μ-loop image choices table source fragments₀ columns₀ n nf i₀ g₀ d₀ columns-now₀ omissions-now₀ fragments-now₀ fragments columns i g d
     columns-now omissions-now fragments-now = n - i
 
 loop-holds : tie.Need-loop-holds Inv-loop μ-loop

@@ -45,15 +45,15 @@ same-length-3 : tie.Need-same-length-3
 same-length-3 c = search needs
 
 returns-4 : tie.Need-returns-4
-returns-4 c = plan-refused _ _ _ _ _ (omega (arith,
+returns-4 c = plan-refused _ _ _ _ _ _ (omega (arith,
     c .before .before .before .before .before .before .before .before .before .before .before .before .before .before .before .before .before .before .before .before .before .before .before .before .before .before .before .if1 .left))
     (omega (arith,
     c .before .before .before .before .before .before .before .before .before .before .before .before .before .before .before .before .before .before .before .before .before .before .before .before .before .before .if2 .left))
     (omega (arith,
     c .before .before .before .before .before .before .before .before .before .before .before .before .before .before .before .before .before .before .before .before .before .before .before .before .before .if3 .left))
-    (c .before .before .before .before .before .before .before .before .before .before .before .before .before .before .before .before .before .before .before .before .before .plan-all .last .1 .1 .0)
-    (c .before .before .before .before .before .before .before .before .before .before .before .before .before .before .before .before .before .before .before .before .before .plan-all .last .1 .1 .1 .0)
     (c .before .before .before .before .before .before .before .before .before .before .before .before .before .before .before .before .before .before .before .before .before .plan-all .last .1 .1 .1 .1 .0)
+    (c .before .before .before .before .before .before .before .before .before .before .before .before .before .before .before .before .before .before .before .before .before .plan-all .last .1 .1 .1 .1 .1 .0)
+    (c .before .before .before .before .before .before .before .before .before .before .before .before .before .before .before .before .before .before .before .before .before .plan-all .last .1 .1 .1 .1 .1 .1 .0)
     _ (c .before .before .before .before .before .before .before .before .before .before .before .before .before .before .before .before .before .before .before .before .before .plan-all .ensures)
     (c .before .before .before .before .before .before .before .before .before .before .before .before .before .answer .given .1)
     (search needs) (search needs) (search needs)
@@ -73,14 +73,14 @@ same-length-6 : tie.Need-same-length-6
 same-length-6 c = search needs
 
 returns-5 : tie.Need-returns-5
-returns-5 c = plan-done _ _ _ _ _ (omega (arith,
+returns-5 c = plan-done _ _ _ _ _ _ (omega (arith,
     c .before .before .before .before .before .before .before .before .before .before .before .before .before .before .if1 .left))
     (omega (arith,
     c .before .before .before .before .before .before .before .before .before .before .before .before .before .if2 .left)) (omega
     (arith, c .before .before .before .before .before .before .before .before .before .before .before .before .if3 .left))
-    (c .before .before .before .before .before .before .before .before .plan-all .last .1 .1 .0)
-    (c .before .before .before .before .before .before .before .before .plan-all .last .1 .1 .1 .0)
-    (c .before .before .before .before .before .before .before .before .plan-all .last .1 .1 .1 .1 .0) _
+    (c .before .before .before .before .before .before .before .before .plan-all .last .1 .1 .1 .1 .0)
+    (c .before .before .before .before .before .before .before .before .plan-all .last .1 .1 .1 .1 .1 .0)
+    (c .before .before .before .before .before .before .before .before .plan-all .last .1 .1 .1 .1 .1 .1 .0) _
     (c .before .before .before .before .before .before .before .before .plan-all .ensures) (c .enum-told .given .1)
 
 pub plan-spec : {M : Type 1} → statement M

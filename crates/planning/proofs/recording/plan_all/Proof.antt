@@ -16,14 +16,14 @@ enum-known-met-2 c = search needs
 
 plan-read-requires : tie.Need-plan-read-requires
 plan-read-requires c κs = (read-few _ _ _ (omega (arith,
-    c .before .before .before .before .before .before .before .before .before .before .before .before .before .before .before .before .before .pre))
+    c .before .before .before .before .before .before .before .before .before .before .before .before .before .before .before .before .before .before .pre))
     (omega (arith,
-    c .before .before .before .before .before .before .before .before .before .before .before .before .before .before .before .before .before .pre))
+    c .before .before .before .before .before .before .before .before .before .before .before .before .before .before .before .before .before .before .pre))
     _ _ (c .before .before .before .before .before .before .before .before .before .before .read .ensures)
     (c .before .before .before .before .met2 .given .1) .0, read-few _ _ _ (omega (arith,
-    c .before .before .before .before .before .before .before .before .before .before .before .before .before .before .before .before .before .pre))
+    c .before .before .before .before .before .before .before .before .before .before .before .before .before .before .before .before .before .before .pre))
     (omega (arith,
-    c .before .before .before .before .before .before .before .before .before .before .before .before .before .before .before .before .before .pre))
+    c .before .before .before .before .before .before .before .before .before .before .before .before .before .before .before .before .before .before .pre))
     _ _ (c .before .before .before .before .before .before .before .before .before .before .read .ensures)
     (c .before .before .before .before .met2 .given .1) .1, search needs, search needs)
 
@@ -35,10 +35,10 @@ same-length-2 c = search needs
 
 returns : tie.Need-returns
 returns c = all-unread _ _ _ (omega (arith,
-    c .before .before .before .before .before .before .before .before .before .before .before .before .before .before .pre))
+    c .before .before .before .before .before .before .before .before .before .before .before .before .before .before .before .pre))
     (omega (arith,
-    c .before .before .before .before .before .before .before .before .before .before .before .before .before .before .pre)) _ _
-    (c .before .before .before .before .before .before .before .read .ensures) _ _ (c .before .met .given .1)
+    c .before .before .before .before .before .before .before .before .before .before .before .before .before .before .before .pre)) _ _
+    (c .before .before .before .before .before .before .before .read .ensures) _ _ _ (c .before .met .given .1)
 
 same-length-3 : tie.Need-same-length-3
 same-length-3 c = search needs
@@ -51,11 +51,11 @@ same-length-5 c = search needs
 
 returns-2 : tie.Need-returns-2
 returns-2 c = all-planned _ _ _ (omega (arith,
-    c .before .before .before .before .before .before .before .before .before .before .before .before .before .before .before .before .before .before .before .before .before .before .pre))
+    c .before .before .before .before .before .before .before .before .before .before .before .before .before .before .before .before .before .before .before .before .before .before .before .pre))
     (omega (arith,
-    c .before .before .before .before .before .before .before .before .before .before .before .before .before .before .before .before .before .before .before .before .before .before .pre))
+    c .before .before .before .before .before .before .before .before .before .before .before .before .before .before .before .before .before .before .before .before .before .before .before .pre))
     _ _ (c .before .before .before .before .before .before .before .before .before .before .before .before .before .before .before .read .ensures)
-    (c .before .before .before .before .before .before .before .before .before .met2 .given .1) _ _
+    (c .before .before .before .before .before .before .before .before .before .met2 .given .1) _ _ _
     (c .before .before .before .before .plan-read .ensures)
 
 pub plan-all-spec : {M : Type 1} → statement M

@@ -15,10 +15,10 @@ enum-known-planned-2 : tie.Need-enum-known-planned-2
 enum-known-planned-2 c = search needs
 
 stage-in-requires : tie.Need-stage-in-requires
-stage-in-requires c κs = (search needs, search needs, planned-few _ _ _ _ _ _ _ _
+stage-in-requires c κs = (search needs, search needs, planned-few _ _ _ _ _ _ _ _ _
     (c .before .before .before .before .before .before .before .before .before .plan-groups .ensures)
     (c .before .before .before .planned2 .given .1) (omega (arith,
-    c .before .before .before .before .before .before .before .before .before .before .before .before .before .before .before .before .pre)) .0,
+    c .before .before .before .before .before .before .before .before .before .before .before .before .before .before .before .before .before .pre)) .0,
     search needs)
 
 enum-known-checked : tie.Need-enum-known-checked
@@ -34,7 +34,7 @@ same-length-2 : tie.Need-same-length-2
 same-length-2 c = search needs
 
 returns : tie.Need-returns
-returns c = read-unplanned _ _ _ _ _ _ _ _ _ (c .before .before .before .before .before .before .before .plan-groups .ensures)
+returns c = read-unplanned _ _ _ _ _ _ _ _ _ _ (c .before .before .before .before .before .before .before .plan-groups .ensures)
     (c .before .planned .given .1)
 
 same-length-3 : tie.Need-same-length-3
@@ -44,17 +44,17 @@ same-length-4 : tie.Need-same-length-4
 same-length-4 c = search needs
 
 returns-2 : tie.Need-returns-2
-returns-2 c = read-unstaged _ _ _ _ _ _ _ _ _
+returns-2 c = read-unstaged _ _ _ _ _ _ _ _ _ _
     (c .before .before .before .before .before .before .before .before .before .before .before .before .before .plan-groups .ensures)
     (omega (arith,
-    c .before .before .before .before .before .before .before .before .before .before .before .before .before .before .before .before .before .before .before .before .pre))
+    c .before .before .before .before .before .before .before .before .before .before .before .before .before .before .before .before .before .before .before .before .before .pre))
     (omega (arith,
-    c .before .before .before .before .before .before .before .before .before .before .before .before .before .before .before .before .before .before .before .before .pre))
+    c .before .before .before .before .before .before .before .before .before .before .before .before .before .before .before .before .before .before .before .before .before .pre))
     (c .before .before .before .before .before .before .before .planned2 .given .1)
-    (planned-few _ _ _ _ _ _ _ _
+    (planned-few _ _ _ _ _ _ _ _ _
         (c .before .before .before .before .before .before .before .before .before .before .before .before .before .plan-groups .ensures)
         (c .before .before .before .before .before .before .before .planned2 .given .1) (omega (arith,
-        c .before .before .before .before .before .before .before .before .before .before .before .before .before .before .before .before .before .before .before .before .pre)) .1)
+        c .before .before .before .before .before .before .before .before .before .before .before .before .before .before .before .before .before .before .before .before .before .pre)) .1)
         (c .before .before .before .stage-in .ensures) (c .before .checked .given .1)
 
 same-length-5 : tie.Need-same-length-5
@@ -64,17 +64,17 @@ same-length-6 : tie.Need-same-length-6
 same-length-6 c = search needs
 
 returns-3 : tie.Need-returns-3
-returns-3 c = read-planned _ _ _ _ _ _ _ _ _
+returns-3 c = read-planned _ _ _ _ _ _ _ _ _ _
     (c .before .before .before .before .before .before .before .before .before .before .before .before .plan-groups .ensures)
     (omega (arith,
-    c .before .before .before .before .before .before .before .before .before .before .before .before .before .before .before .before .before .before .before .pre))
+    c .before .before .before .before .before .before .before .before .before .before .before .before .before .before .before .before .before .before .before .before .pre))
     (omega (arith,
-    c .before .before .before .before .before .before .before .before .before .before .before .before .before .before .before .before .before .before .before .pre))
+    c .before .before .before .before .before .before .before .before .before .before .before .before .before .before .before .before .before .before .before .before .pre))
     (c .before .before .before .before .before .before .planned2 .given .1)
-    (planned-few _ _ _ _ _ _ _ _
+    (planned-few _ _ _ _ _ _ _ _ _
         (c .before .before .before .before .before .before .before .before .before .before .before .before .plan-groups .ensures)
         (c .before .before .before .before .before .before .planned2 .given .1) (omega (arith,
-        c .before .before .before .before .before .before .before .before .before .before .before .before .before .before .before .before .before .before .before .pre)) .1)
+        c .before .before .before .before .before .before .before .before .before .before .before .before .before .before .before .before .before .before .before .before .pre)) .1)
         (c .before .before .stage-in .ensures) (c .enum-told .given .1)
 
 pub plan-read-spec : {M : Type 1} → statement M

@@ -66,9 +66,9 @@ add-cn : tie.Need-add-cn
 add-cn c =
     omega (
       arith,
-      c .before .before .before .before .before .before .before .before .before .before .pre .0 .below
-          (c .before .before .before .before .before .before .before .before .before .before .args .k)
-          (c .before .before .before .before .before .before .before .before .before .before .pre .1),
+      c .before .before .before .before .before .before .before .before .before .before .before .pre .0 .below
+          (c .before .before .before .before .before .before .before .before .before .before .before .args .k)
+          (c .before .before .before .before .before .before .before .before .before .before .before .pre .1),
     )
 
 cg-size-requires : tie.Need-cg-size-requires
@@ -78,14 +78,14 @@ add-cn-2 : tie.Need-add-cn-2
 add-cn-2 c =
     omega (
       arith,
-      c .before .before .before .before .before .before .before .before .before .before .before .pre .0 .below
-          (c .before .before .before .before .before .before .before .before .before .before .before .args .k)
-          (c .before .before .before .before .before .before .before .before .before .before .before .pre .1),
+      c .before .before .before .before .before .before .before .before .before .before .before .before .pre .0 .below
+          (c .before .before .before .before .before .before .before .before .before .before .before .before .args .k)
+          (c .before .before .before .before .before .before .before .before .before .before .before .before .pre .1),
       c .cg-size .ensures,
       size-near
           (masterIn (getD
-              (c .before .before .before .before .before .before .before .before .before .before .before .args .columns .now)
-          (8 * c .before .before .before .before .before .before .before .before .before .before .before .args .k + 5) 0)),
+              (c .before .before .before .before .before .before .before .before .before .before .before .before .args .columns .now)
+          (8 * c .before .before .before .before .before .before .before .before .before .before .before .before .args .k + 5) 0)),
     )
 
 add-sd-link : tie.Need-add-sd-link
@@ -115,32 +115,31 @@ blocks-of-requires c κs = search needs
 payload-of-requires : tie.Need-payload-of-requires
 payload-of-requires c κs = search needs
 
-add-t24 : tie.Need-add-t24
-add-t24 c = search needs
+stored-type-requires : tie.Need-stored-type-requires
+stored-type-requires c κs = search needs
 
-mul-t22 : tie.Need-mul-t22
-mul-t22 c = search needs
+add-t26 : tie.Need-add-t26
+add-t26 c = search needs
 
-shared-slice-read-t21 : tie.Need-shared-slice-read-t21
-shared-slice-read-t21 c = search needs
+mul-t24 : tie.Need-mul-t24
+mul-t24 c = search needs
 
-add-t30 : tie.Need-add-t30
-add-t30 c = search needs
+shared-slice-read-t23 : tie.Need-shared-slice-read-t23
+shared-slice-read-t23 c = search needs
 
-mul-t31 : tie.Need-mul-t31
-mul-t31 c = search needs
+add-t32 : tie.Need-add-t32
+add-t32 c = search needs
 
-shared-slice-read-t20 : tie.Need-shared-slice-read-t20
-shared-slice-read-t20 c = search needs
+mul-t33 : tie.Need-mul-t33
+mul-t33 c = search needs
+
+shared-slice-read-t22 : tie.Need-shared-slice-read-t22
+shared-slice-read-t22 c = search needs
 
 returns : tie.Need-returns
 returns c =
-    column-made _ _ _ _ _ _
-        (c .before .before .before .before .before .before .before .before .before .before .has-master .ensures)
-    (c .before .before .before .before .before .before .before .before .before .master-place .ensures)
-    (c .before .before .before .before .before .before .before .cg-size .ensures)
-        (c .before .before .before .before .sd-link .ensures)
-    (c .before .before .before .blocks-of .ensures) (c .before .before .payload-of .ensures)
+    column-made _ _ _ _ _ _ _ (c .before .before .before .before .before .before .before .before .before .before .before .has-master .ensures) (c .before .before .before .before .before .before .before .before .before .before .master-place .ensures) (c .before .before .before .before .before .before .before .before .cg-size .ensures) (c .before .before .before .before .before .sd-link .ensures)
+    (c .before .before .before .before .blocks-of .ensures) (c .before .before .before .payload-of .ensures) (c .before .before .stored-type .ensures)
 
 pub column-of-spec : {M : Type 1} → statement M
 column-of-spec =
@@ -176,10 +175,11 @@ column-of-spec =
     sd-link-requires
     blocks-of-requires
     payload-of-requires
-    add-t24
-    mul-t22
-    shared-slice-read-t21
-    add-t30
-    mul-t31
-    shared-slice-read-t20
+    stored-type-requires
+    add-t26
+    mul-t24
+    shared-slice-read-t23
+    add-t32
+    mul-t33
+    shared-slice-read-t22
     returns)

@@ -1,5 +1,6 @@
 -- Each turn writes a column.
 use Rattle.writing.specs.StructureLaws.{near-ready, Structures, structures-begin, structures-end, structures-room, structures-turn}
+use Rattle.writing.specs.Structure.{onTable}
 use Prim.Native.Nat.{_-_}
 use borrow.Author.Needs.{needs}
 use native.Mathlib.Omega.{arith}
@@ -7,29 +8,29 @@ use Rattle.writing.proofs.structure.write_structure.Statement.{statemen
 use Rattle.writing.proofs.structure.write_structure.Tie as tie
 
 abbrev Inv-loop : tie.InvT-loop
-Inv-loop out₀ at image size columns memo n used k₀ to₀ out k to = Structures image size columns memo n used at out₀ k to out
+Inv-loop out₀ at image table size columns memo n used k₀ to₀ out k to = Structures (onTable table) image size columns memo n used at out₀ k to out
 
 abbrev μ-loop : tie.MeasureT-loop
-μ-loop out₀ at image size columns memo n used k₀ to₀ out k to = n - k
+μ-loop out₀ at image table size columns memo n used k₀ to₀ out k to = n - k
 
 loop-holds : tie.Need-loop-holds Inv-loop μ-loop
-loop-holds c = structures-begin (c .before .before .before .before .pre)
+loop-holds c = structures-begin (c .before .before .before .before .before .pre)
 
 column-of-requires : tie.Need-column-of-requires Inv-loop μ-loop
 column-of-requires c κs = (
-  near-ready (c .before .before .before .before .before .before .pre) (omega arith),
+  near-ready (c .before .before .before .before .before .before .before .pre) (omega arith),
   c .loop-test .taken,
-  c .before .before .before .before .before .before .pre .long,
+  c .before .before .before .before .before .before .before .pre .long,
 )
 
 next-place-requires : tie.Need-next-place-requires Inv-loop μ-loop
 next-place-requires c κs =
-    (near-ready (c .before .before .before .before .before .before .before .pre) (omega arith), c .before .loop-test .taken)
+    (near-ready (c .before .before .before .before .before .before .before .before .pre) (omega arith), c .before .loop-test .taken)
 
 write-column-requires : tie.Need-write-column-requires Inv-loop μ-loop
 write-column-requires c κs =
     rw (c .before .before .column-of .ensures) (structures-room
-    (c .before .before .before .before .before .before .before .before .before .pre)
+    (c .before .before .before .before .before .before .before .before .before .before .pre)
         (c .before .before .before .before .loop .inv)
     (c .before .before .before .loop-test .taken))
 

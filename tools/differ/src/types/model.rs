@@ -1,0 +1,313 @@
+//! Planning by a table of treatments, written from documents 01 and 02 apart from the port: the columns and omissions that are due of a recording whose
+//! reading is sound, or the refusal that planning meets first.
+use crate::blocks::{data_field, field, kind_at, link, link_count, word};
+use crate::walk::{claimed, data_groups, fragments, RECORDS};
+use std::collections::HashSet;
+
+/// Number and place.
+pub type Refusal = (u64, u64);
+
+const MOST_BYTES: u128 = 268_435_456;
+const MOST_FRAGMENTS: usize = 1024;
+const MOST_LISTS: usize = 256;
+
+/// What becomes of a channel's type.
+#[derive(Clone, Copy, PartialEq, Debug)]
+pub enum Treatment {
+    Keep,
+    /// With this reason.
+    Omit(u64),
+    StoreAs0,
+}
+
+use Treatment::{Keep, Omit, StoreAs0};
+
+/// The treatments of types 0 to 6.
+#[derive(Clone)]
+pub struct Treatments([Treatment; 7]);
+
+/// Type 4 is omitted, 5 becomes 0, others are kept.
+pub const BUILT_IN: Treatments = Treatments([Keep, Keep, Keep, Keep, Omit(4), StoreAs0, Keep]);
+
+impl Treatments {
+    /// None: 27.
+    pub fn of(table: &[u8]) -> Option<Treatments> {
+        let mut all = BUILT_IN;
+        let Some((&n, rest)) = table.split_first() else { return Some(all) };
+        let n = n as usize;
+        if !(1..=7).contains(&n) || rest.len() != 2 * n {
+            return None;
+        }
+        let (types, treatments) = rest.split_at(n);
+        for (i, (&t, &treated)) in types.iter().zip(treatments).enumerate() {
+            let forbidden = matches!((t, treated), (7.., _) | (_, 3..) | (2 | 3, 1 | 2) | (5, 0) | (6, 2));
+            if forbidden || types[..i].contains(&t) {
+                return None;
+            }
+            all.0[t as usize] = [Keep, Omit(8), StoreAs0][treated as usize];
+        }
+        Some(all)
+    }
+
+    /// Types over 6 are kept.
+    pub fn treat(&self, kind: u8) -> Treatment {
+        self.0.get(kind as usize).copied().unwrap_or(Keep)
+    }
+}
+
+/// A column that is due: its channel, its group's records, the type that is stored, the fragments of its signal data, and of a signal its time column.
+pub struct Column {
+    pub channel: usize,
+    pub records: u128,
+    pub stored: u8,
+    pub signal: Option<Vec<usize>>,
+    pub time: bool,
+    pub master: Option<usize>,
+}
+
+#[derive(Default)]
+pub struct Plan {
+    pub columns: Vec<Column>,
+    /// Addresses and reasons.
+    pub omissions: Vec<(u64, u64)>,
+    /// Groups that are no VLSD storage.
+    pub groups: u64,
+}
+
+struct Group {
+    at: usize,
+    channels: Vec<usize>,
+    records: u128,
+}
+
+struct Model<'a> {
+    image: &'a [u8],
+    treatments: &'a Treatments,
+    groups: Vec<Group>,
+    /// Fragments met so far.
+    fragments: usize,
+    plan: Plan,
+}
+
+/// Of a recording that identification, HD, walk and counts accept.
+pub fn plan(image: &[u8], treatments: &Treatments) -> Result<Plan, Refusal> {
+    let mut groups = Vec::new();
+    let mut met = 0;
+    for d in data_groups(image) {
+        let (list, _) = fragments(image, link(image, d.at, 2), &RECORDS);
+        let counts = counts(image, d.at, &d.groups.iter().map(|g| g.at).collect::<Vec<_>>(), &list);
+        met += list.len();
+        groups.extend(d.groups.into_iter().zip(counts).map(|(g, records)| Group { at: g.at, channels: g.channels, records }));
+    }
+    let mut m = Model { image, treatments, groups, fragments: met, plan: Plan::default() };
+    (0..m.groups.len()).try_for_each(|g| m.group(g))?;
+    Ok(m.plan)
+}
+
+/// The records of each group of a DG.
+fn counts(image: &[u8], dg: usize, groups: &[usize], fragments: &[usize]) -> Vec<u128> {
+    let ids = data_field(image, dg, 0, 1) as usize;
+    let sizes = |cg: usize| (data_field(image, cg, 24, 4) as u128, data_field(image, cg, 28, 4) as u128);
+    if let [cg] = groups {
+        let bytes = |kind: &[u8]| fragments.iter().filter(|f| kind_at(image, **f) == kind).map(|f| claimed(image, *f) as u128).sum::<u128>();
+        let (samples, inval) = sizes(*cg);
+        let whole = |bytes: u128, size: u128| bytes.checked_div(size).unwrap_or(0);
+        return vec![whole(bytes(b"##DT"), ids as u128 + samples + inval) + whole(bytes(b"##DV"), samples)];
+    }
+    let mut counts = vec![0; groups.len()];
+    if groups.is_empty() {
+        return counts;
+    }
+    let (joined, mut at) = (joined(image, fragments), 0);
+    while at < joined.len() {
+        let id = field(&joined, at, ids);
+        let g = groups.iter().position(|cg| data_field(image, *cg, 0, 8) == id).expect("the records are sound");
+        let (samples, inval) = sizes(groups[g]);
+        at += ids + if is_storage(image, groups[g]) { 4 + field(&joined, at + ids, 4) as usize } else { (samples + inval) as usize };
+        counts[g] += 1;
+    }
+    counts
+}
+
+fn is_storage(image: &[u8], cg: usize) -> bool {
+    data_field(image, cg, 16, 2) & 1 != 0
+}
+
+impl Model<'_> {
+    fn kind(&self, cn: usize) -> u8 {
+        data_field(self.image, cn, 0, 1) as u8
+    }
+
+    fn is_master_type(&self, cn: usize) -> bool {
+        [2, 3].contains(&self.kind(cn))
+    }
+
+    /// Bit offset at most 7, byte offset + bytes at most samples.
+    fn fits(&self, cg: usize, cn: usize) -> bool {
+        let part = |offset, bytes| data_field(self.image, cn, offset, bytes);
+        let bytes = if [3, 6].contains(&self.kind(cn)) { 0 } else { (part(3, 1) + part(8, 4)).div_ceil(8) };
+        part(3, 1) <= 7 && part(4, 4) + bytes <= data_field(self.image, cg, 24, 4)
+    }
+
+    /// A group's first fitting channel of type 2 or 3.
+    fn master(&self, g: usize) -> Option<usize> {
+        let Group { at, channels, .. } = &self.groups[g];
+        channels.iter().copied().find(|cn| !is_storage(self.image, *at) && self.is_master_type(*cn) && self.fits(*at, *cn))
+    }
+
+    /// The group at the remote link, if that has a master.
+    fn remote(&self, g: usize) -> Option<usize> {
+        let cg = self.groups[g].at;
+        let flagged = data_field(self.image, cg, 16, 2) & 8 != 0;
+        let to = link(self.image, cg, 6);
+        (0..self.groups.len()).find(|r| flagged && to != 0 && self.groups[*r].at == to && self.master(*r).is_some())
+    }
+
+    /// Reason 1, the time column where it is first needed, then the other channels in order.
+    fn group(&mut self, g: usize) -> Result<(), Refusal> {
+        let at = self.groups[g].at;
+        if is_storage(self.image, at) {
+            return Ok(());
+        }
+        self.plan.groups += 1;
+        let own = self.master(g);
+        let remote = if own.is_some() { None } else { self.remote(g) };
+        let agrees = remote.is_some_and(|r| self.groups[r].records == self.groups[g].records);
+        if remote.is_some() && !agrees {
+            self.plan.omissions.push((at as u64, 1));
+        }
+        let axis = if own.is_some() { Some(g) } else { remote.filter(|_| agrees) };
+        let master = axis.map(|t| self.time(t));
+        for cn in self.groups[g].channels.clone() {
+            if Some(cn) != own {
+                self.channel(g, cn, master)?;
+            }
+        }
+        Ok(())
+    }
+
+    /// The time column of a group with a master.
+    fn time(&mut self, g: usize) -> usize {
+        let (records, channel) = (self.groups[g].records, self.master(g).unwrap());
+        let column = Column { channel, records, stored: self.kind(channel), signal: None, time: true, master: None };
+        self.plan.columns.iter().position(|c| c.channel == channel).unwrap_or_else(|| self.add(column))
+    }
+
+    fn add(&mut self, column: Column) -> usize {
+        self.plan.columns.push(column);
+        self.plan.columns.len() - 1
+    }
+
+    fn channel(&mut self, g: usize, channel: usize, master: Option<usize>) -> Result<(), Refusal> {
+        if let Some(reason) = self.reason(self.groups[g].at, channel)? {
+            self.plan.omissions.push((channel as u64, reason));
+            return Ok(());
+        }
+        let (kind, data) = (self.kind(channel), link(self.image, channel, 5));
+        let treated = self.treatments.treat(kind);
+        let signal = if kind == 1 && treated == Keep && data != 0 { Some(self.signal_data(data)?) } else { None };
+        let stored = if treated == StoreAs0 { 0 } else { kind };
+        self.add(Column { channel, records: self.groups[g].records, stored, signal, time: false, master });
+        Ok(())
+    }
+
+    /// Why a channel that is no master of its group is omitted: 2, 3, 4, 5, 6, 7, 8.
+    fn reason(&self, group: usize, channel: usize) -> Result<Option<u64>, Refusal> {
+        let treated = self.treatments.treat(self.kind(channel));
+        if !self.fits(group, channel) {
+            return Ok(Some(2));
+        }
+        if self.is_master_type(channel) {
+            return Ok(Some(3));
+        }
+        if treated == Omit(4) {
+            return Ok(Some(4));
+        }
+        match self.leads_to(channel, 1)? {
+            b"##CA" => return Ok(Some(5)),
+            b"##CN" => return Ok(Some(6)),
+            _ => {}
+        }
+        if self.kind(channel) == 1 && treated != StoreAs0 && self.leads_to(channel, 5)? == b"##CG" {
+            return Ok(Some(7));
+        }
+        Ok(if treated == Omit(8) { Some(8) } else { None })
+    }
+
+    /// The kind of block that link i of a channel, from 0, leads to; nothing for a link of 0.
+    fn leads_to(&self, channel: usize, i: usize) -> Result<&[u8], Refusal> {
+        match link(self.image, channel, i) {
+            0 => Ok(b""),
+            at => self.header(at).map(|_| kind_at(self.image, at)),
+        }
+    }
+
+    fn header(&self, at: usize) -> Result<(), Refusal> {
+        if at as u128 + 24 > self.image.len() as u128 {
+            return Err((4, at as u64));
+        }
+        Ok(())
+    }
+
+    /// The fragments of an SD chain.
+    fn signal_data(&mut self, mut at: usize) -> Result<Vec<usize>, Refusal> {
+        let (mut all, mut met) = (Vec::new(), HashSet::new());
+        while at != 0 {
+            if !met.insert(at) {
+                return Err((11, at as u64));
+            }
+            self.header(at)?;
+            match kind_at(self.image, at) {
+                b"##SD" => {
+                    self.fragment(at, &mut all)?;
+                    break;
+                }
+                b"##DL" => {
+                    self.list(at, met.len())?;
+                    for i in 1..link_count(self.image, at) as usize {
+                        let to = link(self.image, at, i);
+                        if to != 0 {
+                            self.fragment(to, &mut all)?;
+                        }
+                    }
+                }
+                b"##HL" => self.list(at, met.len())?,
+                _ => return Err((12, at as u64)),
+            }
+            at = link(self.image, at, 0);
+        }
+        Ok(all)
+    }
+
+    /// A DL or HL, the so-manieth of its chain: 8, 9, 4, 19.
+    fn list(&self, at: usize, number: usize) -> Result<(), Refusal> {
+        let (size, links) = (word(self.image, at + 8) as u128, link_count(self.image, at) as u128);
+        let place = at as u64;
+        match () {
+            _ if 24 + 8 * links > size => Err((8, place)),
+            _ if size > MOST_BYTES => Err((9, place)),
+            _ if at as u128 + size > self.image.len() as u128 => Err((4, place)),
+            _ if number > MOST_LISTS => Err((19, place)),
+            _ => Ok(()),
+        }
+    }
+
+    /// A fragment of signal data: 4, 12, 19.
+    fn fragment(&mut self, at: usize, all: &mut Vec<usize>) -> Result<(), Refusal> {
+        self.header(at)?;
+        if kind_at(self.image, at) != b"##SD" {
+            return Err((12, at as u64));
+        }
+        self.fragments += 1;
+        if self.fragments > MOST_FRAGMENTS {
+            return Err((19, at as u64));
+        }
+        all.push(at);
+        Ok(())
+    }
+}
+
+/// The joined data of fragments.
+pub fn joined(image: &[u8], fragments: &[usize]) -> Vec<u8> {
+    fragments.iter().flat_map(|f| image.get(f + 24..f + 24 + claimed(image, *f) as usize).unwrap_or(b"")).copied().collect()
+}
