@@ -172,7 +172,7 @@ enum {
  * `types` is the table of treatments: a count n from 1 to 7, then n channel types, then n treatments, a byte each. Types that it doesn't list are treated
  * as built in, and with a length of 0 all are: type 4 is omitted (reason 4), type 5 stored as type 0, any other kept. Types 2 and 3 can only be kept, type 5
  * can't be kept, type 6 can't be stored as 0, and types over 6 can't be listed (27). Only a kept channel of type 1 has signal data: link 6 of one that is
- * stored as 0 isn't read, so it has no reason 7. Reason 8 is tested after all others, before an SD chain is read. */
+ * stored as 0 isn't read, so it has no reason 7. A channel whose type is omitted has reason 4 or 8 and no other; its links 2 and 6 aren't read. */
 struct sitaungo_outcome sitaungo_convert_with(
     const uint8_t *image, size_t image_length, uint64_t size,
     const uint8_t *ident, size_t ident_length, const uint8_t *text, size_t text_length, uint64_t time, struct sitaungo_options options,

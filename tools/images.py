@@ -236,6 +236,16 @@ cg = m.put(block(b"CG", [storage, cn, 0, 0, 0, 0], cg_data(record_id=1, samples=
 dg = m.put(block(b"DG", [0, cg, 0, 0], bytes([1]) + bytes(7)))
 case("reasons", m.hd(dg), lines(["0 t 0 0 0 0 0 -"], ["%d 2" % r2, "%d 2" % wide, "%d 3" % r3, "%d 4" % r4, "%d 5" % r5, "%d 6" % r6, "%d 7" % r7]))
 
+# type 4 outside its record: its type is judged before the fit (document 02, request 7); a type 0 channel there doesn't fit
+m = Image()
+dt = m.put(block(b"DT", [], bytes(2)))
+fixed = channel(m, byte=1)
+sync = channel(m, after=fixed, kind=4, byte=1)
+cn = channel(m, after=sync)
+cg = m.put(block(b"CG", [0, cn, 0, 0, 0, 0], cg_data(samples=1)))
+dg = m.put(block(b"DG", [0, cg, dt, 0], bytes(8)))
+case("sync-outside", m.hd(dg), lines(["0 s 1 0 2 1 2 -"], ["%d 4" % sync, "%d 2" % fixed]))
+
 # reason 1: a remote master of a group with another count; the channel still has its column
 m = Image()
 one = m.put(block(b"DT", [], bytes(4)))

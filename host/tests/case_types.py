@@ -1,4 +1,4 @@
-"""A cell's own treatment of channel types (document 02, request 6)."""
+"""A cell's own treatment of channel types (document 02, requests 6 and 7)."""
 import os
 import struct
 import subprocess
@@ -22,7 +22,7 @@ CHANNELS = {
     "second time": (2, 0, 4, None, None, -3),
     "sync": (4, 14, 4, None, "AT", -4),
     "sync array": (4, 14, 4, "CA", None, -4),
-    "sync outside": (4, 30, 4, None, None, -2),
+    "sync outside": (4, 30, 4, None, None, -4),
     "longest": (5, 18, 3, None, "SD", 0),
     "virtual": (6, 0, 0, None, None, 6),
     "own": (7, 21, 1, None, "SD", 7),
@@ -35,27 +35,27 @@ CHANNELS = {
 }
 
 # A table, and what it changes of that.
+SYNC = {"sync": 4, "sync array": -5, "sync outside": -2}
+TEXTS_AS_0 = {"text": 0, "no text": 0, "stored": 0}
 TABLES = (
     ((), {}),
     ((1, 0, 0), {}),
-    ((1, 0, 1), {"fixed": -8}),
+    ((1, 0, 1), {"fixed": -8, "array": -8, "structure": -8, "outside": -8}),
     ((1, 0, 2), {}),
     ((1, 1, 0), {}),
-    ((1, 1, 1), {"text": -8, "no text": -8}),
-    ((1, 1, 2), {"text": 0, "no text": 0, "stored": 0}),
+    ((1, 1, 1), {"text": -8, "no text": -8, "stored": -8, "text array": -8, "text outside": -8}),
+    ((1, 1, 2), TEXTS_AS_0),
     ((1, 2, 0), {}),
     ((1, 3, 0), {}),
-    ((1, 4, 0), {"sync": 4, "sync array": -5}),
-    ((1, 4, 1), {"sync": -8, "sync array": -5}),
-    ((1, 4, 2), {"sync": 0, "sync array": -5}),
+    ((1, 4, 0), SYNC),
+    ((1, 4, 1), {"sync": -8, "sync array": -8, "sync outside": -8}),
+    ((1, 4, 2), {**SYNC, "sync": 0}),
     ((1, 5, 1), {"longest": -8}),
     ((1, 5, 2), {}),
     ((1, 6, 0), {}),
     ((1, 6, 1), {"virtual": -8}),
-    ((2, 4, 1, 0, 2), {"sync": 4, "sync array": -5, "text": 0, "no text": 0, "stored": 0}),
-    ((7, 6, 5, 4, 3, 2, 1, 0, 1, 1, 1, 0, 0, 1, 1), {
-        "fixed": -8, "text": -8, "no text": -8, "sync": -8, "sync array": -5, "longest": -8, "virtual": -8,
-    }),
+    ((2, 4, 1, 0, 2), {**SYNC, **TEXTS_AS_0}),
+    ((7, 6, 5, 4, 3, 2, 1, 0, 1, 1, 1, 0, 0, 1, 1), {name: -8 for name, channel in CHANNELS.items() if channel[0] not in (2, 7)}),
 )
 
 # Tables that are none: count or length, a type over 6 or twice, a treatment over 2 or one that the type can't have.
@@ -233,15 +233,16 @@ def refusal(here, recording, bytes_):
 
 @any_user
 def links_that_are_not_followed():
-    """Links 2 and 6 past the recording's end: whose headers are read is what the table says."""
+    """Links 2 and 6 past the recording's end: those of a type that is omitted aren't read."""
     past = (4, 1 << 20)
     with folder() as here:
         for name, link, bytes_, due in (
-            ("text", 6, (), past), ("text", 6, (1, 1, 0), past), ("text", 6, (1, 1, 1), past), ("text", 6, (1, 1, 2), None),
-            ("text", 2, (), past), ("text", 2, (1, 1, 1), past), ("text", 2, (1, 1, 2), past),
-            ("fixed", 6, (1, 0, 1), None), ("fixed", 2, (1, 0, 1), past), ("fixed", 2, (1, 0, 2), past),
-            ("sync", 6, (1, 4, 0), None), ("sync", 2, (), None), ("sync", 2, (1, 4, 0), past), ("sync", 2, (1, 4, 1), past), ("sync", 2, (1, 4, 2), past),
-            ("longest", 6, (1, 5, 2), None), ("longest", 2, (1, 5, 1), past), ("virtual", 2, (1, 6, 1), past),
+            ("text", 6, (), past), ("text", 6, (1, 1, 0), past), ("text", 6, (1, 1, 1), None), ("text", 6, (1, 1, 2), None),
+            ("text", 2, (), past), ("text", 2, (1, 1, 1), None), ("text", 2, (1, 1, 2), past),
+            ("fixed", 6, (1, 0, 1), None), ("fixed", 2, (1, 0, 1), None), ("fixed", 2, (1, 0, 2), past),
+            ("sync", 6, (1, 4, 0), None), ("sync", 2, (), None), ("sync", 2, (1, 4, 0), past), ("sync", 2, (1, 4, 1), None), ("sync", 2, (1, 4, 2), past),
+            ("longest", 6, (1, 5, 2), None), ("longest", 2, (), past), ("longest", 2, (1, 5, 1), None), ("virtual", 2, (), past),
+            ("virtual", 2, (1, 6, 1), None),
         ):
             found = refusal(here, Recording(("time", name), {name: link}), bytes_)
             expect(found == due, name, "link", link, bytes_, found)
@@ -300,5 +301,5 @@ def table_of_readme():
         recording = Recording()
         write(os.path.join(here, "a.mf4"), recording.image)
         converts(run("a.mf4", "r.mf4", "--types", "table", cwd=here))
-        due = {name: channel[5] for name, channel in CHANNELS.items()} | {"sync": 4, "sync array": -5, "virtual": -8}
+        due = {name: channel[5] for name, channel in CHANNELS.items()} | SYNC | {"virtual": -8}
         check_columns(recording, read(os.path.join(here, "r.mf4")), due)

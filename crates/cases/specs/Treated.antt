@@ -1,4 +1,4 @@
--- Document 02, request 6, at a recording of one channel: what a table makes of its type, what becomes of its link 6, and where 8 and 27 stand; results
+-- Document 02, requests 6 and 7, at a recording of one channel: what a table makes of its type, what becomes of its links, where 4, 8 and 27 stand; results
 -- and plans that treat it otherwise do not have the guarantee.
 use Prim.Native.Nat.{ℕ}
 use mathlib.Core.Bool.{false≢true}
@@ -131,15 +131,21 @@ Signals =
     × (builtIn (past 1) ≡ refusal 4 2304)
     × (by 1 2 (past 1) ≡ column 0 0 0)
 
--- "Omissions made by a table carry reason 8, tested after reason 7 and before any SD chain is read"
+-- "A type 4 channel outside its record moves from reason 2 to 4 under the built-in rules; one of a type the table omits moves from 2, 5, 6 or 7 to 8.
+-- Such a channel's composition and data links are no longer read." (document 02, request 7)
 abbrev pub Reasons : Type 0
 Reasons =
-    (by 0 1 (set (plain 0) 432 16) ≡ omission 2)
+    (builtIn (set (plain 4) 432 16) ≡ omission 4)
+    × (builtIn (set (plain 0) 432 16) ≡ omission 2)
+    × (by 4 0 (set (plain 4) 432 16) ≡ omission 2)
+    × (by 0 1 (set (plain 0) 432 16) ≡ omission 8)
+    × (by 4 1 (array 4) ≡ omission 8)
+    × (by 4 1 (structure 4) ≡ omission 8)
+    × (by 1 1 (toCG 1) ≡ omission 8)
     × (builtIn (array 4) ≡ omission 4)
-    × (by 4 1 (array 4) ≡ omission 5)
-    × (by 4 1 (structure 4) ≡ omission 6)
-    × (by 1 1 (past 1) ≡ refusal 4 2304)
-    × (by 1 1 (toCG 1) ≡ omission 7)
+    × (by 1 1 (past 1) ≡ omission 8)
+    × (by 0 1 (set (plain 0) 369 9) ≡ omission 8)
+    × (builtIn (set (plain 0) 369 9) ≡ refusal 4 2304)
     × (by 1 1 (toDT 1) ≡ omission 8)
     × (by 1 1 (toSD 1) ≡ omission 8)
     × (by 1 1 (plain 1) ≡ omission 8)
@@ -157,7 +163,7 @@ unfolding evaluated
 treated = (
   (refl, refl, refl, refl, refl, refl, refl, refl, refl, refl, refl, refl, refl, refl),
   (refl, refl, refl, refl, refl, refl, refl, refl, refl),
-  (refl, refl, refl, refl, refl, refl, refl, refl, refl),
+  (refl, refl, refl, refl, refl, refl, refl, refl, refl, refl, refl, refl, refl, refl),
   (refl, refl, refl, refl),
 )
 

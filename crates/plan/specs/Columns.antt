@@ -179,15 +179,16 @@ decideChain s n a = let sd = keptSignal (chain signal limits s n a) in ifEq a 0 
 unfoldable pub unless : Checked ℕ → Checked Decision → Checked Decision
 unless reason rest = andThen reason (λ r. ifEq r 0 rest (ok (omitted r)))
 
--- "Reasons, tested in this order": 2, 3, 4, 5, 6, 7; 8 is "tested after reason 7 and before any SD chain is read"
+-- "The type's treatment is now judged before the fit" (document 02, request 7): 4 or 8; then "Reasons, tested in this order": 2, 3, 5, 6, 7. An
+-- omitted type's "composition and data links are no longer read"
 unfoldable pub decide : List ℕ → List ℕ → ℕ → ℕ → ℕ → Checked Decision
 decide table s n g c =
-    unless (ok (unfit s g c))
+    unless (ok (omittedType 4 table s c))
+    (unless (ok (omittedType 8 table s c))
+    (unless (ok (unfit s g c))
     (unless (ok (furtherMaster s c))
-    (unless (ok (omittedType 4 table s c))
     (unless (composed s c)
     (unless (storedAt s (signalLink table s c))
-    (unless (ok (omittedType 8 table s c))
     (decideChain s n (signalLink table s c)))))))
 
 -- bookkeeping: the fragments of a column's signal data

@@ -241,13 +241,13 @@ no-master s c e = go (isMasterType s c) (ok-same e)
 pub decide-kept : (table s : List ℕ) (n g c : ℕ) (d : Signal) → decide table s n g c ≡ ok (kept d) → KeptAs table s n g c d
 unfolding decide
 decide-kept table s n g c d e =
-    let fit = passed _ _ e in
+    let type = passed _ _ e in
+    let chosen = passed _ _ (type .1) in
+    let fit = passed _ _ (chosen .1) in
     let master = passed _ _ (fit .1) in
-    let type = passed _ _ (master .1) in
-    let composition = passed _ _ (type .1) in
+    let composition = passed _ _ (master .1) in
     let storage = passed _ _ (composition .1) in
-    let chosen = passed _ _ (storage .1) in
-    record { fitting = fit-known s g c (fit .0); notMaster = no-master s c (master .0); signal = chain-decided table s n c d (chosen .1) }
+    record { fitting = fit-known s g c (fit .0); notMaster = no-master s c (master .0); signal = chain-decided table s n c d (storage .1) }
 
 pub kept-due : (table s : List ℕ) (n c : ℕ) (d : Signal) → SignalKnown table s n c d → SignalDue table s c d
 kept-due table s n c noSignal k = k
@@ -331,30 +331,30 @@ pub decide-reason : (table s : List ℕ) (n g c : ℕ) (d : Decision) → decide
 unfolding decide reasonFor unfit furtherMaster omittedType ifEq
 decide-reason table s n g c d e =
     subst (λ (x : ℕ). Reasoned x d)
-    (first (fits s g c) (isMasterType s c) (eqb (treatment table (channelType s c)) 4) (leadsTo s (linkAt s c 1) kindCA) (leadsTo s (linkAt s c 1) kindCN)
-    (both (hasSignal table s c) (leadsTo s (linkAt s c 5) kindCG)) (eqb (treatment table (channelType s c)) 8))
+    (first (eqb (treatment table (channelType s c)) 4) (eqb (treatment table (channelType s c)) 8) (fits s g c) (isMasterType s c)
+    (leadsTo s (linkAt s c 1) kindCA) (leadsTo s (linkAt s c 1) kindCN) (both (hasSignal table s c) (leadsTo s (linkAt s c 5) kindCG)))
     (first-reason _ _ d _ _ e (λ r q. sym (ok-same q)) (λ e.
+    first-reason _ _ d _ _ e (λ r q. sym (ok-same q)) (λ e.
     first-reason _ _ d _ _ e (λ r q. sym (ok-same q)) (λ e.
     first-reason _ _ d _ _ e (λ r q. sym (ok-same q)) (λ e.
     first-reason _ _ d _ _ e (composed-reason s c) (λ e.
     first-reason _ _ d _ _ e (stored-reason table s c) (λ e.
-    first-reason _ _ d _ _ e (λ r q. sym (ok-same q)) (λ e.
     chain-reason s n (signalLink table s c) d e)))))))
   where
     -- the first reason that holds
-    first : (fit master four array structure storage eight : Bool)
-        → _≡_ {A = ℕ} (ifEq (pick fit 0 2) 0 (ifEq (pick master 3 0) 0 (ifEq (pick four 4 0) 0 (ifEq (pick array 5 (pick structure 6 0)) 0
-        (ifEq (pick storage 7 0) 0 (ifEq (pick eight 8 0) 0 0 (pick eight 8 0)) (pick storage 7 0)) (pick array 5 (pick structure 6 0))) (pick four 4 0)) (pick master 3 0))
-        (pick fit 0 2))
-        (pick fit (pick master 3 (pick four 4 (pick array 5 (pick structure 6 (pick storage 7 (pick eight 8 0)))))) 2)
-    first false m f a t s e = refl
-    first true true f a t s e = refl
-    first true false true a t s e = refl
-    first true false false true t s e = refl
-    first true false false false true s e = refl
-    first true false false false false true e = refl
-    first true false false false false false true = refl
-    first true false false false false false false = refl
+    first : (four eight fit master array structure storage : Bool)
+        → _≡_ {A = ℕ} (ifEq (pick four 4 0) 0 (ifEq (pick eight 8 0) 0 (ifEq (pick fit 0 2) 0 (ifEq (pick master 3 0) 0
+        (ifEq (pick array 5 (pick structure 6 0)) 0 (ifEq (pick storage 7 0) 0 0 (pick storage 7 0)) (pick array 5 (pick structure 6 0))) (pick master 3 0))
+        (pick fit 0 2)) (pick eight 8 0)) (pick four 4 0))
+        (pick four 4 (pick eight 8 (pick fit (pick master 3 (pick array 5 (pick structure 6 (pick storage 7 0)))) 2)))
+    first true e f m a t s = refl
+    first false true f m a t s = refl
+    first false false false m a t s = refl
+    first false false true true a t s = refl
+    first false false true false true t s = refl
+    first false false true false false true s = refl
+    first false false true false false false true = refl
+    first false false true false false false false = refl
 
 -- within the limit of fragments
 pub signal-few : (table s : List ℕ) (n c : ℕ) (d : Signal) → n ≤ 1024 → SignalKnown table s n c d → n + sizeOfSignal d ≤ 1024

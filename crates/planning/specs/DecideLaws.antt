@@ -189,8 +189,8 @@ module _ (v : Checked ℕ) (rest : Checked columns.Decision) where
   stop e = rw e
 
 pub by-tests : (table s : List ℕ) (n g c : ℕ) {d : Checked columns.Decision}
-    → d ≡ unless (ok (unfit s g c)) (unless (ok (furtherMaster s c)) (unless (ok (omittedType 4 table s c)) (unless (composed s c)
-    (unless (storedAt s (signalLink table s c)) (unless (ok (omittedType 8 table s c)) (decideChain s n (signalLink table s c)))))))
+    → d ≡ unless (ok (omittedType 4 table s c)) (unless (ok (omittedType 8 table s c)) (unless (ok (unfit s g c)) (unless (ok (furtherMaster s c))
+    (unless (composed s c) (unless (storedAt s (signalLink table s c)) (decideChain s n (signalLink table s c)))))))
     → d ≡ decide table s n g c
 unfolding decide
 by-tests table s n g c e = e

@@ -123,17 +123,20 @@ pub(crate) fn decide(image: &[u8], table: &[u8], fragments: &mut [u64], n: u64, 
     ensures { λ r. ⌜ left r (now (fragments .exit))
         ≡ laidDecision (decide (now (table .entry)) (now (image .entry)) n g c) n (now (fragments .entry)) ⌝ }
 {
+    let t = channel_type(image, c);
+    let treated = treatment_of(table, t);
+    if treated == 4 {
+        return Decision::Omitted { reason: 4 };
+    }
+    if treated == 8 {
+        return Decision::Omitted { reason: 8 };
+    }
     let fits = fits_in(image, g, c);
     if !fits {
         return Decision::Omitted { reason: 2 };
     }
     if is_master_type(image, c) {
         return Decision::Omitted { reason: 3 };
-    }
-    let t = channel_type(image, c);
-    let treated = treatment_of(table, t);
-    if treated == 4 {
-        return Decision::Omitted { reason: 4 };
     }
     let composed = composition(image, c);
     match composed {
@@ -157,9 +160,6 @@ pub(crate) fn decide(image: &[u8], table: &[u8], fragments: &mut [u64], n: u64, 
                 return Decision::Omitted { reason };
             }
         }
-    }
-    if treated == 8 {
-        return Decision::Omitted { reason: 8 };
     }
     decide_chain(image, fragments, n, a)
 }

@@ -176,18 +176,19 @@ pub record Treats (table : List ℕ) : Type 0 where
 unfoldable pub hasSignal : List ℕ → List ℕ → ℕ → Bool
 hasSignal table s c = both (eqb (channelType s c) 1) (pick (eqb (treatment table (channelType s c)) 2) false true)
 
--- why a channel of the group with its CG at g is omitted, 0 where it isn't: "Reasons, tested in this order: .. 2 doesn't fit; 3 further master;
--- 4 type 4; 5 array, CN link 2 leads to CA; 6 structure, it leads to CN; 7 type 1 whose CN link 6 leads to a CG"; 8 by a table, "tested after reason 7"
+-- why a channel of the group with its CG at g is omitted, 0 where it isn't: "The type's treatment is now judged before the fit" (document 02, request 7),
+-- 4 or 8; "Reasons, tested in this order: .. 2 doesn't fit; 3 further master; .. 5 array, CN link 2 leads to CA; 6 structure, it leads to CN; 7 type 1
+-- whose CN link 6 leads to a CG"
 unfoldable pub reasonFor : List ℕ → List ℕ → ℕ → ℕ → ℕ
 reasonFor table s g c =
-    pick (fits s g c)
+    ifEq (treatment table (channelType s c)) 4 4
+    (ifEq (treatment table (channelType s c)) 8 8
+    (pick (fits s g c)
     (pick (isMasterType s c) 3
-    (ifEq (treatment table (channelType s c)) 4 4
     (pick (leadsTo s (linkAt s c 1) kindCA) 5
     (pick (leadsTo s (linkAt s c 1) kindCN) 6
-    (pick (both (hasSignal table s c) (leadsTo s (linkAt s c 5) kindCG)) 7
-    (ifEq (treatment table (channelType s c)) 8 8 0))))))
-    2
+    (pick (both (hasSignal table s c) (leadsTo s (linkAt s c 5) kindCG)) 7 0))))
+    2))
 
 -- an omission is of a channel for its reason, or of a group: "1 remote master with another count (address of the group's own CG ..)"
 pub data OmissionDue (table s : List ℕ) (gs : List SrcGroup) (o : Omission) : Type 0 where

@@ -4,8 +4,9 @@
 //! is known else 0, that place, history text length, time, result length, omissions, the report's seven counts; then the identification (64 bytes),
 //! the image, the history text, the result, the omissions' addresses and their reasons (words). Numbers are little-endian.
 //!
-//! All of it is the Rust's answer: a refusal's number and place are what its words mean, an omission's address and reason too. Only the time, which
-//! it takes from the clock, is replaced in the result by the record's number, so that the file comes out the same every time.
+//! All of it is the Rust's answer: a refusal's number and place are what its words mean, an omission's address and reason too, but for reason 4 of a
+//! type 4 channel outside its record (docs/DIFFERENCES.md). The time, which it takes from the clock, is replaced in the result by the record's number, so
+//! that the file comes out the same every time.
 use crate::blocks::{kind_at, put_word, word};
 use crate::case::Case;
 use crate::child::Pack;
@@ -132,8 +133,8 @@ fn accepted_record(size: u64, image: &[u8], c: &Converted, omitted: &[Omission])
     p.0.extend_from_slice(image);
     p.0.extend_from_slice(&lent.text);
     p.0.extend_from_slice(&c.bytes);
-    omitted.iter().for_each(|o| p.word(o.addresses[0]));
-    omitted.iter().for_each(|o| p.word(o.reason));
+    omitted.iter().for_each(|o| p.word(o.due[0].0));
+    omitted.iter().for_each(|o| p.word(o.due[0].1));
     p.0
 }
 

@@ -26,6 +26,8 @@ pub struct Tally {
     by_number: BTreeMap<u64, Refusals>,
     reasons: BTreeMap<u64, u64>,
     several_addresses: u64,
+    /// Reason 4 where the Rust's is 2.
+    outside: u64,
     sizes: BTreeMap<u64, u64>,
     held: BTreeMap<String, (u64, u64)>,
     alone: BTreeMap<u64, u64>,
@@ -82,7 +84,9 @@ impl Tally {
         port.omissions.iter().for_each(|o| *self.reasons.entry(o.1).or_default() += 1);
         if let rust_side::Answer::Converted(c) = &finding.rust {
             self.bytes += c.bytes.len() as u64;
-            self.several_addresses += omissions::of(image, &c.skipped).iter().filter(|o| o.addresses.len() > 1).count() as u64;
+            let omitted = omissions::of(image, &c.skipped);
+            self.several_addresses += omitted.iter().filter(|o| o.due.len() > 1).count() as u64;
+            self.outside += omitted.iter().zip(&port.omissions).filter(|(rust, port)| rust.reason == 2 && port.1 == 4).count() as u64;
         }
     }
 
@@ -158,7 +162,8 @@ impl Tally {
         for (reason, n) in &self.reasons {
             writeln!(f, "| {reason} | {} |", grouped(*n))?;
         }
-        writeln!(f, "| all, with a label that several channels have | {} |\n", grouped(self.several_addresses))
+        writeln!(f, "| all, with a label that several channels have | {} |", grouped(self.several_addresses))?;
+        writeln!(f, "| 4, where the Rust has 2: type 4 outside its record | {} |\n", grouped(self.outside))
     }
 
     fn tried_alone(&self, f: &mut Formatter) -> Result {

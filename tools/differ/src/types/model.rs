@@ -211,27 +211,25 @@ impl Model<'_> {
         Ok(())
     }
 
-    /// Why a channel that is no master of its group is omitted: 2, 3, 4, 5, 6, 7, 8.
+    /// Why a channel that is no master of its group is omitted: 4 or 8 by its type, whose links aren't read; 2, 3, 5, 6, 7.
     fn reason(&self, group: usize, channel: usize) -> Result<Option<u64>, Refusal> {
         let treated = self.treatments.treat(self.kind(channel));
+        if let Omit(reason) = treated {
+            return Ok(Some(reason));
+        }
         if !self.fits(group, channel) {
             return Ok(Some(2));
         }
         if self.is_master_type(channel) {
             return Ok(Some(3));
         }
-        if treated == Omit(4) {
-            return Ok(Some(4));
-        }
         match self.leads_to(channel, 1)? {
             b"##CA" => return Ok(Some(5)),
             b"##CN" => return Ok(Some(6)),
             _ => {}
         }
-        if self.kind(channel) == 1 && treated != StoreAs0 && self.leads_to(channel, 5)? == b"##CG" {
-            return Ok(Some(7));
-        }
-        Ok(if treated == Omit(8) { Some(8) } else { None })
+        let stored = self.kind(channel) == 1 && treated == Keep && self.leads_to(channel, 5)? == b"##CG";
+        Ok(stored.then_some(7))
     }
 
     /// The kind of block that link i of a channel, from 0, leads to; nothing for a link of 0.
