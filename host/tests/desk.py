@@ -537,7 +537,12 @@ def converting(recording, sample, refused, folder):
     expect(report["types"] == [1, 0, 1] and report["unit"] == 64 and [o["reason"] for o in report["omissions"]] == [8], report)
     why = raises(sitaungo.Refused, lambda: sitaungo.convert(recording, result, force=True, types=recording))
     expect(why.number == 27 and why.place == 0 and "table of treatments" in why.words, why)
+    expect(sitaungo.convert(recording, result, force=True, unit=4096)["unit"] == 4096, "the unit")
+    with sitaungo.ColumnFile(result) as file:
+        expect([c.blocks[0] % 4096 for c in columns_of(got(result))] == [0, 0] and len(file.column(1)) == 20, "columns on the unit")
     before = got(result)
+    why = raises(sitaungo.Refused, lambda: sitaungo.convert(recording, result, force=True, unit=12))
+    expect(why.number == 26 and why.place == 0 and "power of two" in why.words and got(result) == before, why)
     why = raises(sitaungo.Refused, lambda: sitaungo.convert(refused, result, force=True))
     expect(why.number == 5 and why.place == 0 and "not an MDF recording" in why.words, why)
     why = raises(sitaungo.CommandFailed, lambda: sitaungo.convert(sample, result, force=True, complete=True))

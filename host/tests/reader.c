@@ -173,6 +173,29 @@ static void try_length(void)
     reads(1, 2, "efghijkl", 8, length - 8, "past empty blocks");
 }
 
+/* Lengths under a header's, which leave no data, whatever links such a block names; signal data is not looked at. */
+static void try_headers(void)
+{
+    if (!make(&(struct column){.records = 2, .width = 4, .listed = 3, .there = 3, .bytes = 0, .last = 8}, 1))
+        return;
+    memcpy(file + length - 8, "abcdefgh", 8);
+    for (uint64_t size = 0; size <= 24; size += 8) {
+        put(data - 24 + 8, size);
+        put(data - 24 + 16, size == 16 ? UINT64_MAX : 0);
+        reads(0, 2, "abcdefgh", 8, length - 8, "a block that is shorter than its header");
+    }
+    put(data - 24 + 8, 25);
+    refuses(0, 0, 2, SITAUNGO_REFUSED_FORM, "a byte of data in it");
+    put(data - 24 + 8, 24);
+    uint64_t dg = 0, cg = 0, cn = 0;
+    memcpy(&dg, file + 64 + 24, 8);
+    memcpy(&cg, file + dg + 32, 8);
+    memcpy(&cn, file + cg + 32, 8);
+    file[cn + 88] = 1;
+    put(cn + 64, length + 8);
+    reads(0, 2, "abcdefgh", 8, length - 8, "signal data past the file");
+}
+
 /* Sums and products that pass 2^64. */
 static void try_numbers(void)
 {
@@ -210,6 +233,7 @@ int main(void)
     try_long_list();
     try_long_file();
     try_length();
+    try_headers();
     try_numbers();
     try_other_column();
     printf("%d checks, %d wrong\n", checks, wrong);

@@ -1,6 +1,6 @@
 -- Wrong converters that document 01's c excludes, at the worked example: what each leaves does not have the guarantee, whatever the list, or its answer
 -- is not the one defined.
-use Prim.Native.Nat.{ℕ, _+_}
+use Prim.Native.Nat.{ℕ}
 use mathlib.Core.Bool.{Bool, true, false}
 use mathlib.Core.List.{List, [], _∷_, _++_}
 use mathlib.Core.Option.{none}

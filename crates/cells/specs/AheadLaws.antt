@@ -149,25 +149,6 @@ joined-past s m (f ∷ fs) e =
     (λ l. rw (past-in m f fs l, ← drop-part m (f .offset) (f .size) s) (sym (drop-append-le m x y (omega arith))))
     (lt-or-le (f .size) m)
 
-pub past-past : (m n : ℕ) (fs : List Fragment) → past m (past n fs) ≡ past (n + m) fs
-unfolding past
-past-past m n [] = refl
-past-past m n (f ∷ fs) =
-    ⊎-elim
-    (λ l. let j : n - f .size + m ≡ n + m - f .size = omega arith in
-    let k : f .size < n + m = omega arith in
-    rw (past-on n f fs l, past-on (n + m) f fs k) (past-past m (n - f .size) fs ∙ rw j))
-    (λ l. rw (past-in n f fs l) (⊎-elim
-    (λ k. let j : m - (f .size - n) ≡ n + m - f .size = omega arith in
-    let i : f .size < n + m = omega arith in
-    rw (past-on m (shorter n f) fs k, past-on (n + m) f fs i, j))
-    (λ k. let a : f .offset + n + m ≡ f .offset + (n + m) = omega arith in
-    let b : f .size - n - m ≡ f .size - (n + m) = omega arith in
-    let i : n + m ≤ f .size = omega arith in
-    rw (past-in m (shorter n f) fs k, past-in (n + m) f fs i, a, b))
-    (lt-or-le (f .size - n) m)))
-    (lt-or-le (f .size) n)
-
 -- ---- fragments without bytes
 pub settled-none : (f : Fragment) (fs : List Fragment) → f .size ≡ 0 → settled (f ∷ fs) ≡ settled fs
 unfolding settled
@@ -199,12 +180,6 @@ module _ (s : List ℕ) where
   ranges-settled (f ∷ fs) e =
       ⊎-elim (λ z. rw (settled-none f fs z) (ranges-settled fs (ranges-tail s f fs e))) (λ l. rw (settled-some f fs l) e)
       (zero-or-more (f .size))
-
-pub size-settled : (fs : List Fragment) → sizeOf (settled fs) ≡ sizeOf fs
-unfolding settled sizeOf
-size-settled [] = refl
-size-settled (f ∷ fs) =
-    ⊎-elim (λ z. rw (settled-none f fs z) (size-settled fs ∙ omega arith)) (λ l. rw (settled-some f fs l)) (zero-or-more (f .size))
 
 -- ---- skipping: what is past the bytes to be skipped stays the same
 pub record Skipping (s ws : List ℕ) (k : Cursor) (more : ℕ) (g : List Fragment) : Type 0 where

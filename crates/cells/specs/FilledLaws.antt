@@ -1,7 +1,7 @@
 -- Laws of the records of a group in the blocks of its column, stretch by stretch.
 use Prim.Native.Nat.{ℕ, _+_, _-_, _*_, _/_, _≤_, _<_, max}
 use mathlib.Core.Bool.{Bool, true, false, not}
-use mathlib.Core.List.{List, [], _∷_}
+use mathlib.Core.List.{List, _∷_}
 use mathlib.Core.Path.{_≡_, refl, sym, ap, _∙_, subst}
 use native.Mathlib.Nat.{mul-comm, mul-le-mul-right, div-mul-le-self, div-lt-iff-lt-mul, zero-mul}
 use native.Mathlib.Omega.{arith}

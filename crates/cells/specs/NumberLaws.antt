@@ -61,12 +61,3 @@ number-at g (x ∷ gs) h = go (number-at g gs) (eqb x g) refl
     go : (numberIn g gs < length gs → getD gs (numberIn g gs) 0 ≡ g) → (t : Bool) → eqb x g ≡ t → getD (x ∷ gs) (numberIn g (x ∷ gs)) 0 ≡ g
     go f true q = let e = eqb-true x g q in rw (number-hit g x gs e) e
     go f false q = let n = number-next g x gs (eqb-false x g q) in rw n (f (omega arith))
-
-pub one-group : (g : ℕ) (gs : List ℕ) → length gs ≡ 1 → numberIn g gs < length gs → gs ≡ g ∷ []
-one-group g [] l h = absurd (omega arith)
-one-group g (x ∷ []) l h =
-    let z : numberIn g (x ∷ []) ≡ 0 = omega arith in
-    let e : getD (x ∷ []) (numberIn g (x ∷ [])) 0 ≡ g = number-at g (x ∷ []) h in
-    let y : x ≡ g = rw z at e in
-    rw y
-one-group g (x ∷ y ∷ gs) l h = absurd (omega arith)

@@ -1,6 +1,6 @@
 -- Laws of places in joined data, and of records at equal distances from one on.
 use Prim.Native.Nat.{ℕ, zero, suc, _+_, _*_, _-_, _/_, _≤_, _<_}
-use mathlib.Core.List.{List, [], _∷_, _++_, append-nil}
+use mathlib.Core.List.{List, _∷_, _++_, append-nil}
 use mathlib.Core.Path.{_≡_, refl, sym, ap, _∙_}
 use native.Mathlib.Nat.{zero-mul, suc-mul, add-mul, mul-le-mul-right, div-mul-le-self}
 use native.Mathlib.Numerals.{sub-one}

@@ -3,7 +3,7 @@ use crate::cell::Shape;
 use crate::cell::cell_here;
 ghost use mathlib.Core.Path.{_≡_};
 ghost use mathlib.Core.Bool.{true, false};
-ghost use Prim.Native.Nat.{_+_, _*_, _≤_, _<_};
+ghost use Prim.Native.Nat.{_+_, _*_, _≤_};
 ghost use lib.ListN.{length};
 ghost use Rattle.base.specs.Blit.{blit};
 ghost use Rattle.result.specs.Payload.{cells};

@@ -1,4 +1,4 @@
--- What holds of the fragments found in a data chain: the limit, and that their headers lie in the image.
+-- What holds of the fragments found in a data chain: the limit.
 use Prim.Native.Nat.{ℕ, zero, suc, _+_, _-_, _≤_, _<_}
 use mathlib.Core.Path.{_≡_, refl}
 use mathlib.Core.Bool.{Bool, true, false}
@@ -88,21 +88,3 @@ pub chain-limit : (c : Chain) (l : Limits) (s : List ℕ) (n a m : ℕ) → l .f
 unfolding chain
 chain-limit c l s n a m g h =
     chain-holds (λ fs. n + length fs ≤ m) c l s n (λ b k fs i j p. simp length-append (omega arith)) (l .lists + 2) [] a [] (omega arith) .it
-
--- each fragment's header lies in the image, so its data begins in it or at its end
-pub data Inside (s : List ℕ) : List Fragment → Type 0 where
-  no-more : Inside s []
-  inside : {f : Fragment} {fs : List Fragment} → f .offset ≤ length s → Inside s fs → Inside s (f ∷ fs)
-
-pub inside-append : {s : List ℕ} {fs gs : List Fragment} → Inside s fs → Inside s gs → Inside s (fs ++ gs)
-inside-append no-more q = q
-inside-append (inside h p) q = inside h (inside-append p q)
-
-pub chain-inside : (c : Chain) (l : Limits) (s : List ℕ) (n a : ℕ) → Inside s (fragmentsIn (chain c l s n a))
-unfolding chain
-chain-inside c l s n a = chain-holds (Inside s) c l s n (λ b k fs i j p. inside-append p (inside i no-more)) (l .lists + 2) [] a [] no-more .it
-
--- at the limit nothing is found
-pub chain-full : (c : Chain) (l : Limits) (s : List ℕ) (n a : ℕ) → l .fragments ≤ n → fragmentsIn (chain c l s n a) ≡ []
-unfolding chain
-chain-full c l s n a h = chain-holds (λ fs. fs ≡ []) c l s n (λ b k fs i j p. absurd (omega arith)) (l .lists + 2) [] a [] refl .it

@@ -11,7 +11,6 @@ use Rattle.base.specs.BlitLaws.{length-blit, blit-append}
 use Rattle.mdf.specs.Chain.{Kind, dt, dv, Fragment, Found, found, stopped}
 use Rattle.work_words.specs.Words.{kindWord, kindOf, fragmentWords, fragmentsOf}
 use Rattle.chains.specs.declared.chain.Chained.{Chained}
-use Rattle.chains.specs.declared.chain.Chained.the-variants.{Stopped, Done}
 use Rattle.chains.specs.Kept.{kept, given, laid}
 
 pub length-words : (fs : List Fragment) → length (fragmentWords fs) ≡ 3 * length fs
@@ -68,28 +67,3 @@ pub laid-same : (g : Found) (n : ℕ) (w : List ℕ) {r : Chained} {w' : List �
 unfolding laid
 laid-same (found fs) n w {w' = w'} e = let v : w' ≡ kept n fs w = cc in rw (v, length-kept)
 laid-same (stopped x p fs) n w {w' = w'} e = let v : w' ≡ kept n fs w = cc in rw (v, length-kept)
-
--- ---- what the code's answer says of the chain: its fragments, their number with the n before, and the words
-pub record Answered (n : ℕ) (w : List ℕ) (count : ℕ) (w' : List ℕ) (fs : List Fragment) : Type 0 where
-  pub number : count ≡ n + length fs
-  pub words : w' ≡ kept n fs w
-
-pub data DoneAs (g : Found) (n : ℕ) (w : List ℕ) (count : ℕ) (w' : List ℕ) : Type 0 where
-  done-as : (fs : List Fragment) → g ≡ found fs → Answered n w count w' fs → DoneAs g n w count w'
-
-pub data StoppedAs (g : Found) (n : ℕ) (w : List ℕ) (x p count : ℕ) (w' : List ℕ) : Type 0 where
-  stopped-as : (fs : List Fragment) → g ≡ stopped x p fs → Answered n w count w' fs → StoppedAs g n w x p count w'
-
-module _ (n : ℕ) (w : List ℕ) {r : Chained} {w' : List ℕ} where
-  pub laid-done : (g : Found) {j : ℕ} → given r w' ≡ laid g n w → r ≡ Done j → DoneAs g n w j w'
-  unfolding laid
-  laid-done (found fs) e q = done-as fs refl (record { number = cc; words = cc })
-  laid-done (stopped x p fs) e q = absurd (let z : _≡_ {A = ℕ} 0 1 = cc in omega arith)
-
-  pub laid-stop : (g : Found) {x p j : ℕ} → given r w' ≡ laid g n w → r ≡ Stopped x p j → StoppedAs g n w x p j w'
-  unfolding laid
-  laid-stop (found fs) e q = absurd (let z : _≡_ {A = ℕ} 0 1 = cc in omega arith)
-  laid-stop (stopped y t fs) {x} {p} e q =
-      let i : x ≡ y = cc in
-      let k : p ≡ t = cc in
-      stopped-as fs (rw (i, k)) (record { number = cc; words = cc })

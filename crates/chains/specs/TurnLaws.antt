@@ -22,7 +22,8 @@ use Rattle.fields.specs.declared.Check.{Check}
 use Rattle.fields.specs.declared.Check.the-variants.{Fine}
 use Rattle.fields.specs.declared.Check.the-variants as checks
 use Rattle.fields.specs.Answer.{verdictOf}
-use Rattle.blocks.specs.AnswerLaws.{so-fine, so-refused}
+use Rattle.blocks.specs.AnswerLaws.{so-fine, so-refused, then-fine}
+use Rattle.blocks.specs.BlockLaws.{length-fits}
 use Rattle.chains.specs.declared.node.Node.{Node}
 use Rattle.chains.specs.declared.node.Node.the-variants.{Refused, Dl, Hl}
 use Rattle.chains.specs.declared.node.Node.the-variants as nodes
@@ -93,8 +94,11 @@ keep-three n o z d w e f g h =
 pub keep-past : (n : ℕ) (f : Fragment) (w : List ℕ) → length w ≤ n → w ≡ kept n (f ∷ []) w
 unfolding kept fragmentWords blit
 keep-past n f w h =
-    rw (set-out w (3 * n) (f .offset) (omega arith), set-out w (suc (3 * n)) (f .size) (omega arith),
-    set-out w (suc (suc (3 * n))) (kindWord (f .kind)) (omega arith))
+    rw (
+      set-out w (3 * n) (f .offset) (omega arith),
+      set-out w (suc (3 * n)) (f .size) (omega arith),
+      set-out w (suc (suc (3 * n))) (kindWord (f .kind)) (omega arith),
+    )
 
 -- ---- the limits
 pub lists-for : (file : Bool) → limitsFor file .lists ≡ 256
@@ -142,6 +146,10 @@ module _ (c : Chain) (l : Limits) (s : List ℕ) (n a : ℕ) (w : List ℕ) {r :
   fragment-hl q = rw (fragment-node c l s n a, ← e, q) (laid-stopped 12 a n w)
 
 -- a link of a DL
+pub link-is : (s : List ℕ) (a i : ℕ) {x : ℕ} → x ≡ leAt 8 s (a + 24 + 8 * i) → x ≡ linkAt s a i
+unfolding linkAt
+link-is s a i e = e
+
 module _ (c : Chain) (l : Limits) (s : List ℕ) (n x : ℕ) (w : List ℕ) where
   pub entry-zero : x ≡ 0 → given (Done n) w ≡ laid (entryAt c l s n x) n w
   unfolding entryAt
@@ -227,6 +235,14 @@ module _ (most lists k : ℕ) (s : List ℕ) (a : ℕ) {o : Check} (e : verdictO
   pub list-full : o ≡ Fine → lists ≤ k → refused 19 a ≡ listAt most lists k s a
   unfolding listAt
   list-full q h = rw (so-fine e q) (lt-no _ _ _ _ h refl)
+
+-- its links lie in the image
+pub list-lies : (file : Bool) (k : ℕ) (s : List ℕ) (a : ℕ) {o : Check} → verdictOf o ≡ listAt (limitsFor file .dlBytes) (limitsFor file .lists) k s a → o ≡ Fine
+    → a + 24 + 8 * linksAt s a ≤ length s
+unfolding listAt
+list-lies file k s a e q =
+    let b = length-fits (limitsFor file .dlBytes) s a (then-fine (lengthIn (limitsFor file .dlBytes) s a) _ (so-fine e q) .0) in
+    omega arith
 
 -- there was room for it
 list-room : (most lists k : ℕ) (s : List ℕ) (a : ℕ) {u : Unit {0}} → listAt most lists k s a ≡ ok u → k < lists

@@ -5,20 +5,20 @@ use crate::node::SrcBlock;
 use crate::node::node_at;
 use blocks::block::first_link;
 use blocks::block::length_in;
-use blocks::block::link_at;
 use blocks::block::links_at;
 use fields::Check;
 ghost use mathlib.Core.Path.{_≡_};
 ghost use mathlib.Core.List.{[], _∷_};
-ghost use Prim.Native.Nat.{_+_, _-_, _≤_, _<_};
-ghost use lib.ListN.{set};
+ghost use Prim.Native.Nat.{_+_, _*_, _-_, _≤_};
+ghost use lib.ListN.{length, set};
+ghost use Rattle.base.specs.Field.{Field};
 ghost use Rattle.fields.specs.Answer.{verdictOf};
 ghost use Rattle.mdf.specs.Block.{linksAt};
 ghost use Rattle.mdf.specs.Chain.{added, fragmentAt, listed, isIn, chain};
 ghost use Rattle.work_words.specs.Words.{kindWord};
 ghost use Rattle.chains.specs.Node.{which, limitsFor, kindOf, fragmentOf};
 ghost use Rattle.chains.specs.Kept.{kept, Given, laid};
-ghost use Rattle.chains.specs.Turn.{metIn, entryAt, listAt, listTurn, headerTurn, turnAt, Moved, laidTurn};
+ghost use Rattle.chains.specs.Turn.{metIn, listAt, listTurn, headerTurn, turnAt, Moved, laidTurn};
 
 // The refusal that stopped a chain, or its end; count: the fragments kept, with those before the chain.
 pub enum Chained {
@@ -116,7 +116,14 @@ fn add(file: bool, fragments: &mut [u64], n: u64, a: u64, b: SrcBlock) -> Chaine
 }
 
 // A fragment that a DL lists: header range, 12 for another kind, 19.
-fn fragment_at(signal: bool, file: bool, image: &[u8], fragments: &mut [u64], n: u64, a: u64) -> Chained
+fn fragment_at(
+    signal: bool,
+    file: bool,
+    image: &[u8],
+    fragments: &mut [u64],
+    n: u64,
+    a: u64,
+) -> Chained
     ensures { λ r. ⌜ Given.given r (now (fragments .exit)) ≡
         laid (fragmentAt (which signal) (limitsFor file) (now (image .entry)) n a []) n (now (fragments .entry)) ⌝ }
 {
@@ -141,19 +148,38 @@ fn fragment_at(signal: bool, file: bool, image: &[u8], fragments: &mut [u64], n:
     }
 }
 
-// A link of a DL; zero is passed over.
-fn entry_at(signal: bool, file: bool, image: &[u8], fragments: &mut [u64], n: u64, link: u64) -> Chained
-    ensures { λ r. ⌜ Given.given r (now (fragments .exit)) ≡
-        laid (entryAt (which signal) (limitsFor file) (now (image .entry)) n link) n (now (fragments .entry)) ⌝ }
+// The numbers of one, two, four and eight bytes at p.
+fn one_at(s: &[u8], p: usize) -> u64
+    requires { ⌜ p + 1 ≤ length (now s) ⌝ }
+    ensures { λ r. ⌜ Field 1 (now (s .entry)) p r ⌝ }
 {
-    if link == 0 {
-        return Chained::Done { count: n };
-    }
-    fragment_at(signal, file, image, fragments, n, link)
+    s[p] as u64
 }
 
-// The fragments that the DL at a lists: its links but the first.
+fn two_at(s: &[u8], p: usize) -> u64
+    requires { ⌜ p + 2 ≤ length (now s) ⌝ }
+    ensures { λ r. ⌜ Field 2 (now (s .entry)) p r ⌝ }
+{
+    one_at(s, p) + 256 * one_at(s, p + 1)
+}
+
+fn four_at(s: &[u8], p: usize) -> u64
+    requires { ⌜ p + 4 ≤ length (now s) ⌝ }
+    ensures { λ r. ⌜ Field 4 (now (s .entry)) p r ⌝ }
+{
+    two_at(s, p) + 65536 * two_at(s, p + 2)
+}
+
+fn eight_at(s: &[u8], p: usize) -> u64
+    requires { ⌜ p + 8 ≤ length (now s) ⌝ }
+    ensures { λ r. ⌜ Field 8 (now (s .entry)) p r ⌝ }
+{
+    four_at(s, p) + 4294967296 * four_at(s, p + 4)
+}
+
+// The fragments that the DL at a lists: its links but the first, which lie in the image; zero is passed over.
 fn list(signal: bool, file: bool, image: &[u8], fragments: &mut [u64], n: u64, a: u64) -> Chained
+    requires { ⌜ a + 24 + 8 * linksAt (now image) a ≤ length (now image) ⌝ }
     ensures { λ r. ⌜ Given.given r (now (fragments .exit)) ≡
         laid (listed (which signal) (limitsFor file) (now (image .entry)) n (linksAt (now (image .entry)) a - 1) (a + 32) []) n
         (now (fragments .entry)) ⌝ }
@@ -162,23 +188,27 @@ fn list(signal: bool, file: bool, image: &[u8], fragments: &mut [u64], n: u64, a
     let mut count = n;
     let mut i: u64 = 1;
     while i < links {
-        let link = link_at(image, a, i);
-        let entry = entry_at(signal, file, image, fragments, count, link);
-        match entry {
-            Chained::Stopped {
-                number,
-                place,
-                count: kept,
-            } => {
-                return Chained::Stopped {
+        let link = eight_at(image, (a + 24 + 8 * i) as usize);
+        if link == 0 {
+            i += 1;
+        } else {
+            let entry = fragment_at(signal, file, image, fragments, count, link);
+            match entry {
+                Chained::Stopped {
                     number,
                     place,
                     count: kept,
-                };
-            }
-            Chained::Done { count: kept } => {
-                count = kept;
-                i += 1;
+                } => {
+                    return Chained::Stopped {
+                        number,
+                        place,
+                        count: kept,
+                    };
+                }
+                Chained::Done { count: kept } => {
+                    count = kept;
+                    i += 1;
+                }
             }
         }
     }
@@ -203,7 +233,15 @@ fn list_in(most: u64, image: &[u8], k: usize, a: u64) -> Check
 }
 
 // A DL: its fragments, then its first link.
-fn list_step(signal: bool, file: bool, image: &[u8], fragments: &mut [u64], n: u64, k: usize, a: u64) -> Step
+fn list_step(
+    signal: bool,
+    file: bool,
+    image: &[u8],
+    fragments: &mut [u64],
+    n: u64,
+    k: usize,
+    a: u64,
+) -> Step
     ensures { λ r. ⌜ Moved.moved r (now (fragments .exit)) ≡
         laidTurn (listTurn (which signal) (limitsFor file) (now (image .entry)) n k a) n (now (fragments .entry)) ⌝ }
 {
@@ -249,7 +287,15 @@ fn header_step(file: bool, image: &[u8], fragments: &mut [u64], n: u64, k: usize
 }
 
 // The block at a, with k DL and HL before it.
-fn node_step(signal: bool, file: bool, image: &[u8], fragments: &mut [u64], n: u64, k: usize, a: u64) -> Step
+fn node_step(
+    signal: bool,
+    file: bool,
+    image: &[u8],
+    fragments: &mut [u64],
+    n: u64,
+    k: usize,
+    a: u64,
+) -> Step
     ensures { λ r. ⌜ Moved.moved r (now (fragments .exit)) ≡
         laidTurn (turnAt (which signal) (limitsFor file) (now (image .entry)) n k a) n (now (fragments .entry)) ⌝ }
 {
@@ -268,7 +314,14 @@ fn node_step(signal: bool, file: bool, image: &[u8], fragments: &mut [u64], n: u
 
 // The data chain from a on; signal: a channel's signal data; file: within the limits of a file whose columns are read. n fragments are kept already, and those found are kept past them,
 // three words for each.
-pub fn chain(signal: bool, file: bool, image: &[u8], fragments: &mut [u64], n: u64, a: u64) -> Chained
+pub fn chain(
+    signal: bool,
+    file: bool,
+    image: &[u8],
+    fragments: &mut [u64],
+    n: u64,
+    a: u64,
+) -> Chained
     ensures { λ r. ⌜ Given.given r (now (fragments .exit)) ≡
         laid (chain (which signal) (limitsFor file) (now (image .entry)) n a) n (now (fragments .entry)) ⌝ }
 {

@@ -192,10 +192,3 @@ pub fn choices_in(c: Choices, table: &[u8]) -> Check
         place: 0,
     }
 }
-
-// What is built in.
-pub fn built_in() -> Choices
-    ensures { λ r. ⌜ r ≡ record { unit = 8 } ⌝ }
-{
-    Choices { unit: 8 }
-}

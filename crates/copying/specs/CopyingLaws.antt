@@ -33,9 +33,6 @@ pub led-is : (m : List Copy) (a : ℕ) {r : ℕ} → r ≡ linkOf (copyOf a m) �
 unfolding newLink
 led-is m a e = e ∙ same-link (copyOf a m)
 
-pub led-zero : (m : List Copy) (a : ℕ) {z : ℕ} → z ≡ newLink m 0 → a ≡ 0 → z ≡ newLink m a
-led-zero m a e q = rw q e
-
 -- ---- links one after the other: what is left to do, done to the list, gives g, before the turn (d) and after it (e)
 pub length-newLinks : (s : List ℕ) (m : List Copy) (k p : ℕ) → length (newLinks s m k p) ≡ 8 * k
 unfolding newLinks

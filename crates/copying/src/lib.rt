@@ -4,7 +4,7 @@ use blocks::block::kind_at;
 use blocks::block::link_at;
 use blocks::block::links_at;
 use blocks::block::size_at;
-use placing::memo::new_link;
+use placing::memo::link_by;
 use puts::copy;
 use puts::header;
 use puts::least;
@@ -17,36 +17,35 @@ ghost use Rattle.base.specs.Blit.{blit, part};
 ghost use Rattle.mdf.specs.Block.{sizeAt, linksAt};
 ghost use Rattle.work_words.specs.CopyWords.{historyAt};
 ghost use Rattle.placing.specs.Standing.{copiesIn};
-ghost use Rattle.result.specs.Fill.{newLink, newLinks, historyLink, firstNew, copiedLinks, dataOf, copiedBytes, atBytes};
+ghost use Rattle.placing.specs.Index.{Indexes};
+ghost use Rattle.result.specs.Fill.{newLinks, historyLink, firstNew, copiedLinks, dataOf, copiedBytes, atBytes};
 
 const FH: u64 = 1212556067;
 
-// A link to a, led to its copy; zero is where a link of 0 leads.
-fn led(memo: &[u64], used: u64, zero: u64, a: u64) -> u64
-    requires { ⌜ zero ≡ newLink (copiesIn (now memo) used) 0 ⌝ }
-    ensures { λ r. ⌜ r ≡ newLink (copiesIn (now (memo .entry)) used) a ⌝ }
-{
-    if a == 0 {
-        return zero;
-    }
-    new_link(memo, used, a)
-}
-
 // k links of the block at a, from the second on, led to the copies, at index at.
-fn put_links(d: &mut [u8], at: usize, image: &[u8], memo: &[u64], used: u64, a: u64, k: u64)
+fn put_links(
+    d: &mut [u8],
+    at: usize,
+    image: &[u8],
+    memo: &[u64],
+    index: &[u16; 4096],
+    used: u64,
+    a: u64,
+    k: u64,
+)
     requires { ⌜ at ≤ 32 ⌝ }
-    ensures { λ _. ⌜ now (d .exit) ≡ blit at (newLinks (now (image .entry)) (copiesIn (now (memo .entry)) used) k (a + 32)) (now (d .entry)) ⌝ }
+    ensures { λ _. ⌜ (Indexes (now (memo .entry)) used (now (index .entry))
+        → now (d .exit) ≡ blit at (newLinks (now (image .entry)) (copiesIn (now (memo .entry)) used) k (a + 32)) (now (d .entry))) ⌝ }
 {
     if d.len() <= at {
         return;
     }
-    let zero = new_link(memo, used, 0);
     let mut left = k;
     let mut i: u64 = 1;
     let mut p = at;
     while 0 < left {
         let old = link_at(image, a, i);
-        let new = led(memo, used, zero, old);
+        let new = link_by(memo, index, used, old);
         put_u64(d, p, new);
         if d.len() - p <= 8 {
             return;
@@ -70,19 +69,27 @@ fn chain_end(memo: &[u64], chain: u64) -> usize
 }
 
 // The first link of a block that isn't one of the history chain.
-fn own_link(image: &[u8], memo: &[u64], used: u64, a: u64) -> u64
-    ensures { λ r. ⌜ r ≡ firstNew (now (image .entry)) (copiesIn (now (memo .entry)) used) a none ⌝ }
+fn own_link(image: &[u8], memo: &[u64], index: &[u16; 4096], used: u64, a: u64) -> u64
+    ensures { λ r. ⌜ (Indexes (now (memo .entry)) used (now (index .entry)) → r ≡ firstNew (now (image .entry)) (copiesIn (now (memo .entry)) used) a none) ⌝ }
 {
     if kind_at(image, a) == FH {
         return 0;
     }
-    new_link(memo, used, link_at(image, a, 0))
+    link_by(memo, index, used, link_at(image, a, 0))
 }
 
 // The first link of the copy of the block at a: a block of the history chain leads to the copy of the next, the last to the new FH.
-fn first_link(image: &[u8], memo: &[u64], used: u64, chain: u64, fh: u64, a: u64) -> u64
-    ensures { λ r. ⌜ r ≡ firstNew (now (image .entry)) (copiesIn (now (memo .entry)) used) a
-        (historyLink a (part historyAt chain (now (memo .entry))) (copiesIn (now (memo .entry)) used) fh) ⌝ }
+fn first_link(
+    image: &[u8],
+    memo: &[u64],
+    index: &[u16; 4096],
+    used: u64,
+    chain: u64,
+    fh: u64,
+    a: u64,
+) -> u64
+    ensures { λ r. ⌜ (Indexes (now (memo .entry)) used (now (index .entry)) → r ≡ firstNew (now (image .entry)) (copiesIn (now (memo .entry)) used) a
+        (historyLink a (part historyAt chain (now (memo .entry))) (copiesIn (now (memo .entry)) used) fh)) ⌝ }
 {
     let end = chain_end(memo, chain);
     let mut i = 4352;
@@ -91,11 +98,11 @@ fn first_link(image: &[u8], memo: &[u64], used: u64, chain: u64, fh: u64, a: u64
             if end - i == 1 {
                 return fh;
             }
-            return new_link(memo, used, memo[i + 1]);
+            return link_by(memo, index, used, memo[i + 1]);
         }
         i += 1;
     }
-    own_link(image, memo, used, a)
+    own_link(image, memo, index, used, a)
 }
 
 // The links of the copy of the block at a, n of them.
@@ -103,20 +110,21 @@ fn put_copied_links(
     d: &mut [u8],
     image: &[u8],
     memo: &[u64],
+    index: &[u16; 4096],
     used: u64,
     chain: u64,
     fh: u64,
     a: u64,
     n: u64,
 )
-    ensures { λ _. ⌜ now (d .exit) ≡ blit 24 (copiedLinks (now (image .entry)) (part historyAt chain (now (memo .entry)))
-        (copiesIn (now (memo .entry)) used) fh a n) (now (d .entry)) ⌝ }
+    ensures { λ _. ⌜ (Indexes (now (memo .entry)) used (now (index .entry)) → now (d .exit) ≡ blit 24 (copiedLinks (now (image .entry))
+        (part historyAt chain (now (memo .entry))) (copiesIn (now (memo .entry)) used) fh a n) (now (d .entry))) ⌝ }
 {
     if n == 0 {
         return;
     }
-    put_u64(d, 24, first_link(image, memo, used, chain, fh, a));
-    put_links(d, 32, image, memo, used, a, n - 1);
+    put_u64(d, 24, first_link(image, memo, index, used, chain, fh, a));
+    put_links(d, 32, image, memo, index, used, a, n - 1);
 }
 
 // How many bytes of data the block at a has.
@@ -151,14 +159,23 @@ fn put_data(d: &mut [u8], at: usize, n: u64, image: &[u8], a: u64)
     copy(d, at + 8 * n as usize, image, from, size);
 }
 
-// The copy of the block at a, with its links led to the copies; chain words of the history and the new FH's place.
-pub fn put_copied(d: &mut [u8], image: &[u8], memo: &[u64], used: u64, chain: u64, fh: u64, a: u64)
-    ensures { λ _. ⌜ now (d .exit) ≡ blit 0 (copiedBytes (now (image .entry)) (part historyAt chain (now (memo .entry)))
-        (copiesIn (now (memo .entry)) used) fh a) (now (d .entry)) ⌝ }
+// The copy of the block at a, with its links led to the copies by their index; chain words of the history and the new FH's place.
+pub fn put_copied(
+    d: &mut [u8],
+    image: &[u8],
+    memo: &[u64],
+    index: &[u16; 4096],
+    used: u64,
+    chain: u64,
+    fh: u64,
+    a: u64,
+)
+    ensures { λ _. ⌜ (Indexes (now (memo .entry)) used (now (index .entry)) → now (d .exit) ≡ blit 0 (copiedBytes (now (image .entry))
+        (part historyAt chain (now (memo .entry))) (copiesIn (now (memo .entry)) used) fh a) (now (d .entry))) ⌝ }
 {
     let links = links_at(image, a);
     header(d, kind_at(image, a), size_at(image, a), links);
-    put_copied_links(d, image, memo, used, chain, fh, a, links);
+    put_copied_links(d, image, memo, index, used, chain, fh, a, links);
     put_data(d, 24, links, image, a);
 }
 
@@ -184,14 +201,23 @@ fn more_links(image: &[u8], a: u64) -> u64
     links - 1
 }
 
-// The AT at a with its links led to the copies, the first to the next AT.
-pub fn put_at(d: &mut [u8], image: &[u8], memo: &[u64], used: u64, a: u64, next: u64)
-    ensures { λ _. ⌜ now (d .exit) ≡ blit 0 (atBytes (now (image .entry)) (copiesIn (now (memo .entry)) used) a next) (now (d .entry)) ⌝ }
+// The AT at a with its links led to the copies by their index, the first to the next AT.
+pub fn put_at(
+    d: &mut [u8],
+    image: &[u8],
+    memo: &[u64],
+    index: &[u16; 4096],
+    used: u64,
+    a: u64,
+    next: u64,
+)
+    ensures { λ _. ⌜ (Indexes (now (memo .entry)) used (now (index .entry))
+        → now (d .exit) ≡ blit 0 (atBytes (now (image .entry)) (copiesIn (now (memo .entry)) used) a next) (now (d .entry))) ⌝ }
 {
     let n = header_size(image, a);
     let links = more_links(image, a);
     copy(d, 0, image, a, 24);
     put_u64(d, n, next);
-    put_links(d, n + 8, image, memo, used, a, links);
+    put_links(d, n + 8, image, memo, index, used, a, links);
     put_data(d, n + 8, links, image, a);
 }

@@ -15,6 +15,7 @@ use Rattle.file.specs.Form as form
 use Rattle.file.specs.Range.{at, split}
 use Rattle.file.specs.Range as range
 
+-- bookkeeping: n bytes of data at a
 abbrev block : ℕ → ℕ → Fragment
 block a n = record { offset = a; size = n; kind = dt }
 
@@ -22,6 +23,7 @@ block a n = record { offset = a; size = n; kind = dt }
 abbrev image : List ℕ
 image = replicate 48 0 ++ (2 ∷ 0 ∷ 0 ∷ 0 ∷ 1 ∷ 0 ∷ 0 ∷ 0 ∷ 1 ∷ 2 ∷ 3 ∷ 4 ∷ 5 ∷ 6 ∷ 7 ∷ 8 ∷ 9 ∷ [])
 
+-- these blocks as a column
 abbrev column : FileColumn
 column = record { dg = 0; cg = 0; cn = 0; fragments = block 56 2 ∷ block 58 2 ∷ block 60 5 ∷ [] }
 

@@ -31,22 +31,24 @@ cycles s g = leAt 8 s (dataAt s g + 8)
 unfoldable pub recordBytes : List ℕ → ℕ → ℕ
 recordBytes s g = samples s g + invalBytes s g
 
--- all tests pass
+-- bookkeeping: all tests pass
 abbrev pub holds : List Bool → Bool
 holds [] = true
 holds (t ∷ ts) = pick t (holds ts) false
 
--- "one CG with one CN": the column of a DG with these groups, none where there are more or fewer
+-- "one CG with one CN": the column of a DG by the channels of its one group, none where there are more or fewer
 abbrev pub ofChannels : DataGroup → ℕ → List ℕ → Option FileColumn
 ofChannels d g [] = none
 ofChannels d g (c ∷ []) = some (record { dg = d .at; cg = g; cn = c; fragments = d .fragments })
 ofChannels d g (b ∷ c ∷ cs) = none
 
+-- by its groups, likewise
 abbrev pub ofGroups : DataGroup → List Group → Option FileColumn
 ofGroups d [] = none
 ofGroups d (g ∷ []) = ofChannels d (g .at) (g .channels)
 ofGroups d (g ∷ h ∷ gs) = none
 
+-- "each DG has .. one CG with one CN"
 unfoldable pub alone : DataGroup → Option FileColumn
 alone d = ofGroups d (d .groups)
 
@@ -82,10 +84,12 @@ listFormed s a fs =
 
 -- ---- its blocks
 
+-- "all its blocks are DT"
 unfoldable pub allDT : List Fragment → Bool
 allDT [] = true
 allDT (f ∷ fs) = let more = allDT fs in pick (isDV (f .kind)) false more
 
+-- "or all are DV"
 unfoldable pub allDV : List Fragment → Bool
 allDV [] = true
 allDV (f ∷ fs) = let more = allDV fs in pick (isDV (f .kind)) more false

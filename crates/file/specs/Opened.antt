@@ -13,6 +13,7 @@ use Rattle.mdf.specs.Group.{DataGroup, dataGroups}
 use Rattle.mdf.specs.Records.{rangesIn}
 use Rattle.file.specs.Form.{FileColumn, alone, formed}
 
+-- bookkeeping: the answer where there is no column, and by the one that there is
 abbrev pub onColumn : {A : Type 0} → Option FileColumn → Checked A → (FileColumn → Checked A) → Checked A
 onColumn none a f = a
 onColumn (some c) a f = f c

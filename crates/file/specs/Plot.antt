@@ -1,5 +1,5 @@
 -- Many ranges fetched in one call (document 02, request 2).
-use Prim.Native.Nat.{ℕ, zero, suc, _+_}
+use Prim.Native.Nat.{ℕ, suc, _+_}
 use mathlib.Core.List.{List, [], _∷_}
 use lib.ListN.{length}
 use Rattle.base.specs.Choice.{ifLt}
@@ -25,14 +25,16 @@ fetched s e n =
 abbrev pub readAt : List ℕ → Entry → List ℕ → ℕ → Copied
 readAt s e d m = readInto s (e .column) (e .first) (e .count) (part (e .place) m d)
 
--- one entry, and the destination after it
+-- bookkeeping: its buffer laid over the destination
 abbrev pub laidOver : ℕ → List ℕ → Copied → Copied
 laidOver p d r = record { answered = r .answered; buffer = blit p (r .buffer) d }
 
+-- bookkeeping: a refused entry leaves the destination
 abbrev pub readEntry : List ℕ → Entry → List ℕ → Checked ℕ → Copied
 readEntry s e d (ok m) = laidOver (e .place) d (readAt s e d m)
 readEntry s e d (refused number place) = record { answered = refused number place; buffer = d }
 
+-- one entry, and the destination after it
 unfoldable pub single : List ℕ → Entry → List ℕ → Copied
 single s e d = readEntry s e d (fetched s e (length d))
 

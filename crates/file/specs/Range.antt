@@ -25,13 +25,15 @@ asked s k first count =
     onColumn (fileColumnAt k cs) (refused 22 0) (λ c.
     ifLt (cycles s (c .cg)) (first + count) (refused 23 0) (ok c)))
 
--- "count records of one column, beginning at a given one": where they begin in the column's joined data, and how many bytes they have
+-- "count records of one column, beginning at a given one": where they begin in the column's joined data
 unfoldable pub startOf : List ℕ → FileColumn → ℕ → ℕ
 startOf s c first = first * recordBytes s (c .cg)
 
+-- how many bytes they have
 unfoldable pub bytesOf : List ℕ → FileColumn → ℕ → ℕ
 bytesOf s c count = count * recordBytes s (c .cg)
 
+-- these bytes
 unfoldable pub rangeOf : List ℕ → ℕ → ℕ → FileColumn → List ℕ
 rangeOf s first count c = part (startOf s c first) (bytesOf s c count) (joined s (c .fragments))
 
@@ -56,6 +58,7 @@ unfoldable pub intoBuffer : List ℕ → ℕ → ℕ → ℕ → ℕ → Checked
 intoBuffer s k first count n =
     andThen (asked s k first count) (λ c. ifEq n (bytesOf s c count) (ok (rangeOf s first count c)) (refused 24 0))
 
+-- the first call
 unfoldable pub readInto : List ℕ → ℕ → ℕ → ℕ → List ℕ → Copied
 readInto s k first count buffer = copied buffer (intoBuffer s k first count (length buffer))
 
@@ -78,20 +81,22 @@ within (f ∷ fs) p n =
 unfoldable pub placeIn : List Fragment → ℕ → ℕ → Place
 placeIn fs p n = ifEq n 0 (at 0 0) (within fs p n)
 
+-- where the second call finds the records
 unfoldable pub located : List ℕ → ℕ → ℕ → ℕ → Checked Place
 located s k first count =
     andThen (asked s k first count) (λ c. ok (placeIn (c .fragments) (startOf s c first) (bytesOf s c count)))
 
--- what the second call hands back: three words and a part of the image. The words are 0, offset and length of the part; or 1, 0, 0 for
--- `split`; or 2, a refusal's number and its place
+-- what the second call hands back: three words and a part of the image
 pub record Handed : Type 0 where
   pub words : List ℕ
   pub bytes : List ℕ
 
+-- bookkeeping: the words are 0, offset and length of the part; or 1, 0, 0 for `split`
 abbrev pub handedAt : List ℕ → Place → Handed
 handedAt s (at a n) = record { words = 0 ∷ a ∷ n ∷ []; bytes = part a n s }
 handedAt s split = record { words = 1 ∷ 0 ∷ 0 ∷ []; bytes = [] }
 
+-- or 2, a refusal's number and its place; then the part is empty
 abbrev pub handed : List ℕ → Checked Place → Handed
 handed s (ok p) = handedAt s p
 handed s (refused number place) = record { words = 2 ∷ number ∷ place ∷ []; bytes = [] }

@@ -1,8 +1,8 @@
 -- A plot: what one entry does, a table of none, of one, cut in two, of too many; the destination keeps its length.
-use Prim.Native.Nat.{ℕ, zero, suc, _+_, _≤_, _<_}
+use Prim.Native.Nat.{ℕ, suc, _+_, _≤_, _<_}
 use mathlib.Core.List.{List, [], _∷_, _++_}
 use mathlib.Core.Bool.{Bool, true, false}
-use mathlib.Core.Path.{_≡_, refl, sym, ap, subst, _∙_}
+use mathlib.Core.Path.{_≡_, refl, sym, ap, _∙_}
 use native.Mathlib.Nat.{add-zero, add-suc, suc-add}
 use native.Mathlib.Omega.{arith}
 use lib.ListN.{length, length-append}
@@ -12,12 +12,12 @@ use Rattle.base.specs.Blit.{part, blit}
 use Rattle.base.specs.BlitLaws.{length-blit, length-part}
 use Rattle.base.specs.Choice.{pick, ifLt}
 use Rattle.base.specs.ChoiceLaws.{lt-yes, lt-no}
-use Rattle.base.specs.Checked.{Checked, ok, refused, andThen, Verdict, fine}
+use Rattle.base.specs.Checked.{Checked, ok, refused, Verdict, fine}
 use Rattle.base.specs.CheckedLaws.{refused≢ok}
 use Rattle.file.specs.Form.{FileColumn}
-use Rattle.file.specs.Range.{asked, bytesOf, rangeOf, Copied, readInto}
+use Rattle.file.specs.Range.{asked, bytesOf, rangeOf, Copied}
 use Rattle.file.specs.Plot.{Entry, fetched, readAt, laidOver, readEntry, single, Outcome, served, stopped, Plotted, entryThen, plotFrom, plotted}
-use Rattle.file_laws.specs.RangeLaws.{asked-back, range-length, read-fits}
+use Rattle.file_laws.specs.RangeLaws.{read-fits}
 
 -- ---- one entry
 

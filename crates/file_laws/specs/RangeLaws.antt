@@ -8,7 +8,7 @@ use native.Mathlib.Nat.{add-mul, mul-le-mul-right}
 use native.Mathlib.Omega.{arith}
 use lib.ListN.{length, take}
 use lib.Dec.{ltb, eqb}
-use borrow.Author.Tests.{lt-ltb, le-ltb, le-leb, lt-leb, ltb-true, ltb-false, eqb-true, eqb-false}
+use borrow.Author.Tests.{lt-ltb, le-ltb, le-leb, ltb-true, ltb-false, eqb-true, eqb-false}
 use Rattle.base.specs.Blit.{part}
 use Rattle.base.specs.BlitLaws.{length-part}
 use Rattle.base.specs.Choice.{pick, ifLt, ifLe, ifEq}
@@ -29,10 +29,6 @@ use Rattle.file_laws.specs.OpenedLaws.{IsColumn, opened-column}
 pub within-here : (f : Fragment) (fs : List Fragment) (p n : ℕ) → p + n ≤ f .size → 0 < n → within (f ∷ fs) p n ≡ at (f .offset + p) n
 unfolding within ifLt ifLe
 within-here f fs p n h k = rw (lt-ltb p (f .size) (omega arith), le-leb (p + n) (f .size) h)
-
-pub within-over : (f : Fragment) (fs : List Fragment) (p n : ℕ) → p < f .size → f .size < p + n → within (f ∷ fs) p n ≡ split
-unfolding within ifLt ifLe
-within-over f fs p n h k = rw (lt-ltb p (f .size) h, lt-leb (p + n) (f .size) k)
 
 pub within-later : (f : Fragment) (fs : List Fragment) (p n : ℕ) → f .size ≤ p → within (f ∷ fs) p n ≡ within fs (p - f .size) n
 unfolding within ifLt

@@ -1,12 +1,10 @@
 -- Columns start on the unit, and fewer than its bytes lie between two blocks of the file (document 02, requests 5 and 13).
 use Prim.Native.Nat.{ℕ, _+_, _%_, _≤_, _<_}
-use mathlib.Core.List.{List, [], _∷_, _++_}
-use mathlib.Core.Path.{_≡_, refl, sym, ap, subst, _∙_}
-use native.Mathlib.Nat.{le-refl}
+use mathlib.Core.List.{List, [], _∷_}
+use mathlib.Core.Path.{_≡_, refl, sym}
 use native.Mathlib.Omega.{arith}
 use lib.ListN.{length, drop}
 use Rattle.base.specs.ChoiceLaws.{eq-yes}
-use Rattle.base.specs.Checked.{fine}
 use Rattle.plan.specs.Columns.{Column, Signal, noSignal, signalData}
 use Rattle.plan.specs.Copies.{Copy, Attachment}
 use Rattle.plan.specs.Geometry.{align8, alignTo}
@@ -38,7 +36,7 @@ use Rattle.plan.specs.Layout.{
   Layout,
   pastCopies,
 }
-use Rattle.result.specs.Fill.{Block, block, copiedBlocks, nextDG, dlBlocks, structureBlocks, dataBlocks, nextAttachment, attachmentBlocks}
+use Rattle.result.specs.Fill.{Block, copiedBlocks, nextDG, dlBlocks, structureBlocks, dataBlocks, nextAttachment, attachmentBlocks}
 use Rattle.result.specs.Ordered.{Close}
 use Rattle.result.specs.Result.{Args, rulesOf, memoOf, hdBlock, blocksOf}
 use Rattle.result.specs.Guarantee.{In, here, there, Starts}
@@ -49,7 +47,7 @@ use Rattle.copies_laws.specs.LengthLaws.{length-copied, length-at, InImage, len
 use Rattle.copies_laws.specs.LayoutLaws.{LaidOut, history-from-start, history-laid, columns-after-history, columns-laid, attachments-laid}
 use Rattle.payload_laws.specs.UnitLaws.{IsUnit, to-past, to-is, first-some}
 use Rattle.payload_laws.specs.Near.{Near}
-use Rattle.payload_laws.specs.NearLaws.{near-close, eight-within, near-from, near-append, near-cons, near-none}
+use Rattle.payload_laws.specs.NearLaws.{near-close, eight-within, near-append, near-cons, near-none}
 
 dl-none : (n : ℕ) → n ≡ 0 → dlSize n ≡ 0
 unfolding dlSize

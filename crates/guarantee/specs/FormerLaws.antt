@@ -2,13 +2,12 @@
 use Prim.Native.Nat.{ℕ, _+_, _*_, _%_}
 use mathlib.Core.List.{List, [], _∷_}
 use mathlib.Core.Option.{Option, none, some}
-use mathlib.Core.Path.{_≡_, refl, sym, ap, _∙_}
+use mathlib.Core.Path.{_≡_, refl, ap, _∙_}
 use native.Mathlib.Omega.{arith}
-use Rattle.base.specs.Choice.{ifEq}
 use Rattle.base.specs.Checked.{Checked, ok, refused, andThen}
 use Rattle.mdf.specs.Block.{linkAt}
 use Rattle.plan.specs.Columns.{Column}
-use Rattle.plan.specs.Copies.{copies, copyRoot, historyOf, columnCopies, attachmentsOf}
+use Rattle.plan.specs.Copies.{copies, copyRoot, historyOf, columnCopies}
 use Rattle.plan.specs.Geometry.{align8, alignTo}
 use Rattle.plan.specs.Rules.{builtIn}
 use Rattle.plan.specs.Layout.{

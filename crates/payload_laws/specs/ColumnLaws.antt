@@ -1,9 +1,9 @@
 -- A planned column: its payloads joined are those due, its data blocks follow each other up to the column's end, its DL lists them.
-use Prim.Native.Nat.{ℕ, suc, _+_, _*_, _≤_, _<_}
+use Prim.Native.Nat.{ℕ, _+_, _*_, _<_}
 use mathlib.Core.Bool.{Bool, true, false}
 use mathlib.Core.List.{List, []}
 use mathlib.Core.Path.{_≡_, refl, sym, ap, _∙_, subst}
-use native.Mathlib.Nat.{zero-mul, suc-mul, mul-zero, mul-comm, mul-assoc, add-mul, mul-le-mul-right, mul-lt-mul-of-pos-right}
+use native.Mathlib.Nat.{zero-mul, suc-mul, mul-zero}
 use native.Mathlib.Omega.{arith}
 use lib.ListN.{length}
 use lib.Seq.{take-all}
@@ -19,7 +19,7 @@ use Rattle.plan.specs.Geometry.{align8, perFull, blockPayload}
 use Rattle.plan.specs.Data.{isNonempty, allDataIn}
 use Rattle.plan.specs.Layout.{columnWidth, columnBlocks, payloadSize, columnSizes, blocksEnd}
 use Rattle.result.specs.Payload.{recordsOf, cells, payloads, columnPayloads}
-use Rattle.result.specs.Fill.{words, blockLinks, columnPayload, payloadBlocks}
+use Rattle.result.specs.Fill.{columnPayload, payloadBlocks}
 use Rattle.result.specs.Ordered.{Ordered}
 use Rattle.result.specs.Due.{duePayload}
 use Rattle.result.specs.Guarantee.{In}
@@ -27,7 +27,7 @@ use Rattle.payload_laws.specs.Lists.{together}
 use Rattle.payload_laws.specs.CountLaws.{Read, column-read}
 use Rattle.payload_laws.specs.CellLaws.{both-true, length-cells}
 use Rattle.payload_laws.specs.GeometryLaws.{Split, split, no-blocks, align-up}
-use Rattle.payload_laws.specs.PayloadLaws.{length-payloads, payloads-joined, Even, payloads-even, payloads-ordered, places, links-places}
+use Rattle.payload_laws.specs.PayloadLaws.{length-payloads, payloads-joined, Even, payloads-even, payloads-ordered}
 
 -- what is needed of a planned column: its channel fits its group, which is no VLSD storage; if it has blocks, its records were read
 pub record Ready (s : List ℕ) (c : Column) : Type 0 where
@@ -134,33 +134,6 @@ module _ (s : List ℕ) (size : ℕ) (c : Column) (w : Ready s c) where
       go true q = some-even q
       go false q = rw (empty-payloads s size c q) Even.none
 
-  -- a single block holds just the records
-  pub column-single : columnBlocks s size c ≡ 1 → columnPayload s size c ≡ payloadSize s c
-  unfolding columnPayload blockPayload payloadSize
-  column-single k = go (isNonempty s c) refl
-    where
-      go : (t : Bool) → isNonempty s c ≡ t
-          → perFull size (columnWidth s c) (c .group .records) * columnWidth s c ≡ columnWidth s c * c .group .records
-      go true q =
-          let x = nonempty-split s size c q in
-          let z : x .full ≡ 0 = omega (arith, x .blocks) in
-          rw (x .single z) (mul-comm (c .group .records) (columnWidth s c))
-      go false q = absurd (omega (arith, empty-blocks s size c q))
-
-  -- "the last block holds what is left": with blocks, all but one are full and the last is not empty
-  pub column-left : isNonempty s c ≡ true → (full : ℕ) × (columnBlocks s size c ≡ suc full)
-      × (full * columnPayload s size c < payloadSize s c) × (payloadSize s c ≤ full * columnPayload s size c + columnPayload s size c)
-  unfolding columnPayload blockPayload payloadSize
-  column-left e =
-      let x = nonempty-split s size c e in
-      let m : ℕ = perFull size (columnWidth s c) (c .group .records) in
-      let a = mul-lt-mul-of-pos-right (x .left) (nonempty-some s c e .0) in
-      let b = mul-le-mul-right (columnWidth s c) (x .enough) in
-      let p = mul-assoc (x .full) m (columnWidth s c) in
-      let q = mul-comm (columnWidth s c) (c .group .records) in
-      let r = add-mul (x .full * m) m (columnWidth s c) in
-      (x .full, x .blocks, omega arith, omega arith)
-
   -- ---- data blocks
 
   -- from a on they follow each other, up to the column's end
@@ -170,8 +143,3 @@ module _ (s : List ℕ) (size : ℕ) (c : Column) (w : Ready s c) where
       let up = align-up (a + (24 * columnBlocks s size c + payloadSize s c)) in
       payloads-ordered kind a (align8 (a + (24 * columnBlocks s size c + payloadSize s c))) (columnPayloads s size c)
       (rw (column-count, column-bytes) up)
-
-  -- the DL's links are their addresses
-  pub column-links : (kind a : ℕ)
-      → blockLinks (columnPayload s size c) (columnBlocks s size c) a ≡ words (places (payloadBlocks kind a (columnPayloads s size c)))
-  column-links kind a = rw (← column-count s size c) (links-places kind a column-even)

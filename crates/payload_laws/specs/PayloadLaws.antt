@@ -1,17 +1,16 @@
--- The payloads of data blocks: joined they are the cells, each but the last is full. So the blocks follow each other and the DL lists them.
+-- The payloads of data blocks: joined they are the cells, each but the last is full. So the blocks follow each other.
 use Prim.Native.Nat.{ℕ, zero, suc, _+_, _*_, _≤_, _<_}
 use mathlib.Core.Bool.{true}
-use mathlib.Core.List.{List, [], _∷_, _++_}
+use mathlib.Core.List.{List, [], _∷_}
 use mathlib.Core.Path.{_≡_, refl, ap, _∙_}
 use native.Mathlib.Nat.{le-refl, zero-mul, suc-mul, mul-comm}
 use native.Mathlib.Omega.{arith}
 use lib.ListN.{length, take, drop, length-append, length-drop}
 use lib.Seq.{take-add, length-take-le}
-use Rattle.base.specs.Field.{le}
 use Rattle.mdf.specs.Group.{samples, invalBytes}
 use Rattle.plan.specs.Channel.{fits, width}
 use Rattle.result.specs.Payload.{cells, payloads}
-use Rattle.result.specs.Fill.{Block, words, blockOf, blockLinks, payloadBlocks}
+use Rattle.result.specs.Fill.{blockOf, payloadBlocks}
 use Rattle.result.specs.Ordered.{Ordered}
 use Rattle.payload_laws.specs.Lists.{Long, long-take, long-drop, together}
 use Rattle.payload_laws.specs.CellLaws.{length-cells, cells-append}
@@ -62,17 +61,3 @@ payloads-ordered kind a e [] h = omega arith
 payloads-ordered kind a e (p ∷ ps) h =
     let j : a + (24 * suc (length ps) + (length p + length (together ps))) ≤ e = rw length-append at h in
     (le-refl a, rw length-framed (payloads-ordered kind (a + (24 + length p)) e ps (omega arith)))
-
--- the addresses of blocks
-unfoldable pub places : List Block → List ℕ
-places [] = []
-places (b ∷ bs) = b .at ∷ places bs
-
--- a DL's links are the addresses of its blocks, since only the last may be shorter
-pub links-places : {q : ℕ} {ps : List (List ℕ)} (kind a : ℕ) → Even q ps
-    → blockLinks q (length ps) a ≡ words (places (payloadBlocks kind a ps))
-unfolding blockLinks words places payloadBlocks
-links-places kind a none = refl
-links-places kind a last = refl
-links-places {q} kind a (next {p} {r} {ps} e v) =
-    rw (e) (ap (λ (x : List ℕ). le 8 a ++ x) (links-places kind (a + (24 + q)) v))

@@ -11,7 +11,7 @@ use native.Mathlib.Omega.{arith}
 use lib.Dec.{eqb, leb}
 use borrow.Author.Tests.{eqb-true, leb-true, leb-false}
 use Rattle.base.specs.Choice.{pick, ifEq}
-use Rattle.base.specs.ChoiceLaws.{eq-yes, eq-no}
+use Rattle.base.specs.ChoiceLaws.{eq-no}
 use Rattle.base.specs.Checked.{refused, fine}
 use Rattle.plan.specs.Geometry.{align8, alignTo}
 use Rattle.plan.specs.Rules.{units, isAmong, unitIn}
@@ -113,10 +113,6 @@ to-least u x m h l z =
 eights-of : (u m : ℕ) → IsUnit u → m % u ≡ 0 → m % 8 ≡ 0
 eights-of u m i z = sym (mod-mod-of-dvd 8 m (dvd-of-mod-eq-zero 8 (i .eights))) ∙ ap (λ (x : ℕ). x % 8) z
 
-eight-is : (x : ℕ) → align8 x % 8 ≡ 0
-unfolding align8
-eight-is x = mul-mod-left ((x + 7) / 8) 8
-
 -- from the next multiple of 8 on it is the same: so fewer bytes than the unit's lie before it
 pub to-again : (u x : ℕ) → IsUnit u → alignTo u (align8 x) ≡ alignTo u x
 to-again u x i =
@@ -128,10 +124,6 @@ to-again u x i =
     omega arith
 
 -- ---- the start of a column's data blocks and of its SD
-pub first-none : (u : ℕ) (z : Sizes) (d : ℕ) → z .blocks ≡ 0 → d ≡ firstAt u z d
-unfolding firstAt
-first-none u z d e = eq-yes _ _ _ _ e refl
-
 pub first-some : (u : ℕ) (z : Sizes) (d : ℕ) → (z .blocks ≡ 0 → ⊥) → alignTo u d ≡ firstAt u z d
 unfolding firstAt
 first-some u z d e = eq-no _ _ _ _ e refl

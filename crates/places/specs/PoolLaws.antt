@@ -1,11 +1,11 @@
 -- Kept stretches stay right: one is put, one more is kept, fewer are kept, other words change; and what is sought among them is right.
-use Prim.Native.Nat.{ℕ, zero, suc, _+_, _-_, _≤_, _<_}
+use Prim.Native.Nat.{ℕ, suc, _+_, _-_, _≤_, _<_}
 use mathlib.Core.List.{List, [], _∷_}
 use mathlib.Core.Path.{_≡_, refl, sym, _∙_}
 use mathlib.Core.Logic.{_⊎_, inl, inr, ⊎-elim}
 use native.Mathlib.Nat.{add-zero}
 use native.Mathlib.Omega.{arith}
-use lib.ListN.{length, getD, set, replicate}
+use lib.ListN.{length, getD, set}
 use lib.Seq.{getD-set-same, getD-set-other, set-out}
 use Rattle.base.specs.Blit.{blit}
 use Rattle.records.specs.FragmentLaws.{lt-or-le, eq-or-ne}
@@ -57,14 +57,6 @@ stands-put s gsOf wsOf p i d g t h r =
     rw (e0, e1, e2, e3, e4, e5) r
 
 module _ {s : List ℕ} {gsOf wsOf : ℕ → List ℕ} where
-  -- no stretches
-  pub pooled-none : {p : List ℕ} → keptIn p ≡ 0 → Pooled s gsOf wsOf p
-  pooled-none e = record { right = λ i h. absurd (omega arith) }
-
-  pub pooled-zeros : (n : ℕ) → Pooled s gsOf wsOf (replicate n 0)
-  pooled-zeros zero = pooled-none refl
-  pooled-zeros (suc n) = pooled-none refl
-
   -- fewer, or as many
   pub pooled-back : {p : List ℕ} (n : ℕ) → Pooled s gsOf wsOf p → n ≤ keptIn p → Pooled s gsOf wsOf (set p 0 n)
   pooled-back {p} n w h = record {

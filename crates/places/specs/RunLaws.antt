@@ -10,7 +10,7 @@ use lib.ListN.{length, getD}
 use Rattle.base.specs.Choice.{pick}
 use Rattle.base.specs.ChoiceLaws.{lt-no, eq-yes, eq-no, eq-first}
 use Rattle.base.specs.Blit.{part}
-use Rattle.base.specs.Checked.{refused, andThen, Verdict, fine}
+use Rattle.base.specs.Checked.{andThen, Verdict, fine}
 use Rattle.base.specs.CheckedLaws.{refused≢ok, then-fine}
 use Rattle.mdf.specs.Chain.{Kind, dt, dv, Fragment}
 use Rattle.mdf.specs.Walk.{idSize}

@@ -29,6 +29,8 @@ use Rattle.placing.specs.StandingLaws.{length-copies, copies-set, align-
 use Rattle.placing.specs.Got.{Copied, AfterGot}
 use Rattle.placing.specs.TurnLaws.{copied-at, copied-refused, after-at}
 use Rattle.placing.specs.HistoryLaws.{past-both}
+use Rattle.placing.specs.Index.{Indexed}
+use Rattle.placing.specs.IndexLaws.{indexed-same}
 use Rattle.placing.specs.Attaching.{attachedIn, attachesAt, onAttaches, Moving, MovedAll}
 
 -- ---- the search: what is left of the attachments gives what all give
@@ -350,3 +352,11 @@ module _ {s w₀ : List ℕ} {a : ℕ} {st₀ : Copying} {w : List ℕ} {at coun
             room = record { few = omega arith; near = omega arith };
             rest = rw y (rw (u .moving .made, followed (d .0)) at (opened e));
           })
+
+-- ---- words past the copies leave the index
+pub indexed-blit : (bs w x : List ℕ) (n j : ℕ) → 2 * n ≤ j → Indexed w n x → Indexed (blit j bs w) n x
+indexed-blit bs w x n j h t = indexed-same w (blit j bs w) x n (λ k l. sym (getD-before bs j (2 * k) w (omega arith))) t
+
+pub indexed-attached : (bs : List ℕ) (k n : ℕ) (t : Copying) {w x y : List ℕ} {r : Copying} → y ≡ blit (4096 + k) bs w → r ≡ record { used = t .used; next = n }
+    → t .used ≤ 2048 → Indexed w (t .used) x → Indexed y (r .used) x
+indexed-attached bs k n t {w} {x} {y} {r} e q h i = rw (e, q) (indexed-blit bs w x (t .used) (4096 + k) (omega arith) i)

@@ -12,7 +12,6 @@ use Rattle.base.specs.Checked.{Checked, ok, refused, andThen}
 use Rattle.base.specs.Blit.{blit}
 use Rattle.mdf.specs.Chain.{Fragment}
 use Rattle.work_words.specs.Words.{fragmentWords}
-use Rattle.mdf.specs.Records.{sizeOf}
 use Rattle.plan.specs.Columns.{Column, Signal, noSignal, signalData, sizeOfSignal, Plan}
 use Rattle.work_words.specs.PlanWords.{masterWord, signalWord, columnWords, columnsWords, fragmentsIn, signalFragments, omissionPairs, laidPlan}
 use Rattle.plan.specs.Copies.{Copies, copyRoots, columnLinks, columnCopies}

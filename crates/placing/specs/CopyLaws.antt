@@ -13,7 +13,8 @@ use lib.ListN.{length, length-append}
 use Rattle.base.specs.Choice.{pick, ifLt, ifEq}
 use Rattle.base.specs.Checked.{Checked, ok, refused, andThen, Verdict}
 use Rattle.base.specs.Field.{leAt}
-use Rattle.blocks.specs.AnswerLaws.{refused≢ok, ok-same}
+use Rattle.blocks.specs.AnswerLaws.{refused≢ok}
+use Rattle.base.specs.CheckedLaws.{ok-same}
 use Rattle.blocks.specs.BlockLaws.{Whole, whole-fits}
 use Rattle.mdf.specs.Block.{kindAt, sizeAt, linksAt, wholeAt}
 use Rattle.mdf.specs.Chain.{isIn}

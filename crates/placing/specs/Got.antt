@@ -12,6 +12,7 @@ use Rattle.placing.specs.declared.copier.Got.the-variants as got
 use Rattle.placing.specs.declared.copier.Begun.{Begun}
 use Rattle.placing.specs.declared.copier.Begun.the-variants as begun
 use Rattle.placing.specs.Standing.{standing, Room, Past}
+use Rattle.placing.specs.Index.{Indexed}
 
 abbrev pub begunOf : Begun → Checked Bool
 begunOf begun.Nothing = ok false
@@ -42,3 +43,8 @@ pub record After (d : ℕ) (s t : Copying) : Type 0 where
 abbrev pub AfterGot : Got → Copying → Type 0
 AfterGot (got.At t) s = After 0 s t
 AfterGot (got.Refused number place) s = Unit {0}
+
+-- the index x has the copies in the words w
+abbrev pub IndexedGot : Got → List ℕ → List ℕ → Type 0
+IndexedGot (got.At t) w x = Indexed w (t .used) x
+IndexedGot (got.Refused number place) w x = Unit {0}

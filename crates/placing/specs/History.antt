@@ -3,19 +3,21 @@ use Prim.{Unit}
 use Prim.Native.Nat.{ℕ, _*_, _≤_}
 use mathlib.Core.List.{List}
 use mathlib.Core.Path.{_≡_}
+use mathlib.Core.Option.{some}
 use mathlib.Core.Bool.{Bool, true, false}
 use Rattle.base.specs.Choice.{pick, ifEq}
 use Rattle.base.specs.Checked.{Checked, ok, refused, andThen}
 use Rattle.base.specs.Blit.{part, blit}
 use Rattle.mdf.specs.Block.{kindAt, linksAt, wholeAt}
 use Rattle.mdf.specs.Chain.{isIn}
-use Rattle.plan.specs.Copies.{isCopied, History, history}
+use Rattle.plan.specs.Copies.{isCopied, copyOf, History, history}
 use Rattle.work_words.specs.CopyWords.{historyAt}
 use Rattle.placing.specs.declared.memo.Copying.{Copying}
 use Rattle.placing.specs.declared.history.Chain.{Chain}
 use Rattle.placing.specs.declared.history.Chain.the-variants.{At, Refused}
-use Rattle.placing.specs.Standing.{standing, Past}
+use Rattle.placing.specs.Standing.{copiesIn, standing, Past}
 use Rattle.placing.specs.Got.{After}
+use Rattle.placing.specs.Index.{Indexed}
 
 -- whether the chain goes on at a, after its blocks so far; a refusal; in the order of `historyFrom`
 unfoldable pub goesOn : List ℕ → ℕ → List ℕ → Checked Bool
@@ -37,6 +39,10 @@ abbrev pub chainOf : Chain → List ℕ → Checked History
 chainOf (At count s) w = ok (history (chainIn w count) (standing w s))
 chainOf (Refused number place) w = refused number place
 
+-- each of them is copied
+pub record ChainCopied (w : List ℕ) (count used : ℕ) : Type 0 where
+  pub each : (a : ℕ) → isIn a (chainIn w count) ≡ true → (t : ℕ) × (copyOf a (copiesIn w used) ≡ some t)
+
 -- past the copies the words w' at exit are those at entry with the chain laid over them
 pub record ChainLaid (count : ℕ) (w w' : List ℕ) (s t : Copying) : Type 0 where
   pub few : count ≤ 2049
@@ -51,3 +57,8 @@ Laid (Refused number place) w w' s = Unit {0}
 pub record Chained (w w' : List ℕ) (s : Copying) (r : Chain) (v : Checked History) : Type 0 where
   pub is : chainOf r w' ≡ v
   pub laid : Laid r w w' s
+
+-- the index x has the copies in the words w
+abbrev pub IndexedChain : Chain → List ℕ → List ℕ → Type 0
+IndexedChain (At count t) w x = Indexed w (t .used) x
+IndexedChain (Refused number place) w x = Unit {0}

@@ -2,11 +2,15 @@
 use Prim.{tt}
 use Prim.Native.Nat.{ℕ, zero, suc, _+_, _*_, _-_, _≤_, _<_}
 use mathlib.Core.List.{List, [], _∷_, _++_}
-use mathlib.Core.Path.{_≡_, refl, sym, ap, _∙_}
+use mathlib.Core.Path.{_≡_, refl, sym, ap, _∙_, subst}
 use mathlib.Core.Bool.{Bool, true, false}
+use mathlib.Core.Option.{Option, none, some}
 use native.Mathlib.Numerals.{sub-one, add-one}
 use native.Mathlib.Omega.{arith}
 use lib.Dec.{eqb}
+use borrow.Author.Tests.{eqb-true, eqb-false}
+use Rattle.blocks.specs.AnswerLaws.{refused≢ok}
+use Rattle.base.specs.CheckedLaws.{ok-same}
 use lib.ListN.{length, take, drop, set, length-drop, length-set}
 use lib.Seq.{drop-set-add, take-suc-set, length-take-le}
 use Rattle.base.specs.Choice.{pick, ifEq}
@@ -16,17 +20,20 @@ use Rattle.base.specs.Blit.{part, blit}
 use Rattle.base.specs.BlitLaws.{blit-append, blit-one}
 use Rattle.mdf.specs.Block.{kindAt, linksAt, firstLink, wholeAt}
 use Rattle.mdf.specs.Chain.{isIn}
-use Rattle.plan.specs.Copies.{copyRoot, isCopied, History, history, historyFrom, historyOf}
+use Rattle.plan.specs.Copies.{copyOf, copyRoot, isCopied, History, history, historyFrom, historyOf}
 use Rattle.work_words.specs.CopyWords.{historyAt}
+use Rattle.copies_laws.specs.MemoLaws.{root-kept}
 use Rattle.placing.specs.declared.memo.Copying.{Copying}
 use Rattle.placing.specs.declared.copier.Got.{Got}
 use Rattle.placing.specs.declared.copier.Got.the-variants as got
+use Rattle.placing.specs.declared.history.Chain.{Chain}
 use Rattle.placing.specs.declared.history.Chain.the-variants.{At, Refused}
+use Rattle.placing.specs.Index.{Indexed}
 use Rattle.placing.specs.Standing.{copiesIn, standing, Room, Past}
 use Rattle.placing.specs.StandingLaws.{copies-set, past-more, past-then, past-same}
 use Rattle.placing.specs.Got.{Copied, After, AfterGot}
 use Rattle.placing.specs.TurnLaws.{copied-at, copied-refused, after-same, after-then, after-at}
-use Rattle.placing.specs.History.{goesOn, onGoes, chainIn, Chained, ChainLaid}
+use Rattle.placing.specs.History.{goesOn, onGoes, chainIn, Chained, ChainLaid, ChainCopied, IndexedChain}
 
 -- ---- whether it goes on, one law for each way of the code
 pub ends-none : (s : List ℕ) (a : ℕ) (chain : List ℕ) → a ≡ 0 → ok false ≡ goesOn s a chain
@@ -83,6 +90,54 @@ history-open (suc turns) s a h p =
     go false false (ok u) false l = refl
     go false false (ok u) true true = refl
     go false false (ok u) true false = refl
+
+-- ---- each block of the chain is copied
+false≢true : _≡_ {A = Bool} false true → ⊥
+false≢true e = let z : _≡_ {A = ℕ} 0 1 = cc in omega arith
+
+some≢none : {t : ℕ} → _≡_ {A = Option ℕ} (some t) none → ⊥
+some≢none e = let z : _≡_ {A = ℕ} 0 1 = cc in omega arith
+
+-- what isn't copied is no block of the chain
+pub unmet : (w : List ℕ) (count used a : ℕ) → ChainCopied w count used → copyOf a (copiesIn w used) ≡ none → false ≡ isIn a (chainIn w count)
+unmet w count used a c e = go (isIn a (chainIn w count)) refl
+  where
+    go : (b : Bool) → isIn a (chainIn w count) ≡ b → false ≡ b
+    go false q = refl
+    go true q = let f = c .each a q in absurd (some≢none (sym (f .1) ∙ e))
+
+pub copied-begin : (w : List ℕ) (used : ℕ) → ChainCopied w 0 used
+unfolding part isIn
+copied-begin w used = record { each = λ a e. absurd (false≢true e) }
+
+in-snoc : {P : Type 0} (a b : ℕ) (l : List ℕ) → isIn a (l ++ (b ∷ [])) ≡ true → (isIn a l ≡ true → P) → (b ≡ a → P) → P
+unfolding isIn
+in-snoc {P} a b [] e f g = go (eqb b a) refl e
+  where
+    go : (t : Bool) → eqb b a ≡ t → pick t true false ≡ true → P
+    go true q h = g (eqb-true b a q)
+    go false q h = absurd (false≢true h)
+in-snoc {P} a b (x ∷ l) e f g = go (eqb x a) e f (λ h k. in-snoc a b l h k g)
+  where
+    go : (t : Bool) → pick t true (isIn a (l ++ (b ∷ []))) ≡ true → (pick t true (isIn a l) ≡ true → P)
+        → (isIn a (l ++ (b ∷ [])) ≡ true → (isIn a l ≡ true → P) → P) → P
+    go true h f rest = f refl
+    go false h f rest = rest h f
+
+-- where the chain goes on there is a block of a copied kind
+going : (s : List ℕ) (a : ℕ) (chain : List ℕ) → goesOn s a chain ≡ ok true → (a ≡ 0 → ⊥) × (isCopied (kindAt s a) ≡ true)
+unfolding goesOn ifEq
+going s a chain e = go (eqb a 0) (isIn a chain) (wholeAt s a) (isCopied (kindAt s a)) (eqb (linksAt s a) 0) refl refl e
+  where
+    go : (z i : Bool) (v : Verdict) (k l : Bool) → eqb a 0 ≡ z → isCopied (kindAt s a) ≡ k
+        → pick z (ok false) (pick i (ok false) (andThen v (λ _. pick k (pick l (refused 17 a) (ok true)) (ok false)))) ≡ ok true
+        → (a ≡ 0 → ⊥) × (isCopied (kindAt s a) ≡ true)
+    go true i v k l x y e = absurd (false≢true (ok-same e))
+    go false true v k l x y e = absurd (false≢true (ok-same e))
+    go false false (refused n p) k l x y e = absurd (refused≢ok e)
+    go false false (ok u) false l x y e = absurd (false≢true (ok-same e))
+    go false false (ok u) true true x y e = absurd (refused≢ok e)
+    go false false (ok u) true false x y e = (eqb-false a 0 x, y)
 
 -- ---- words
 pub part-past : {n : ℕ} {w w' : List ℕ} (i k : ℕ) → Past n w w' → n ≤ i → part i k w' ≡ part i k w
@@ -170,3 +225,26 @@ module _ {s w₀ : List ℕ} {a : ℕ} {st₀ : Copying} {w : List ℕ} {at coun
                 (past-then (past-more _ (omega arith) (u .past)) (d .1)));
             rest = rw (more, kept, z) (rw (sym (d .0)) at (opened e));
           }
+
+pub indexed-chain : {r : Chain} {w x : List ℕ} {n : ℕ} {t : Copying} → IndexedChain r w x → r ≡ At n t → Indexed w (t .used) x
+indexed-chain {r} {w} {x} h e = subst (λ (c : Chain). IndexedChain c w x) e h
+
+-- a block more
+pub copied-next : {s w₀ : List ℕ} {a : ℕ} {st₀ : Copying} {w : List ℕ} {at count turns : ℕ} {st : Copying} → Walked s w₀ a st₀ w at count turns st → 0 < turns
+    → ChainCopied w count (st .used) → goesOn s at (chainIn w count) ≡ ok true → {w' : List ℕ} {t : Copying} {g : Got} → Copied w w' g (copyRoot s at (standing w st))
+    → AfterGot g st → g ≡ got.At t → length w' ≡ length w → ChainCopied (set w' (4352 + count) at) (count + 1) (t .used)
+copied-next {s} {w₀} {a} {st₀} {w} {at} {count} {turns} {st} v h u e {w'} {t} c f q l =
+    let n = after-at f q in
+    let i : 4352 + count < length w' = omega (arith, v .sum, v .words) in
+    let d = copied-at c q in
+    let k = root-kept s at (standing w st) (standing w' t) (sym (d .0)) in
+    let o = going s at (chainIn w count) e in
+    let own = k .1 (o .0) (o .1) in
+    let chain : chainIn w' count ≡ chainIn w count = part-past historyAt count (d .1) (omega (arith, n .most)) in
+    let more : chainIn (set w' (4352 + count) at) (count + 1) ≡ chainIn w count ++ (at ∷ []) = part-snoc 4352 count at w' i ∙ ap (λ (x : List ℕ). x ++ (at ∷ [])) chain in
+    let kept : copiesIn (set w' (4352 + count) at) (t .used) ≡ copiesIn w' (t .used) = copies-set w' 0 (t .used) (4352 + count) at (omega (arith, n .most)) in
+    record {
+      each = λ b z. rw kept (in-snoc b at (chainIn w count) (rw more at z)
+          (λ j. let x = u .each b j in (x .0, k .0 .found b (x .0) (x .1)))
+          (λ j. rw (← j) own));
+    }

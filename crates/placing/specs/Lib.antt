@@ -1,6 +1,8 @@
 pub mod Standing
 pub mod Answer
 pub mod StandingLaws
+pub mod Index
+pub mod IndexLaws
 pub mod Roots
 pub mod Begin
 pub mod Got

@@ -122,7 +122,7 @@ copies-set w p (suc k) i x h =
     rw (getD-set-other w i p x 0 (λ e. omega arith), getD-set-other w i (p + 1) x 0 (λ e. omega arith), copies-set w (p + 2) k i x (omega arith))
 
 -- one copy more stands after the others
-copies-snoc : (w : List ℕ) (p k : ℕ) → copiesFrom w p (k + 1) ≡ copiesFrom w p k ++ (copy (getD w (p + 2 * k) 0) (getD w (p + 2 * k + 1) 0) ∷ [])
+pub copies-snoc : (w : List ℕ) (p k : ℕ) → copiesFrom w p (k + 1) ≡ copiesFrom w p k ++ (copy (getD w (p + 2 * k) 0) (getD w (p + 2 * k + 1) 0) ∷ [])
 unfolding copiesFrom
 copies-snoc w p zero = simp add-zero
 copies-snoc w p (suc k) =

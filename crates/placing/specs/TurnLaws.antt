@@ -21,7 +21,8 @@ use Rattle.placing.specs.declared.copier.Begun.{Begun}
 use Rattle.placing.specs.declared.copier.Begun.the-variants as begun
 use Rattle.placing.specs.Standing.{copiesIn, standing, Room, Past}
 use Rattle.placing.specs.StandingLaws.{length-copies, past-more, past-then, past-same}
-use Rattle.placing.specs.Got.{begunOf, Copied, After, AfterGot}
+use Rattle.placing.specs.Got.{begunOf, Copied, After, AfterGot, IndexedGot}
+use Rattle.placing.specs.Index.{Indexed}
 use Rattle.placing.specs.Begin.{beginAt, throughLinks, onBegun}
 use Rattle.placing.specs.CopyLaws.{copy-begun, begun-going, Grown, copy-grows}
 
@@ -53,6 +54,9 @@ copied-at {w} {w'} {r} {v} c e = let d = subst (λ (x : Got). Copied w w' x v) e
 
 pub copied-refused : {w w' : List ℕ} {r : Got} {v : Checked Copies} {n p : ℕ} → Copied w w' r v → r ≡ got.Refused n p → refused n p ≡ v
 copied-refused {w} {w'} {r} {v} c e = subst (λ (x : Got). Copied w w' x v) e c .is
+
+pub indexed-at : {r : Got} {w x : List ℕ} {t : Copying} → IndexedGot r w x → r ≡ got.At t → Indexed w (t .used) x
+indexed-at {r} {w} {x} h e = subst (λ (g : Got). IndexedGot g w x) e h
 
 after-grown : (d : ℕ) (w w' : List ℕ) (s t : Copying) → Room (s .used) (s .next) → Grown d (standing w s) (standing w' t) → After d s t
 after-grown d w w' s t h g =

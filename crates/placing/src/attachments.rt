@@ -22,6 +22,7 @@ ghost use Rattle.plan.specs.Copies.{attachmentIn, attachmentsOf};
 ghost use Rattle.placing.specs.Standing.{standing, Room};
 ghost use Rattle.placing.specs.Got.{begunOf};
 ghost use Rattle.placing.specs.Attaching.{attachedIn, attachesAt, Moves};
+ghost use Rattle.placing.specs.Index.{Indexed};
 
 // The number of attachments and what is placed, or document 01's refusal.
 pub enum Moved {
@@ -142,8 +143,15 @@ fn attach(memo: &mut [u64], a: u64, size: u64, count: u64, own: u64, state: Copy
 }
 
 // The chain from a on.
-pub(crate) fn attachments(image: &[u8], memo: &mut [u64], a: u64, state: Copying) -> Moved
-    requires { ⌜ (8192 ≤ length (now memo)) × (length (now image) ≤ 4294967296) × (state .used ≤ 2048) × (state .next ≤ 576460752303423488) ⌝ }
+pub(crate) fn attachments(
+    image: &[u8],
+    memo: &mut [u64],
+    index: &mut [u16; 4096],
+    a: u64,
+    state: Copying,
+) -> Moved
+    requires { ⌜ (8192 ≤ length (now memo)) × (length (now image) ≤ 4294967296) × (state .used ≤ 2048) × (state .next ≤ 576460752303423488)
+        × Indexed (now memo) (state .used) (now index) ⌝ }
     ensures { λ r. ⌜ Moves (now (memo .entry)) (now (memo .exit)) state r
         (attachmentsOf (now (image .entry)) a (standing (now (memo .entry)) state)) ⌝ }
 {
@@ -162,7 +170,7 @@ pub(crate) fn attachments(image: &[u8], memo: &mut [u64], a: u64, state: Copying
             }
             Begun::Links => {}
         }
-        let got = follow(image, memo, links_at(image, at) - 1, at + 32, st);
+        let got = follow(image, memo, index, links_at(image, at) - 1, at + 32, st);
         match got {
             Got::At(t) => {
                 let size = size_at(image, at);

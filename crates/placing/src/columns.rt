@@ -8,13 +8,14 @@ use channels::width_of;
 use planning::sizes::signal_size;
 ghost use mathlib.Core.Path.{_≡_};
 ghost use mathlib.Core.List.{[], _∷_};
-ghost use Prim.Native.Nat.{_+_, _*_, _≤_, _<_};
+ghost use Prim.Native.Nat.{_+_, _≤_};
 ghost use lib.ListN.{length, getD};
 ghost use Rattle.base.specs.Blit.{blit};
 ghost use Rattle.plan.specs.Layout.{dlSize};
 ghost use Rattle.plan.specs.Geometry.{alignTo};
 ghost use Rattle.placing.specs.Standing.{standing, Room};
-ghost use Rattle.placing.specs.Got.{Copied, AfterGot};
+ghost use Rattle.placing.specs.Got.{Copied, AfterGot, IndexedGot};
+ghost use Rattle.placing.specs.Index.{Indexed};
 ghost use Rattle.placing.specs.InWords.{blocksAt, payloadAt, cgBytes, structureAt, firstIn, blocksEndAt, sdPast, signalAt, signalEndAt};
 ghost use Rattle.placing.specs.InWords.{structuresIn, dataIn, placedIn, copiesOf, AllWithin, AllFew};
 
@@ -193,12 +194,14 @@ pub(crate) fn copy_columns(
     columns: &[u64],
     n: u64,
     memo: &mut [u64],
+    index: &mut [u16; 4096],
     state: Copying,
 ) -> Got
-    requires { ⌜ (n ≤ 512) × (8192 ≤ length (now memo)) × Room (state .used) (state .next) ⌝ }
+    requires { ⌜ (n ≤ 512) × (8192 ≤ length (now memo)) × Room (state .used) (state .next) × Indexed (now memo) (state .used) (now index) ⌝ }
     ensures { λ r. ⌜ Copied (now (memo .entry)) (now (memo .exit)) r
         (copiesOf (now (image .entry)) (now (columns .entry)) 0 n (standing (now (memo .entry)) state)) ⌝ }
     ensures after { λ r. ⌜ AfterGot r state ⌝ }
+    ensures indexed { λ r. ⌜ IndexedGot r (now (memo .exit)) (now (index .exit)) ⌝ }
 {
     let mut p: u64 = 0;
     let mut left = n;
@@ -207,7 +210,7 @@ pub(crate) fn copy_columns(
         let dg = word(columns, p + 2);
         let cg = word(columns, p + 1);
         let cn = word(columns, p);
-        let got = column_roots(image, memo, dg, cg, cn, st);
+        let got = column_roots(image, memo, index, dg, cg, cn, st);
         match got {
             Got::At(t) => {
                 st = t;

@@ -1,7 +1,7 @@
 // The metadata copier: it calls itself on each link, the depth left falls from 65, and copied blocks come from the words.
 use crate::memo::Copying;
 use crate::memo::Found;
-use crate::memo::find;
+use crate::memo::find_in;
 use crate::memo::is_in;
 use crate::memo::place;
 use blocks::block::MD;
@@ -13,13 +13,14 @@ use blocks::block::whole_at;
 use fields::Check;
 use fields::u64_at;
 ghost use mathlib.Core.Path.{_≡_};
-ghost use Prim.Native.Nat.{_+_, _*_, _-_, _≤_, _<_};
+ghost use Prim.Native.Nat.{_+_, _*_, _-_, _≤_};
 ghost use lib.ListN.{length, drop};
 ghost use Rattle.mdf.specs.Block.{linksAt};
 ghost use Rattle.plan.specs.Copies.{isCopied, lostLinks, copyLinks, copyAt, copyRoot};
 ghost use Rattle.placing.specs.Standing.{copiesIn, standing, Room};
 ghost use Rattle.placing.specs.Begin.{beginAt};
-ghost use Rattle.placing.specs.Got.{begunOf, Copied, AfterGot};
+ghost use Rattle.placing.specs.Got.{begunOf, Copied, AfterGot, IndexedGot};
+ghost use Rattle.placing.specs.Index.{Indexed};
 
 pub const CC: u64 = 1128473379;
 
@@ -85,14 +86,22 @@ pub fn links_left(image: &[u8], a: u64) -> u64
 
 // The checks at a link to a, with the blocks on the way down from index left on, the nearest first: nothing for 0 and for a block that is copied,
 // 16, then the block's own (4, 8, 9, 4), nothing for another kind, 19.
-fn begin(image: &[u8], memo: &[u64], way: &[u64], a: u64, left: u64, used: u64) -> Begun
-    requires { ⌜ (used ≤ 2048) × (2 * used ≤ length (now memo)) × (length (now way) ≡ 65) × (left ≤ 65) ⌝ }
+fn begin(
+    image: &[u8],
+    memo: &[u64],
+    index: &[u16; 4096],
+    way: &[u64],
+    a: u64,
+    left: u64,
+    used: u64,
+) -> Begun
+    requires { ⌜ (used ≤ 2048) × (2 * used ≤ length (now memo)) × (length (now way) ≡ 65) × (left ≤ 65) × Indexed (now memo) used (now index) ⌝ }
     ensures { λ r. ⌜ begunOf r ≡ beginAt left (now (image .entry)) (drop left (now (way .entry))) a (copiesIn (now (memo .entry)) used) ⌝ }
 {
     if a == 0 {
         return Begun::Nothing;
     }
-    let found = find(memo, used, a);
+    let found = find_in(memo, index, used, a);
     if let Found::At(_) = found {
         return Begun::Nothing;
     }
@@ -128,17 +137,20 @@ fn begin(image: &[u8], memo: &[u64], way: &[u64], a: u64, left: u64, used: u64) 
 pub(crate) fn copy(
     image: &[u8],
     memo: &mut [u64],
+    index: &mut [u16; 4096],
     way: [u64; 65],
     a: u64,
     left: u64,
     state: Copying,
 ) -> Got
-    requires { ⌜ (8192 ≤ length (now memo)) × (left ≤ 65) × (state .used + 65 ≤ 2048 + left) × Room (state .used) (state .next) ⌝ }
-    ensures { λ r. ⌜ Copied (now (memo .entry)) (now (memo .exit)) r
+    requires { ⌜ (8192 ≤ length (now memo)) × (left ≤ 65) × (state .used + 65 ≤ 2048 + left) × Room (state .used) (state .next)
+        × Indexed (now memo) (state .used) (now index) ⌝ }
+    ensures copied { λ r. ⌜ Copied (now (memo .entry)) (now (memo .exit)) r
         (copyAt left (now (image .entry)) (drop left way) a (standing (now (memo .entry)) state)) ⌝ }
+    ensures indexed { λ r. ⌜ IndexedGot r (now (memo .exit)) (now (index .exit)) ⌝ }
 {
     let used = state.used;
-    let begun = begin(image, memo, &way, a, left, used);
+    let begun = begin(image, memo, index, &way, a, left, used);
     match begun {
         Begun::Nothing => {
             return Got::At(state);
@@ -155,7 +167,7 @@ pub(crate) fn copy(
     let mut st = state;
     while 0 < links {
         let link = u64_at(image, p);
-        let got = copy(image, memo, down, link, left - 1, st);
+        let got = copy(image, memo, index, down, link, left - 1, st);
         match got {
             Got::At(t) => {
                 st = t;
@@ -168,31 +180,47 @@ pub(crate) fn copy(
         links -= 1;
     }
     let size = size_at(image, a);
-    Got::At(place(memo, a, size, st))
+    Got::At(place(memo, index, a, size, st))
 }
 
 // The block at a, from outside of any copied block.
-pub(crate) fn copy_root(image: &[u8], memo: &mut [u64], a: u64, state: Copying) -> Got
-    requires { ⌜ (8192 ≤ length (now memo)) × Room (state .used) (state .next) ⌝ }
+pub(crate) fn copy_root(
+    image: &[u8],
+    memo: &mut [u64],
+    index: &mut [u16; 4096],
+    a: u64,
+    state: Copying,
+) -> Got
+    requires { ⌜ (8192 ≤ length (now memo)) × Room (state .used) (state .next) × Indexed (now memo) (state .used) (now index) ⌝ }
     ensures { λ r. ⌜ Copied (now (memo .entry)) (now (memo .exit)) r (copyRoot (now (image .entry)) a (standing (now (memo .entry)) state)) ⌝ }
     ensures after { λ r. ⌜ AfterGot r state ⌝ }
+    ensures indexed { λ r. ⌜ IndexedGot r (now (memo .exit)) (now (index .exit)) ⌝ }
 {
-    copy(image, memo, [0u64; 65], a, 65, state)
+    copy(image, memo, index, [0u64; 65], a, 65, state)
 }
 
 // The links that stand at p, so many of them, from outside of any copied block.
-pub(crate) fn follow(image: &[u8], memo: &mut [u64], count: u64, at: u64, state: Copying) -> Got
-    requires { ⌜ (8192 ≤ length (now memo)) × Room (state .used) (state .next) × (at + 8 * count ≤ length (now image) + 8) ⌝ }
+pub(crate) fn follow(
+    image: &[u8],
+    memo: &mut [u64],
+    index: &mut [u16; 4096],
+    count: u64,
+    at: u64,
+    state: Copying,
+) -> Got
+    requires { ⌜ (8192 ≤ length (now memo)) × Room (state .used) (state .next) × (at + 8 * count ≤ length (now image) + 8)
+        × Indexed (now memo) (state .used) (now index) ⌝ }
     ensures { λ r. ⌜ Copied (now (memo .entry)) (now (memo .exit)) r
         (copyLinks (copyRoot (now (image .entry))) (now (image .entry)) count at (standing (now (memo .entry)) state)) ⌝ }
     ensures after { λ r. ⌜ AfterGot r state ⌝ }
+    ensures indexed { λ r. ⌜ IndexedGot r (now (memo .exit)) (now (index .exit)) ⌝ }
 {
     let mut links = count;
     let mut p = at;
     let mut st = state;
     while 0 < links {
         let link = u64_at(image, p);
-        let got = copy_root(image, memo, link, st);
+        let got = copy_root(image, memo, index, link, st);
         match got {
             Got::At(t) => {
                 st = t;

@@ -12,11 +12,13 @@ use crate::memo::Copying;
 use crate::memo::aligned;
 use blocks::block::link_at;
 ghost use mathlib.Core.Path.{_≡_};
-ghost use Prim.Native.Nat.{_+_, _≤_};
+ghost use Prim.Native.Nat.{_≤_};
 ghost use lib.ListN.{length};
 ghost use Rattle.plan.specs.Layout.{mdSize};
 ghost use Rattle.placing.specs.InWords.{AllWithin};
 ghost use Rattle.placing.specs.Laying.{Begins, Rests, LaysOut};
+ghost use Rattle.placing.specs.History.{IndexedChain};
+ghost use Rattle.placing.specs.Index.{Indexed};
 
 // What is known of a layout besides its words: how many copies there are after the history chain, the blocks of that chain, the places of
 // the new MD and FH, how many copies there are after the columns' metadata and in all, the attachments, the ends of metadata and file.
@@ -60,19 +62,21 @@ fn md_bytes(n: u64) -> u64
 }
 
 // The HD comment, then the history chain.
-fn first_copies(image: &[u8], memo: &mut [u64]) -> Chain
-    requires { ⌜ 8192 ≤ length (now memo) ⌝ }
-    ensures { λ r. ⌜ Begins (now (image .entry)) (now (memo .entry)) (now (memo .exit)) r ⌝ }
+fn first_copies(image: &[u8], memo: &mut [u64], index: &mut [u16; 4096]) -> Chain
+    requires { ⌜ (8192 ≤ length (now memo)) × Indexed (now memo) 0 (now index) ⌝ }
+    ensures begins { λ r. ⌜ Begins (now (image .entry)) (now (memo .entry)) (now (memo .exit)) r ⌝ }
+    ensures indexed { λ r. ⌜ IndexedChain r (now (memo .exit)) (now (index .exit)) ⌝ }
 {
     let got = copy_root(
         image,
         memo,
+        index,
         link_at(image, 64, 5),
         Copying { used: 0, next: 168 },
     );
     match got {
         Got::At(t) => {
-            return history_chain(image, memo, link_at(image, 64, 1), t);
+            return history_chain(image, memo, index, link_at(image, 64, 1), t);
         }
         Got::Refused { number, place } => {
             return Chain::Refused { number, place };
@@ -89,10 +93,12 @@ fn place_rest(
     columns: &[u64],
     n: u64,
     memo: &mut [u64],
+    index: &mut [u16; 4096],
     state: Copying,
 ) -> Rest
     requires { ⌜ (n ≤ 512) × (8192 ≤ length (now memo)) × (length (now image) ≤ 4294967296) × (state .used ≤ 2048)
-        × (state .next ≤ 562949953421312) × AllWithin (now image) size (now columns) (now fragments) 0 n × (8 ≤ unit) × (unit ≤ 4096) ⌝ }
+        × (state .next ≤ 562949953421312) × AllWithin (now image) size (now columns) (now fragments) 0 n × (8 ≤ unit) × (unit ≤ 4096)
+        × Indexed (now memo) (state .used) (now index) ⌝ }
     ensures { λ r. ⌜ Rests unit (now (image .entry)) size (now (columns .entry)) (now (fragments .entry)) n (now (memo .entry)) (now (memo .exit)) state r ⌝ }
 {
     let a = aligned(state.next);
@@ -101,6 +107,7 @@ fn place_rest(
     let moved = attachments(
         image,
         memo,
+        index,
         link_at(image, 64, 3),
         Copying {
             used: state.used,
@@ -132,7 +139,8 @@ pub(crate) fn lay_out(
         × AllWithin (now image) size (now columns) (now fragments) 0 n × (8 ≤ unit) × (unit ≤ 4096) ⌝ }
     ensures { λ r. ⌜ LaysOut unit (now (image .entry)) size text (now (columns .entry)) (now (fragments .entry)) n (now (memo .entry)) (now (memo .exit)) r ⌝ }
 {
-    let begun = first_copies(image, memo);
+    let mut index = [0u16; 4096];
+    let begun = first_copies(image, memo, &mut index);
     match begun {
         Chain::At { count, state } => {
             let md = aligned(state.next);
@@ -142,6 +150,7 @@ pub(crate) fn lay_out(
                 columns,
                 n,
                 memo,
+                &mut index,
                 Copying {
                     used: state.used,
                     next: fh + 56,
@@ -149,7 +158,17 @@ pub(crate) fn lay_out(
             );
             match got {
                 Got::At(t) => {
-                    let rest = place_rest(image, unit, size, fragments, columns, n, memo, t);
+                    let rest = place_rest(
+                        image,
+                        unit,
+                        size,
+                        fragments,
+                        columns,
+                        n,
+                        memo,
+                        &mut index,
+                        t,
+                    );
                     match rest {
                         Rest::At {
                             count: attached,

@@ -1,13 +1,15 @@
 // Copies kept in lent words, two words each: where a block stood and where it is placed.
 ghost use mathlib.Core.Path.{_≡_};
-ghost use Prim.Native.Nat.{_+_, _*_, _-_, _≤_, _<_};
-ghost use lib.ListN.{length};
+ghost use Prim.Native.Nat.{_+_, _*_, _-_, _%_, _≤_, _<_};
+ghost use lib.ListN.{length, getD, set};
 ghost use Rattle.base.specs.Blit.{part};
+ghost use Rattle.base.specs.Choice.{ifEq};
 ghost use Rattle.mdf.specs.Chain.{isIn};
 ghost use Rattle.plan.specs.Geometry.{align8};
 ghost use Rattle.plan.specs.Copies.{copyOf, withCopy};
 ghost use Rattle.placing.specs.Standing.{copiesIn, standing, Room, Past};
 ghost use Rattle.placing.specs.Answer.{foundOf, linkOf};
+ghost use Rattle.placing.specs.Index.{Indexed, Indexes};
 
 // How many copies stand in the words, and the end of what is placed.
 pub struct Copying {
@@ -22,7 +24,7 @@ pub enum Found {
 }
 
 // The copy of a among the first copies of the words.
-pub(crate) fn find(memo: &[u64], used: u64, a: u64) -> Found
+fn find(memo: &[u64], used: u64, a: u64) -> Found
     requires { ⌜ 2 * used ≤ length (now memo) ⌝ }
     ensures { λ r. ⌜ foundOf r ≡ copyOf a (copiesIn (now (memo .entry)) used) ⌝ }
 {
@@ -36,6 +38,59 @@ pub(crate) fn find(memo: &[u64], used: u64, a: u64) -> Found
         left -= 1;
     }
     Found::Nothing
+}
+
+// Copy number i, counted from 1 on, if it is one of a, else hit.
+fn met(memo: &[u64], i: usize, hit: usize, a: u64) -> usize
+    requires { ⌜ (0 < i) × (2 * i ≤ length (now memo)) ⌝ }
+    ensures { λ r. ⌜ r ≡ ifEq (getD (now (memo .entry)) (2 * (i - 1)) 0) a i hit ⌝ }
+{
+    if memo[2 * (i - 1)] == a {
+        return i;
+    }
+    hit
+}
+
+fn wide(x: u16) -> usize
+    ensures { λ r. ⌜ r ≡ x ⌝ }
+{
+    x as usize
+}
+
+// The copy of a, by the index: the last that is met in its chain.
+pub(crate) fn find_in(memo: &[u64], index: &[u16; 4096], used: u64, a: u64) -> Found
+    requires { ⌜ (used ≤ 2048) × (2 * used ≤ length (now memo)) ⌝ }
+    ensures { λ r. ⌜ (Indexed (now (memo .entry)) used (now (index .entry)) → foundOf r ≡ copyOf a (copiesIn (now (memo .entry)) used)) ⌝ }
+{
+    let most = used as usize;
+    let mut i = wide(index[2048 + (a % 2039) as usize]);
+    let mut hit: usize = 0;
+    while 0 < i {
+        if most < i {
+            return Found::Nothing;
+        }
+        hit = met(memo, i, hit, a);
+        let older = wide(index[i - 1]);
+        if i <= older {
+            return Found::Nothing;
+        }
+        i = older;
+    }
+    if hit == 0 {
+        return Found::Nothing;
+    }
+    Found::At(memo[2 * hit - 1])
+}
+
+// Copy number `used`, of the block at a, becomes the newest of its chain.
+fn enter(index: &mut [u16; 4096], used: u64, a: u64)
+    requires { ⌜ used < 2048 ⌝ }
+    ensures { λ _. ⌜ now (index .exit)
+        ≡ set (set (now (index .entry)) used (getD (now (index .entry)) (2048 + a % 2039) 0)) (2048 + a % 2039) (used + 1) ⌝ }
+{
+    let head = 2048 + (a % 2039) as usize;
+    index[used as usize] = index[head];
+    index[head] = (used + 1) as u16;
 }
 
 // The place of the copy of a, 0 where it isn't copied.
@@ -59,6 +114,42 @@ pub fn new_link(memo: &[u64], used: u64, a: u64) -> u64
         return link_in(memo, n, a);
     }
     link_in(memo, used, a)
+}
+
+// The index of the first copies of the words, as many as it has room for.
+pub fn index_copies(memo: &[u64], used: u64) -> [u16; 4096]
+    ensures { λ r. ⌜ Indexes (now (memo .entry)) used r ⌝ }
+{
+    let mut index = [0u16; 4096];
+    if 2048 < used {
+        return index;
+    }
+    if ((memo.len() / 2) as u64) < used {
+        return index;
+    }
+    let mut n: u64 = 0;
+    while n < used {
+        enter(&mut index, n, memo[(2 * n) as usize]);
+        n += 1;
+    }
+    index
+}
+
+// The same link by the index of these copies.
+pub fn link_by(memo: &[u64], index: &[u16; 4096], used: u64, a: u64) -> u64
+    ensures { λ r. ⌜ (Indexes (now (memo .entry)) used (now (index .entry)) → r ≡ linkOf (copyOf a (copiesIn (now (memo .entry)) used))) ⌝ }
+{
+    if 2048 < used {
+        return new_link(memo, used, a);
+    }
+    if ((memo.len() / 2) as u64) < used {
+        return new_link(memo, used, a);
+    }
+    let found = find_in(memo, index, used, a);
+    match found {
+        Found::At(to) => to,
+        Found::Nothing => 0,
+    }
 }
 
 // Whether a is one of the words from an index to an end.
@@ -85,16 +176,25 @@ pub(crate) fn aligned(x: u64) -> u64
 }
 
 // One copy more, of the block of so many bytes at a, after what is placed.
-pub(crate) fn place(memo: &mut [u64], a: u64, size: u64, state: Copying) -> Copying
-    requires { ⌜ (state .used < 2048) × (4096 ≤ length (now memo)) × Room (state .used) (state .next) × (size ≤ 268435456) ⌝ }
+pub(crate) fn place(
+    memo: &mut [u64],
+    index: &mut [u16; 4096],
+    a: u64,
+    size: u64,
+    state: Copying,
+) -> Copying
+    requires { ⌜ (state .used < 2048) × (4096 ≤ length (now memo)) × Room (state .used) (state .next) × (size ≤ 268435456)
+        × Indexed (now memo) (state .used) (now index) ⌝ }
     ensures copied { λ r. ⌜ standing (now (memo .exit)) r ≡ withCopy a size (standing (now (memo .entry)) state) ⌝ }
     ensures past { λ r. ⌜ Past (2 * (r .used)) (now (memo .entry)) (now (memo .exit)) ⌝ }
+    ensures indexed { λ r. ⌜ Indexed (now (memo .exit)) (r .used) (now (index .exit)) ⌝ }
 {
     let used = state.used;
     let at = (used * 2) as usize;
     let to = aligned(state.next);
     memo[at] = a;
     memo[at + 1] = to;
+    enter(index, used, a);
     Copying {
         used: used + 1,
         next: to + size,

@@ -4,11 +4,12 @@ use crate::copier::copy_root;
 use crate::memo::Copying;
 use blocks::block::link_at;
 ghost use mathlib.Core.Path.{_≡_};
-ghost use Prim.Native.Nat.{_≤_, _<_};
+ghost use Prim.Native.Nat.{_≤_};
 ghost use lib.ListN.{length, getD};
 ghost use Rattle.plan.specs.Copies.{copyRoots};
 ghost use Rattle.placing.specs.Standing.{standing, Room};
-ghost use Rattle.placing.specs.Got.{Copied, AfterGot};
+ghost use Rattle.placing.specs.Got.{Copied, AfterGot, IndexedGot};
+ghost use Rattle.placing.specs.Index.{Indexed};
 ghost use Rattle.placing.specs.Roots.{roots};
 
 // Link number i of the nine: CG links 3, 4, 6, CN links 3, 4, 5, 7, 8, the DG comment.
@@ -49,21 +50,23 @@ pub fn root(image: &[u8], dg: u64, cg: u64, cn: u64, i: u64) -> u64
 pub(crate) fn column_roots(
     image: &[u8],
     memo: &mut [u64],
+    index: &mut [u16; 4096],
     dg: u64,
     cg: u64,
     cn: u64,
     state: Copying,
 ) -> Got
-    requires { ⌜ (8192 ≤ length (now memo)) × Room (state .used) (state .next) ⌝ }
+    requires { ⌜ (8192 ≤ length (now memo)) × Room (state .used) (state .next) × Indexed (now memo) (state .used) (now index) ⌝ }
     ensures { λ r. ⌜ Copied (now (memo .entry)) (now (memo .exit)) r
         (copyRoots (now (image .entry)) (roots (now (image .entry)) dg cg cn) (standing (now (memo .entry)) state)) ⌝ }
     ensures after { λ r. ⌜ AfterGot r state ⌝ }
+    ensures indexed { λ r. ⌜ IndexedGot r (now (memo .exit)) (now (index .exit)) ⌝ }
 {
     let mut i: u64 = 0;
     let mut st = state;
     while i < 9 {
         let link = root(image, dg, cg, cn, i);
-        let got = copy_root(image, memo, link, st);
+        let got = copy_root(image, memo, index, link, st);
         match got {
             Got::At(t) => {
                 st = t;

@@ -84,6 +84,7 @@ signalEnd (some n) d = align8 (d + (24 + n))
 abbrev pub placesAt : ℕ → ℕ → ℕ → Sizes → Places
 placesAt u a d z = record { dg = a; first = firstAt u z d; sd = signalAt u (z .signal) (blocksEnd z (firstAt u z d)) }
 
+-- bookkeeping: the end of its data blocks and SD
 abbrev pub pastData : ℕ → Sizes → ℕ → ℕ
 pastData u z d = signalEnd (z .signal) (signalAt u (z .signal) (blocksEnd z (firstAt u z d)))
 
@@ -126,6 +127,7 @@ abbrev pub signalSizes : Signal → Option ℕ
 signalSizes noSignal = none
 signalSizes (signalData fs) = some (sizeOf fs)
 
+-- bookkeeping: the sizes of a column, of all columns
 abbrev pub columnSizes : List ℕ → ℕ → Column → Sizes
 columnSizes s size c =
     record {
@@ -139,6 +141,7 @@ unfoldable pub sizesOf : List ℕ → ℕ → List Column → List Sizes
 sizesOf s size [] = []
 sizesOf s size (c ∷ cs) = columnSizes s size c ∷ sizesOf s size cs
 
+-- bookkeeping: a column with its places, all columns with theirs
 abbrev pub placedAt : Column → Places → Placed
 placedAt c p = record { column = c; dg = p .dg; first = p .first; sd = p .sd }
 

@@ -11,7 +11,6 @@ use Rattle.mdf.specs.Group.{isStorage}
 use Rattle.plan.specs.Rules.{Rules}
 use Rattle.plan.specs.Columns.{SrcGroup, Column, Plan, noSignal, onPlanned, Decision, omitted, kept, TimeOf, time, untimed, differs, masterOf, groupAt, remoteLink, onGroup, onMaster, remoteTime, timeOf, timeColumn, withColumn, withOmission, withTime, decide, withDecision, ownMaster, planChannels, planTimed, planGroup, planGroups, plan, sizeOfSignal}
 use Rattle.work_words.specs.PlanWords.{columnWords, columnsWords, signalFragments, laidPlan}
-use Rattle.plan.specs.Data.{isNonempty, anyNonempty, signalsIn, blocksIn}
 use Rattle.planning.specs.Bare.{bare, bares, bareColumn, bareColumns, barePlan, bareChecked, bareGroup, bareTime}
 
 group-bare : (a : ℕ) (gs : List SrcGroup) → groupAt a (bares gs) ≡ bareGroup (groupAt a gs)
@@ -145,18 +144,3 @@ pub signals-bare : (cs : List Column) → signalFragments (bareColumns cs) ≡ s
 unfolding signalFragments bareColumns
 signals-bare [] = refl
 signals-bare (c ∷ cs) = rw (signals-bare cs)
-
-pub nonempty-bare : (s : List ℕ) (d : ℕ) (cs : List Column) → anyNonempty s d (bareColumns cs) ≡ anyNonempty s d cs
-unfolding anyNonempty isNonempty bareColumns
-nonempty-bare s d [] = refl
-nonempty-bare s d (c ∷ cs) = rw (nonempty-bare s d cs)
-
-pub signalsIn-bare : (s : List ℕ) (d : ℕ) (cs : List Column) → signalsIn s d (bareColumns cs) ≡ signalsIn s d cs
-unfolding signalsIn bareColumns
-signalsIn-bare s d [] = refl
-signalsIn-bare s d (c ∷ cs) = rw (signalsIn-bare s d cs)
-
-pub blocks-bare : (s : List ℕ) (size : ℕ) (cs : List Column) → blocksIn s size (bareColumns cs) ≡ blocksIn s size cs
-unfolding blocksIn bareColumns
-blocks-bare s size [] = refl
-blocks-bare s size (c ∷ cs) = rw (blocks-bare s size cs)

@@ -1,5 +1,5 @@
 -- The groups in words are those of the recording, bare.
-use Prim.Native.Nat.{ℕ, suc, _+_, _-_, _≤_, _<_}
+use Prim.Native.Nat.{ℕ, suc, _+_, _≤_, _<_}
 use mathlib.Core.List.{List, [], _∷_, _++_}
 use mathlib.Core.Path.{_≡_, refl, ap}
 use native.Mathlib.Numerals.{add-one}
@@ -13,11 +13,6 @@ use Rattle.plan.specs.Columns.{SrcGroup, withCounts, srcGroups}
 use Rattle.plan_laws.specs.WalkLaws.{Open}
 use Rattle.planning.specs.Items.{groupOf, itemsFrom, flat, groupsIn}
 use Rattle.planning.specs.Bare.{bares}
-
-append-bares : (gs hs : List SrcGroup) → bares (gs ++ hs) ≡ bares gs ++ bares hs
-unfolding bares
-append-bares [] hs = refl
-append-bares (g ∷ gs) hs = rw (append-bares gs hs)
 
 -- the counts stand in the words
 pub record Counts (w ns : List ℕ) : Type 0 where

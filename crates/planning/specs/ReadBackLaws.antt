@@ -4,8 +4,7 @@ use mathlib.Core.List.{List, [], _∷_}
 use mathlib.Core.Path.{_≡_, refl, ap, _∙_}
 use native.Mathlib.Nat.{add-zero}
 use native.Mathlib.Omega.{arith}
-use lib.ListN.{length, getD, set}
-use lib.Seq.{getD-set-other}
+use lib.ListN.{length, getD}
 use Rattle.base.specs.Blit.{blit}
 use Rattle.base.specs.BlitLaws.{length-blit}
 use Rattle.mdf.specs.Chain.{Fragment}
@@ -18,11 +17,6 @@ use Rattle.planning.specs.Items.{item, itemsFrom}
 use Rattle.planning.specs.ItemLaws.{item-cn, item-cg, item-dg}
 use Rattle.planning.specs.TimeWordLaws.{blit-before, blit-among}
 use Rattle.planning.specs.FlatLaws.{Counts}
-
-blit-after : (bs : List ℕ) (j i : ℕ) (l : List ℕ) → j + length bs ≤ i → getD (blit j bs l) i 0 ≡ getD l i 0
-unfolding blit
-blit-after [] j i l h = refl
-blit-after (b ∷ bs) j i l h = blit-after bs (suc j) i (set l j b) (omega arith) ∙ getD-set-other l j i b 0 (λ e. omega arith)
 
 length-addresses : (is : List Item) → length (addressWords is) ≡ length is
 unfolding addressWords

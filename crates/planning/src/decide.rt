@@ -13,8 +13,6 @@ use choices::treatment_of;
 use fields::Check;
 ghost use mathlib.Core.Path.{_≡_};
 ghost use Rattle.mdf.specs.Chain.{Chain.signal, limits, chain};
-ghost use Rattle.plan.specs.Table.{treatment};
-ghost use Rattle.plan.specs.Channel.{channelType};
 ghost use Rattle.plan.specs.Columns.{keptSignal, composed, signalLink, storedAt, decideChain, decide};
 ghost use Rattle.planning.specs.Decided.{testedAs, left, laidDecision};
 

@@ -11,7 +11,7 @@ use Rattle.base.specs.Choice.{pick, ifEq}
 use Rattle.base.specs.ChoiceLaws.{eq-yes, eq-no}
 use Rattle.base.specs.Field.{leAt}
 use Rattle.mdf.specs.Block.{kindDT, kindAt, sizeAt, linksAt, linkAt}
-use Rattle.mdf.specs.Chain.{Kind, dt, dv, Fragment}
+use Rattle.mdf.specs.Chain.{Fragment}
 use Rattle.mdf.specs.Records.{isDV}
 use Rattle.file.specs.Form.{noneZero, haveLength, allDT, allDV}
 use Rattle.ranges.specs.Blocks.{blockIn, blocksAt, listedFrom, noneFrom, linksOf, allOf, differs}

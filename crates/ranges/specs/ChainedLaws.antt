@@ -1,5 +1,5 @@
 -- What the walk of a data chain found, its ranges, and the blocks of a DL in the form.
-use Prim.Native.Nat.{ℕ, zero, suc, _+_, _*_, _-_, _≤_, _<_}
+use Prim.Native.Nat.{ℕ, zero, suc, _+_, _*_, _-_}
 use mathlib.Core.List.{List, [], _∷_, _++_, append-nil}
 use mathlib.Core.Bool.{Bool, true, false}
 use mathlib.Core.Path.{_≡_, refl, sym, ap, subst, _∙_}
@@ -7,19 +7,19 @@ use native.Mathlib.Numerals.{sub-one}
 use native.Mathlib.Omega.{arith}
 use lib.ListN.{length}
 use lib.Dec.{eqb, ltb}
-use borrow.Author.Tests.{eqb-true, eqb-false, ltb-true}
+use borrow.Author.Tests.{eqb-true, eqb-false}
 use Rattle.base.specs.Choice.{pick, ifLt, ifEq}
-use Rattle.base.specs.ChoiceLaws.{lt-yes, lt-no, eq-yes, eq-no, lt-first}
+use Rattle.base.specs.ChoiceLaws.{eq-yes, eq-no, lt-first}
 use Rattle.base.specs.Field.{leAt}
 use Rattle.base.specs.Checked.{Checked, ok, refused, andThen, Verdict, fine}
 use Rattle.base.specs.CheckedLaws.{refused≢ok, ok-same}
 use Rattle.mdf.specs.Block.{kindDT, kindDV, kindDL, kindHL, kindAt, linksAt, linkAt, firstLink, headerIn}
-use Rattle.mdf.specs.Chain.{Kind, dt, dv, Fragment, fragment, Leaf, leaf, none, leafOf, Chain, records, Found, found, stopped, onFound, Limits, added, fragmentAt, listed, isIn, chainFrom, chain}
+use Rattle.mdf.specs.Chain.{dt, dv, Fragment, fragment, leaf, none, leafOf, records, Found, found, stopped, onFound, Limits, added, fragmentAt, listed, isIn, chainFrom, chain}
 use Rattle.mdf.specs.Records.{rangesIn}
 use Rattle.chains.specs.Node.{Standing, data-block, data-list, list-header, byLeaf, nodeAt}
 use Rattle.chains.specs.NodeLaws.{listedNode, fragment-node, resumed, chain-open}
 use Rattle.chains.specs.KeptLaws.{onto}
-use Rattle.chains.specs.ChainLaws.{Onto, listed-onto, chain-onto}
+use Rattle.chains.specs.ChainLaws.{listed-onto, chain-onto}
 use Rattle.chains.specs.TurnLaws.{listed-open}
 use Rattle.chains.specs.Turn.{entryAt, listAt, Turn, over, next, onRead, onListed, listTurn, headerTurn, onStanding, turnAt}
 use Rattle.mdf.specs.Walk.{idSize}
@@ -27,7 +27,7 @@ use Rattle.file.specs.Form.{noneZero, linksFormed, listFormed, formed}
 use Rattle.file_laws.specs.OpenedLaws.{both-back}
 use Rattle.ranges.specs.Blocks.{blockIn, blocksAt, listedFrom, linksOf, blocksOf, columnOf}
 use Rattle.ranges.specs.BlocksLaws.{links-some}
-use Rattle.ranges.specs.Ranged.{blockRange, entryRange, listRanges, rangesFrom, onList, onPass, passAt, chainRanges}
+use Rattle.ranges.specs.Ranged.{entryRange, listRanges, rangesFrom, onList, onPass, passAt, chainRanges}
 use Rattle.ranges.specs.Chained.{Lists, no-more, passed-over, and-more, Chained, ends, block, list, header}
 
 stopped≢found : {A : Type 0} {n p : ℕ} {fs gs : List Fragment} → stopped n p fs ≡ found gs → A

@@ -1,34 +1,33 @@
 -- The columns of the walk's data groups are those that its words give.
 use Prim.{Unit, tt}
-use Prim.Native.Nat.{ℕ, zero, suc, _+_, _*_, _-_, _≤_, _<_}
+use Prim.Native.Nat.{ℕ, suc, _+_, _*_, _-_, _≤_, _<_}
 use mathlib.Core.List.{List, [], _∷_, _++_, append-assoc}
 use mathlib.Core.Bool.{Bool, true, false}
 use mathlib.Core.Option.{Option, none, some}
-use mathlib.Core.Path.{_≡_, refl, sym, ap, subst, _∙_}
-use native.Mathlib.Nat.{add-zero, le-refl}
+use mathlib.Core.Path.{_≡_, refl, sym, _∙_}
+use native.Mathlib.Nat.{le-refl}
 use native.Mathlib.Omega.{arith}
-use lib.ListN.{length, getD, take, length-append}
+use lib.ListN.{length, getD, length-append}
 use lib.Seq.{take-length}
-use lib.Dec.{eqb, ltb}
+use lib.Dec.{ltb}
 use borrow.Author.Tests.{ltb-true, ltb-false}
 use Rattle.base.specs.Blit.{part}
 use Rattle.base.specs.Choice.{pick}
 use Rattle.base.specs.ChoiceLaws.{lt-yes, lt-no}
-use Rattle.base.specs.Checked.{Checked, ok, refused, andThen, Verdict, fine}
+use Rattle.base.specs.Checked.{Checked, ok, refused, andThen, fine}
 use Rattle.mdf.specs.Block.{linkAt}
 use Rattle.mdf.specs.Chain.{Fragment, fileLimits}
-use Rattle.mdf.specs.Walk.{Item, dg, cg, cn, Source}
+use Rattle.mdf.specs.Walk.{Item, dg, cg, cn}
 use Rattle.mdf.specs.Group.{Group, DataGroup, channelsOf, groupsOf, upTo, dataGroupsOf}
 use Rattle.mdf.specs.Records.{rangesIn}
-use Rattle.work_words.specs.Words.{mark, addressWords, markWords, marksAt}
-use Rattle.file.specs.Form.{FileColumn, ofChannels, ofGroups, alone, formed}
+use Rattle.work_words.specs.Words.{addressWords, markWords, marksAt}
+use Rattle.file.specs.Form.{FileColumn, alone, formed}
 use Rattle.file.specs.Opened.{columnIn, columnsIn}
 use Rattle.file_laws.specs.JoinedLaws.{part-front, part-back}
 use Rattle.reading.specs.Holding.{Stands}
 use Rattle.reading.specs.StandsLaws.{stands-back, stands-head, stands-at}
-use Rattle.ranges.specs.Blocks.{blocksOf, columnOf}
+use Rattle.ranges.specs.Blocks.{columnOf}
 use Rattle.ranges.specs.Ranged.{chainRanges}
-use Rattle.ranges.specs.Chained.{Chained}
 use Rattle.ranges.specs.ChainedLaws.{found-chained, none-ranges, ranges-append, chained-ranges, SameForm, same-form}
 use Rattle.ranges.specs.Met.{Met, met-none, met-dg, met-cg, met-cn}
 use Rattle.ranges.specs.Open.{itemRange, wordRanges, columnAt, columnFormed, formFrom}
@@ -95,20 +94,6 @@ AtDG [] = Unit {0}
 AtDG (dg a n ∷ is) = Unit {0}
 AtDG (cg a ∷ is) = ⊥
 AtDG (cn a ∷ is) = ⊥
-
-no-channels : (is : List Item) → AtDG is → channelsOf is ≡ []
-unfolding channelsOf
-no-channels [] h = refl
-no-channels (dg a n ∷ is) h = refl
-no-channels (cg a ∷ is) h = absurd h
-no-channels (cn a ∷ is) h = absurd h
-
-no-groups : (is : List Item) → AtDG is → groupsOf is ≡ []
-unfolding groupsOf
-no-groups [] h = refl
-no-groups (dg a n ∷ is) h = refl
-no-groups (cg a ∷ is) h = absurd h
-no-groups (cn a ∷ is) h = absurd h
 
 none-in : (s : List ℕ) (d : DataGroup) (ds : List DataGroup) → alone d ≡ none → columnsIn s (d ∷ ds) ≡ refused 24 0
 unfolding columnsIn columnIn

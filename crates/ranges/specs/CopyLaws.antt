@@ -1,12 +1,12 @@
 -- The laws of copying block by block: what is left of the bytes gives the whole buffer.
-use Prim.{Unit, tt}
-use Prim.Native.Nat.{ℕ, zero, suc, _+_, _*_, _-_, _≤_, _<_, min}
+use Prim.{tt}
+use Prim.Native.Nat.{ℕ, _+_, _-_, _≤_, _<_, min}
 use mathlib.Core.List.{List, [], _∷_, _++_}
 use mathlib.Core.Bool.{Bool, true, false}
 use mathlib.Core.Path.{_≡_, refl, sym, ap, subst, _∙_}
-use native.Mathlib.Nat.{add-zero, min-le-left, min-le-right, min-eq-left, min-eq-right, sub-zero, le-of-lt}
+use native.Mathlib.Nat.{min-le-left, min-le-right, min-eq-left, min-eq-right, sub-zero, le-of-lt}
 use native.Mathlib.Omega.{arith}
-use lib.ListN.{length, length-append, take, drop}
+use lib.ListN.{length, take, drop}
 use lib.Seq.{take-add, drop-drop, take-nil, drop-nil}
 use lib.Dec.{ltb}
 use borrow.Author.Tests.{ltb-true, ltb-false}

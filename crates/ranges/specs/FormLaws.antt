@@ -1,12 +1,12 @@
 -- The laws of the form, test by test.
 use Prim.Native.Nat.{ℕ, _+_, _*_, _-_, _/_, _%_, _≤_, _<_}
-use mathlib.Core.List.{List, [], _∷_}
+use mathlib.Core.List.{List}
 use mathlib.Core.Bool.{Bool, true, false}
 use mathlib.Core.Path.{_≡_, refl, sym, ap, _∙_}
 use native.Mathlib.Nat.{add-zero, zero-mul, mul-zero}
 use native.Mathlib.Omega.{arith}
 use lib.ListN.{getD}
-use lib.Dec.{ltb, leb, eqb}
+use lib.Dec.{eqb}
 use borrow.Author.Tests.{lt-ltb, le-ltb, le-leb, lt-leb, eq-eqb, ne-eqb}
 use Rattle.base.specs.Choice.{pick, ifEq}
 use Rattle.base.specs.ChoiceLaws.{eq-yes, eq-no}
@@ -16,7 +16,7 @@ use Rattle.mdf.specs.Walk.{idSize}
 use Rattle.mdf.specs.Group.{samples, invalBytes}
 use Rattle.mdf.specs.Records.{sizeOf}
 use Rattle.records.specs.Bounded.{Bounded}
-use Rattle.file.specs.Form.{cycles, recordBytes, holds, linksFormed, isEqualLength, equalLength, haveLength, listFormed, allDT, allDV, oneKind, formed}
+use Rattle.file.specs.Form.{cycles, recordBytes, linksFormed, isEqualLength, equalLength, haveLength, listFormed, allDT, allDV, oneKind, formed}
 use Rattle.ranges.specs.Blocks.{listedFrom, noneFrom, linksOf, blocksOf, columnOf}
 use Rattle.ranges.specs.BlocksLaws.{none-first}
 

@@ -2,18 +2,17 @@
 use Prim.Native.Nat.{ℕ, zero, suc, _+_, _≤_}
 use mathlib.Core.List.{List, [], _∷_, _++_, append-nil, append-assoc}
 use mathlib.Core.Bool.{Bool, true, false}
-use mathlib.Core.Path.{_≡_, refl, sym, ap, subst, _∙_}
-use native.Mathlib.Nat.{add-zero}
+use mathlib.Core.Path.{_≡_, refl, subst}
 use native.Mathlib.Omega.{arith}
 use lib.ListN.{length, length-append}
 use lib.Dec.{eqb}
 use Rattle.base.specs.Choice.{pick, ifEq}
-use Rattle.base.specs.Checked.{Checked, ok, refused, andThen}
+use Rattle.base.specs.Checked.{Checked, ok, andThen}
 use Rattle.base.specs.CheckedLaws.{refused≢ok, ok-same, then-ok, then-fine}
 use Rattle.mdf.specs.Block.{HD, linkAt, blockAt}
 use Rattle.mdf.specs.Name.{nameAt}
 use Rattle.mdf.specs.Chain.{Fragment, records, Found, found, stopped, Limits, chain}
-use Rattle.mdf.specs.Walk.{Item, dg, cg, cn, Source, source, Level, levelDG, levelCG, levelCN, visit, entered, level, turns, belowCN, belowCG, idSizeIn, withFound, belowDG, walkOf}
+use Rattle.mdf.specs.Walk.{Item, dg, Source, source, Level, levelDG, levelCG, levelCN, visit, entered, level, turns, belowCN, belowCG, idSizeIn, withFound, belowDG, walkOf}
 use Rattle.ranges.specs.Met.{Met, met-none, met-dg, met-cg, met-cn, Upto, upto}
 
 module _ {l : Limits} {s : List ℕ} where

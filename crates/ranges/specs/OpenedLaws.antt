@@ -1,18 +1,18 @@
 -- From the code's answers to what opening gives.
-use Prim.{Unit, tt}
-use Prim.Native.Nat.{ℕ, _+_, _*_, _≤_}
-use mathlib.Core.List.{List, [], _∷_, _++_}
+use Prim.{tt}
+use Prim.Native.Nat.{ℕ, _≤_}
+use mathlib.Core.List.{List, []}
 use mathlib.Core.Path.{_≡_, refl, sym, ap, _∙_}
 use native.Mathlib.Omega.{arith}
 use lib.ListN.{length}
-use Rattle.base.specs.Checked.{Checked, ok, refused, andThen, Verdict, fine}
-use Rattle.base.specs.CheckedLaws.{refused≢ok, ok-same}
+use Rattle.base.specs.Checked.{Checked, ok, refused, andThen, fine}
+use Rattle.base.specs.CheckedLaws.{ok-same}
 use Rattle.mdf.specs.Identification.{identified}
-use Rattle.mdf.specs.Chain.{Fragment, fileLimits}
-use Rattle.mdf.specs.Walk.{Item, dg, cg, cn, Source, walkOf}
+use Rattle.mdf.specs.Chain.{fileLimits}
+use Rattle.mdf.specs.Walk.{Item, Source, walkOf}
 use Rattle.mdf.specs.Group.{dataGroupsOf, dataGroups}
 use Rattle.mdf.specs.Records.{rangesIn}
-use Rattle.work_words.specs.Words.{laidItems, marksAt, sourceWords, addressWords, markWords}
+use Rattle.work_words.specs.Words.{laidItems, marksAt, addressWords, markWords}
 use Rattle.fields.specs.declared.Check.{Check}
 use Rattle.fields.specs.declared.Check.the-variants.{Fine}
 use Rattle.fields.specs.declared.Check.the-variants as checks
@@ -29,7 +29,7 @@ use Rattle.reading.specs.Holding.{Stands}
 use Rattle.reading.specs.WordsLaws.{length-laid, addresses-stand, marks-stand}
 use Rattle.file.specs.Form.{FileColumn}
 use Rattle.file.specs.Opened.{columnsIn, opened}
-use Rattle.ranges.specs.Met.{Met, Upto, upto}
+use Rattle.ranges.specs.Met.{Upto, upto}
 use Rattle.ranges.specs.MetLaws.{walk-met}
 use Rattle.ranges.specs.declared.open.Opened.{Opened}
 use Rattle.ranges.specs.declared.open.Opened.the-variants.{Columns}

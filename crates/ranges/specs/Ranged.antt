@@ -5,7 +5,7 @@ use Rattle.base.specs.Choice.{ifEq}
 use Rattle.base.specs.Field.{leAt}
 use Rattle.base.specs.Checked.{Checked, ok, refused, andThen, Verdict, fine}
 use Rattle.mdf.specs.Block.{linksAt, firstLink}
-use Rattle.mdf.specs.Chain.{Fragment, records}
+use Rattle.mdf.specs.Chain.{records}
 use Rattle.mdf.specs.Records.{rangesIn}
 use Rattle.fields.specs.Answer.{verdictOf}
 use Rattle.chains.specs.Node.{Standing, data-block, data-list, list-header, nodeAt}

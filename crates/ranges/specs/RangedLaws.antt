@@ -1,14 +1,14 @@
 -- The laws of the pass over a chain's ranges, one for each return and each turn of a loop.
 use Prim.Native.Nat.{ℕ, zero, suc, _+_, _*_, _-_, _≤_, _<_}
 use mathlib.Core.List.{List, [], _∷_}
-use mathlib.Core.Path.{_≡_, refl, sym, ap, _∙_}
+use mathlib.Core.Path.{_≡_, refl, sym, _∙_}
 use native.Mathlib.Numerals.{sub-one}
 use native.Mathlib.Omega.{arith}
 use lib.ListN.{length}
 use Rattle.base.specs.Choice.{ifEq}
 use Rattle.base.specs.ChoiceLaws.{lt-yes, lt-no, eq-yes, eq-no}
 use Rattle.base.specs.Field.{leAt}
-use Rattle.base.specs.Checked.{Checked, ok, refused, andThen, Verdict, fine}
+use Rattle.base.specs.Checked.{refused, andThen, Verdict, fine}
 use Rattle.mdf.specs.Block.{linksAt, linkAt, firstLink}
 use Rattle.mdf.specs.Chain.{Kind, records}
 use Rattle.mdf.specs.Records.{rangesIn}
@@ -23,7 +23,7 @@ use Rattle.chains.specs.declared.node.SrcBlock.{SrcBlock}
 use Rattle.chains.specs.Node.{fragmentOf, nodeAt, nodeOf}
 use Rattle.ranges.specs.declared.range.Passed.{Passed}
 use Rattle.ranges.specs.declared.range.Passed.the-variants.{Over, On}
-use Rattle.ranges.specs.Ranged.{entryRange, listRanges, rangesFrom, Pass, over, on, onPass, passAt, chainRanges, passOf}
+use Rattle.ranges.specs.Ranged.{entryRange, listRanges, rangesFrom, over, on, onPass, passAt, chainRanges, passOf}
 
 -- ---- one block
 module _ (s : List ℕ) (o z : ℕ) (k : Kind) where

@@ -1,9 +1,8 @@
 -- The laws of the two calls, way by way.
-use Prim.{Unit, tt}
 use Prim.Native.Nat.{ℕ, zero, suc, _+_, _*_, _-_, _/_, _%_, _≤_, _<_}
-use mathlib.Core.List.{List, [], _∷_, _++_}
+use mathlib.Core.List.{List, [], _∷_}
 use mathlib.Core.Bool.{Bool, true, false}
-use mathlib.Core.Option.{Option, none, some}
+use mathlib.Core.Option.{none, some}
 use mathlib.Core.Path.{_≡_, refl, sym, ap, subst, _∙_}
 use native.Mathlib.Nat.{le-refl, add-zero, zero-add, zero-mul, mul-zero, mul-div-cancel, div-add-mod', mul-pos, div-lt-iff-lt-mul, le-div-iff-mul-le}
 use native.Mathlib.Omega.{arith}
@@ -13,19 +12,19 @@ use lib.Dec.{eqb, ltb}
 use borrow.Author.Tests.{eq-eqb, ne-eqb, eqb-true, eqb-false, ltb-true, ltb-false}
 use Rattle.base.specs.Blit.{blit, part}
 use Rattle.base.specs.BlitLaws.{length-blit, part-blit, length-part}
-use Rattle.base.specs.Choice.{pick, ifLt, ifLe, ifEq}
+use Rattle.base.specs.Choice.{pick, ifLt, ifLe}
 use Rattle.base.specs.ChoiceLaws.{lt-yes, lt-no, le-yes, le-no, eq-yes, eq-no}
-use Rattle.base.specs.Checked.{Checked, ok, refused, andThen, Verdict, fine}
+use Rattle.base.specs.Checked.{Checked, ok, refused, fine}
 use Rattle.mdf.specs.Block.{sizeAt, linkAt}
 use Rattle.mdf.specs.Chain.{Fragment}
 use Rattle.mdf.specs.Records.{rangesIn, joined, sizeOf}
 use Rattle.fields.specs.declared.Check.{Check}
 use Rattle.fields.specs.declared.Check.the-variants as checks
-use Rattle.file.specs.Form.{FileColumn, cycles, recordBytes}
-use Rattle.file.specs.Opened.{onColumn, opened}
-use Rattle.file.specs.Range.{Place, at, split, within, placeIn, located, fileColumnAt, asked, startOf, bytesOf, rangeOf, Copied, copied, intoBuffer, readInto, handed}
+use Rattle.file.specs.Form.{cycles, recordBytes}
+use Rattle.file.specs.Opened.{opened}
+use Rattle.file.specs.Range.{Place, at, split, within, placeIn, located, fileColumnAt, asked, startOf, bytesOf, rangeOf, copied, intoBuffer, readInto, handed}
 use Rattle.file_laws.specs.JoinedLaws.{part-back, ranges-cons, length-joined}
-use Rattle.file_laws.specs.RangeLaws.{Asked, asked-back, range-inside, range-length, read-fits, read-other}
+use Rattle.file_laws.specs.RangeLaws.{Asked, asked-back, range-inside, read-fits, read-other}
 use Rattle.ranges.specs.declared.open.Opened.{Opened}
 use Rattle.ranges.specs.declared.open.Opened.the-variants.{Columns}
 use Rattle.ranges.specs.declared.open.Opened.the-variants as opens
@@ -33,13 +32,13 @@ use Rattle.ranges.specs.declared.read.Granted.{Granted}
 use Rattle.ranges.specs.declared.read.Granted.the-variants.{Refused, Column}
 use Rattle.ranges.specs.declared.seek.Spot.{Spot}
 use Rattle.ranges.specs.Blocks.{blockIn, listedFrom, linksOf, blocksOf, columnOf}
-use Rattle.ranges.specs.BlocksLaws.{from-next, from-end, block-size, block-offset}
-use Rattle.ranges.specs.Seek.{FirstIn, Sought, nowhere, here, seekIn, spotted}
+use Rattle.ranges.specs.BlocksLaws.{from-next, block-size, block-offset}
+use Rattle.ranges.specs.Seek.{FirstIn, nowhere, here, seekIn, spotted}
 use Rattle.ranges.specs.Open.{columnAt, columnsOf, few, lasting, openedAs, Holds, opening}
 use Rattle.ranges.specs.declared.read.Location.{Location}
 use Rattle.ranges.specs.declared.read.Location.the-variants.{Split, At}
 use Rattle.ranges.specs.declared.read.Location.the-variants as places
-use Rattle.ranges.specs.Read.{askedAs, copiedAs, Fills, locatedAs, handing}
+use Rattle.ranges.specs.Read.{askedAs, Fills, locatedAs, handing}
 
 -- ---- n bytes are so many records
 module _ (n count w : ℕ) where

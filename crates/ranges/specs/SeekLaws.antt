@@ -1,22 +1,19 @@
 -- The laws of bytes counted in records.
-use Prim.Native.Nat.{ℕ, zero, suc, _+_, _*_, _-_, _/_, _%_, _≤_, _<_}
-use mathlib.Core.List.{List, [], _∷_}
+use Prim.Native.Nat.{ℕ, _+_, _*_, _-_, _/_, _%_, _≤_, _<_}
+use mathlib.Core.List.{List}
 use mathlib.Core.Bool.{Bool, true, false}
 use mathlib.Core.Path.{_≡_, refl, sym, ap, _∙_}
 use native.Mathlib.Nat.{add-zero, zero-mul, one-mul, add-mul, mul-le-mul-right, mul-pos, mod-lt, div-add-mod'}
 use native.Mathlib.Omega.{arith}
 use lib.Dec.{eqb}
 use borrow.Author.Tests.{eq-eqb, ne-eqb, eqb-true, eqb-false}
-use Rattle.base.specs.Choice.{ifLt}
 use Rattle.base.specs.ChoiceLaws.{lt-yes, lt-no}
 use Rattle.mdf.specs.Block.{sizeAt, linkAt}
-use Rattle.mdf.specs.Chain.{Fragment}
 use Rattle.mdf.specs.Records.{sizeOf}
 use Rattle.ranges.specs.declared.seek.Rest.{Rest}
-use Rattle.ranges.specs.declared.seek.Spot.{Spot}
 use Rattle.ranges.specs.Blocks.{blockIn, listedFrom}
 use Rattle.ranges.specs.BlocksLaws.{from-next, from-end, block-size}
-use Rattle.ranges.specs.Seek.{Less, TakenOff, Sought, nowhere, here, seekIn, spotted}
+use Rattle.ranges.specs.Seek.{TakenOff, seekIn, spotted}
 
 true≢false : {A : Type 0} → true ≡ false → A
 true≢false e = absurd (let z : _≡_ {A = ℕ} 0 1 = cc in omega arith)

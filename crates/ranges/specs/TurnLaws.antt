@@ -7,13 +7,13 @@ use native.Mathlib.Omega.{arith}
 use borrow.Author.Tests.{leb-true, leb-false}
 use lib.Dec.{leb}
 use lib.ListN.{length, getD}
-use Rattle.base.specs.Choice.{pick, ifLt, ifLe}
+use Rattle.base.specs.Choice.{pick, ifLe}
 use Rattle.base.specs.ChoiceLaws.{lt-yes, lt-no}
-use Rattle.base.specs.Checked.{Checked, ok, refused, andThen, Verdict}
+use Rattle.base.specs.Checked.{Checked, ok, refused, Verdict}
 use Rattle.file.specs.Form.{FileColumn}
 use Rattle.file.specs.Opened.{opened}
 use Rattle.file.specs.Range.{asked, Copied}
-use Rattle.file.specs.Plot.{Entry, single, Outcome, stopped, entryThen, plotFrom, plotted}
+use Rattle.file.specs.Plot.{Entry, single, stopped, entryThen, plotFrom, plotted}
 use Rattle.file_laws.specs.PlotLaws.{single-refused, from-open, plot-many, plot-few}
 use Rattle.fields.specs.declared.Check.{Check}
 use Rattle.fields.specs.declared.Check.the-variants.{Fine, Refused}

@@ -7,7 +7,7 @@ use identification::identify;
 use reading::answer::Read;
 use reading::recording::walk_file;
 ghost use mathlib.Core.Path.{_≡_};
-ghost use Prim.Native.Nat.{_+_, _≤_, _<_};
+ghost use Prim.Native.Nat.{_≤_, _<_};
 ghost use lib.ListN.{length};
 ghost use Rattle.fields.specs.Answer.{verdictOf};
 ghost use Rattle.file.specs.Opened.{opened};

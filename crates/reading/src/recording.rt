@@ -17,7 +17,7 @@ use records::group::id_size;
 use records::several::count_groups;
 ghost use mathlib.Core.Path.{_≡_};
 ghost use mathlib.Core.List.{[]};
-ghost use Prim.Native.Nat.{_+_, _≤_};
+ghost use Prim.Native.Nat.{_≤_};
 ghost use lib.ListN.{length, take};
 ghost use Rattle.fields.specs.Answer.{verdictOf};
 ghost use Rattle.mdf.specs.Chain.{isIn, fileLimits};

@@ -145,23 +145,6 @@ skip-fewer (f ∷ fs) m e =
     (λ h. let a : skip (m - k) fs ≡ onto _ = le-no m k _ _ h refl ∙ e in let i = skip-fewer fs (m - k) a in omega arith)
     (le-or-lt m k)
 
-pub skip-skip : (fs : List Fragment) (n m : ℕ) {gs : List Fragment} → skip n fs ≡ onto gs → skip m gs ≡ skip (n + m) fs
-unfolding skip
-skip-skip [] n m e = absurd (short≢onto [] e)
-skip-skip (f ∷ fs) n m e =
-    let k : ℕ = f .size in
-    ⊎-elim
-    (λ h. rw (onto-same [] (le-yes n k _ _ h refl ∙ e)) (⊎-elim
-    (λ l. let a : f .offset + n + m ≡ f .offset + (n + m) = omega arith in let b : k - n - m ≡ k - (n + m) = omega arith in
-    sym (le-yes _ _ _ _ l refl) ∙ rw (a, b) (le-yes _ _ _ _ (omega arith) refl))
-    (λ l. let a : m - (k - n) ≡ n + m - k = omega arith in
-    sym (le-no _ _ _ _ l refl) ∙ rw a (le-no _ _ _ _ (omega arith) refl))
-    (le-or-lt m (k - n))))
-    (λ h. let a : skip (n - k) fs ≡ onto _ = le-no n k _ _ h refl ∙ e in
-    let j : n - k + m ≡ n + m - k = omega arith in
-    skip-skip fs (n - k) m a ∙ rw j (le-no _ _ _ _ (omega arith) refl))
-    (le-or-lt n k)
-
 -- in the image nothing is left out
 pub place-clipped : (s : List ℕ) (fs : List Fragment) (q : ℕ) → rangesIn s fs ≡ fine → placeOf (clipped s fs) q ≡ placeOf fs q
 unfolding clipped placeOf
@@ -186,10 +169,6 @@ module _ (s ws : List ℕ) (at p l m : ℕ) {here : ℕ} (is : here ≡ length (
       → skip (m - here) (ahead s ws (at + 3) o z) ≡ v
   unfolding ahead skip clipped
   skip-move r h i x y = rw (is, x, y) (le-no _ _ _ _ (rw is at h) refl ∙ (rw (from-more ws at i) at r))
-
-  pub skip-over : {v : Skipped} → skip m (ahead s ws at p l) ≡ v → here < m → length ws < at + 3 → short ≡ v
-  unfolding ahead skip clipped
-  skip-over r h i = le-no _ _ _ _ (rw is at h) refl ∙ (rw (from-none ws at i) at r)
 
 -- a byte of what is ahead
 module _ (s ws : List ℕ) (at p l m : ℕ) {here : ℕ} (is : here ≡ length (part p l s)) {v : ℕ}

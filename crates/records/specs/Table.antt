@@ -1,5 +1,5 @@
 -- Tables of a DG's groups for framing: the id and the size of records, a word each, in the order of the groups.
-use Prim.Native.Nat.{ℕ, _+_, _-_, _≤_, _<_}
+use Prim.Native.Nat.{ℕ, _+_, _≤_, _<_}
 use mathlib.Core.List.{List, [], _∷_}
 use mathlib.Core.Path.{_≡_}
 use mathlib.Core.Bool.{false}

@@ -6,7 +6,6 @@ use crate::group::record_id;
 use crate::group::samples_of;
 use fields::u8_at;
 ghost use mathlib.Core.Path.{_≡_};
-ghost use Prim.Native.Nat.{_+_};
 ghost use lib.ListN.{length, getD};
 ghost use Rattle.base.specs.Blit.{part};
 ghost use Rattle.base.specs.Field.{leAt};

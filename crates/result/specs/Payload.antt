@@ -1,5 +1,5 @@
 -- The bytes of a column: its group's records, one cell of each, and the payloads of its blocks (document 01, e and placement).
-use Prim.Native.Nat.{ℕ, zero, suc, _+_}
+use Prim.Native.Nat.{ℕ, zero, suc}
 use mathlib.Core.List.{List, [], _∷_, _++_}
 use lib.ListN.{take, drop}
 use Rattle.base.specs.Choice.{pick}

@@ -106,11 +106,6 @@ pub length-column-payloads : (s : List ℕ) (size : ℕ) (c : Column) → length
 unfolding columnPayloads
 length-column-payloads s size c = length-payloads s _ _ _ (columnBlocks s size c) _
 
-nothing : (ps : List (List ℕ)) → length ps ≡ 0 → flatten ps ≡ []
-unfolding flatten
-nothing [] e = refl
-nothing (p ∷ ps) e = absurd (omega arith)
-
 -- ---- the DL that a DG leads to
 abbrev pub dlLink : List ℕ → ℕ → Placed → ℕ
 dlLink s size p = ifEq (columnBlocks s size (p .column)) 0 0 (dlOf p)

@@ -11,16 +11,11 @@ use Rattle.result.specs.Result.{Args, rulesOf, blocksOf, fileOf}
 use Rattle.result.specs.Links.{shown}
 use Rattle.result.specs.Due.{dueAll}
 use Rattle.result.specs.Guarantee.{Stands, In, AllApart}
-use Rattle.shown_laws.specs.Flat.{length-flat, final-stands, final-keeps, ordered-apart}
+use Rattle.shown_laws.specs.Flat.{final-stands, final-keeps, ordered-apart}
 use Rattle.shown_laws.specs.ColumnShown.{ColumnSound}
 use Rattle.shown_laws.specs.AllShown.{shows-due}
 
 module _ (x : Args) (l : Layout) (out : List ℕ) (order : Ordered 0 (blocksOf x l) (l .fileSize)) where
-  -- the file has just its size
-  pub file-length : length (fileOf x l) ≡ l .fileSize
-  unfolding fileOf
-  file-length = length-flat (blocksOf x l) (l .fileSize) order
-
   -- "no two blocks share a byte"
   pub file-apart : AllApart (blocksOf x l)
   file-apart = ordered-apart (blocksOf x l) 0 (l .fileSize) order

@@ -1,8 +1,9 @@
 // Attachments, each after the blocks newly copied for it.
-use crate::copies::write_copies;
+use crate::copies::write_copies_by;
 use crate::gap::gap;
 use blocks::block::size_at;
 use copying::put_at;
+use placing::memo::index_copies;
 ghost use mathlib.Core.List.{[], _∷_, _++_};
 ghost use Prim.Native.Nat.{_+_, _-_, _≤_};
 ghost use lib.ListN.{length};
@@ -10,6 +11,7 @@ ghost use Rattle.base.specs.Blit.{part};
 ghost use Rattle.mdf.specs.Block.{sizeAt};
 ghost use Rattle.work_words.specs.CopyWords.{historyAt};
 ghost use Rattle.placing.specs.Standing.{copiesIn};
+ghost use Rattle.placing.specs.Index.{Indexes};
 ghost use Rattle.result.specs.Fill.{block, copiedBlocks, atBytes, attachmentBlocks};
 ghost use Rattle.copies_laws.specs.AttachLaws.{Moved, LaidAt, ownCopies};
 ghost use Rattle.writing.specs.Wrote.{Wrote};
@@ -21,17 +23,18 @@ pub(crate) fn write_at(
     at: usize,
     image: &[u8],
     memo: &[u64],
+    index: &[u16; 4096],
     used: u64,
     a: u64,
     place: usize,
     next: u64,
 ) -> usize
-    requires { ⌜ (at ≤ place) × Moved (now image) a × (place + sizeAt (now image) a ≤ length (now out)) ⌝ }
+    requires { ⌜ (at ≤ place) × Moved (now image) a × (place + sizeAt (now image) a ≤ length (now out)) × Indexes (now memo) used (now index) ⌝ }
     ensures { λ r. ⌜ Wrote at (block place (atBytes (now (image .entry)) (copiesIn (now (memo .entry)) used) a next) ∷ []) r
         (now (out .entry)) (now (out .exit)) ⌝ }
 {
     gap(out, at, place);
-    put_at(&mut out[place..], image, memo, used, a, next);
+    put_at(&mut out[place..], image, memo, index, used, a, next);
     place + size_at(image, a) as usize
 }
 
@@ -52,6 +55,7 @@ pub(crate) fn write_attachment(
     at: usize,
     image: &[u8],
     memo: &[u64],
+    index: &[u16; 4096],
     used: u64,
     chain: u64,
     fh: u64,
@@ -62,13 +66,14 @@ pub(crate) fn write_attachment(
     next: u64,
 ) -> usize
     requires { ⌜ (own ≤ end) × (end ≤ used) × (used ≤ 2048) × (8192 ≤ length (now memo))
-        × Placing (now image) at (part own (end - own) (copiesIn (now memo) used)) a place (length (now out)) ⌝ }
+        × Placing (now image) at (part own (end - own) (copiesIn (now memo) used)) a place (length (now out))
+        × Indexes (now memo) used (now index) ⌝ }
     ensures { λ r. ⌜ Wrote at (copiedBlocks (now (image .entry)) (part historyAt chain (now (memo .entry))) (copiesIn (now (memo .entry)) used) fh
         (part own (end - own) (copiesIn (now (memo .entry)) used))
         ++ (block place (atBytes (now (image .entry)) (copiesIn (now (memo .entry)) used) a next) ∷ [])) r (now (out .entry)) (now (out .exit)) ⌝ }
 {
-    let p = write_copies(out, at, image, memo, used, chain, fh, own, end);
-    write_at(out, p, image, memo, used, a, place, next)
+    let p = write_copies_by(out, at, image, memo, index, used, chain, fh, own, end);
+    write_at(out, p, image, memo, index, used, a, place, next)
 }
 
 // All attachments of the words, the first one's copies from copy number first on, from at on.
@@ -88,6 +93,7 @@ pub(crate) fn write_attachments(
     ensures { λ r. ⌜ Wrote at (attachmentBlocks (now (image .entry)) (part historyAt chain (now (memo .entry))) (copiesIn (now (memo .entry)) used) fh
         (attachmentsIn (now (memo .entry)) first count)) r (now (out .entry)) (now (out .exit)) ⌝ }
 {
+    let index = index_copies(memo, used);
     let mut i: u64 = 0;
     let mut own = first;
     let mut p = at;
@@ -102,6 +108,7 @@ pub(crate) fn write_attachments(
             p,
             image,
             memo,
+            &index,
             used,
             chain,
             fh,

@@ -17,9 +17,6 @@ ghost use Rattle.placing.specs.Decision.{four};
 ghost use Rattle.writing.specs.Answer.{args, left, Bytes, Promised};
 ghost use Rattle.writing.specs.Finish.{Stands, Counts, Reported, Finished};
 
-// The words that each of the four work slices needs.
-pub const WORK_WORDS: usize = 8192;
-
 // The seven counts of a conversion's report.
 pub struct Report {
     pub source_groups: u64,

@@ -5,7 +5,7 @@ use channels::per_full;
 use channels::width_of;
 use choices::treatment_of;
 ghost use mathlib.Core.Path.{_≡_};
-ghost use Prim.Native.Nat.{_+_, _*_, _≤_, _<_};
+ghost use Prim.Native.Nat.{_≤_, _<_};
 ghost use lib.ListN.{length};
 ghost use Rattle.plan.specs.Channel.{channelType, width};
 ghost use Rattle.plan.specs.Geometry.{blockCount, blockPayload};

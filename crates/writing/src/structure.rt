@@ -10,27 +10,30 @@ use filling::put_cg;
 use filling::put_cn;
 use filling::put_dg;
 use filling::put_dl;
-use placing::memo::new_link;
+use placing::memo::index_copies;
+use placing::memo::link_by;
 ghost use mathlib.Core.Path.{_≡_};
 ghost use mathlib.Core.List.{[], _∷_};
-ghost use Prim.Native.Nat.{_+_, _*_, _-_, _≤_, _<_};
+ghost use Prim.Native.Nat.{_+_, _≤_, _<_};
 ghost use lib.ListN.{length};
 ghost use Rattle.base.specs.Blit.{blit};
 ghost use Rattle.base.specs.Choice.{ifEq};
 ghost use Rattle.mdf.specs.Block.{linkAt, dataAt};
 ghost use Rattle.plan.specs.Layout.{dlSize};
 ghost use Rattle.placing.specs.Standing.{copiesIn};
+ghost use Rattle.placing.specs.Index.{Indexes};
 ghost use Rattle.result.specs.Fill.{block, newLink, structureBlocks};
 ghost use Rattle.writing.specs.PlacedIn.{placedIn};
 ghost use Rattle.writing.specs.Structure.{onTable, columnDG, columnCG, columnCN, columnDLs, columnParts, cgLength, Room, StructureReady};
 ghost use Rattle.writing.specs.Wrote.{Wrote};
 
 // Link i of the block at a, led to its copy.
-fn link(image: &[u8], memo: &[u64], used: u64, a: u64, i: u64) -> u64
+fn link(image: &[u8], memo: &[u64], index: &[u16; 4096], used: u64, a: u64, i: u64) -> u64
+    requires { ⌜ Indexes (now memo) used (now index) ⌝ }
     ensures { λ r. ⌜ r ≡ newLink (copiesIn (now (memo .entry)) used) (linkAt (now (image .entry)) a i) ⌝ }
 {
     let to = link_at(image, a, i);
-    new_link(memo, used, to)
+    link_by(memo, index, used, to)
 }
 
 // The place of the DL, 0 without data blocks.
@@ -45,22 +48,38 @@ fn dl_place(h: PlacedColumn) -> u64
 }
 
 // The DG at the front of d.
-fn fill_dg(d: &mut [u8], image: &[u8], memo: &[u64], used: u64, h: PlacedColumn, next: u64)
-    requires { ⌜ (h .dg + 64 ≤ h .cn) × (h .cn + 160 < 18446744073709551616) ⌝ }
+fn fill_dg(
+    d: &mut [u8],
+    image: &[u8],
+    memo: &[u64],
+    index: &[u16; 4096],
+    used: u64,
+    h: PlacedColumn,
+    next: u64,
+)
+    requires { ⌜ (h .dg + 64 ≤ h .cn) × (h .cn + 160 < 18446744073709551616) × Indexes (now memo) used (now index) ⌝ }
     ensures { λ _. ⌜ now (d .exit) ≡ blit 0 (columnDG (now (image .entry)) (copiesIn (now (memo .entry)) used) h next) (now (d .entry)) ⌝ }
 {
     let dl = dl_place(h);
-    let comment = link(image, memo, used, h.parent, 3);
+    let comment = link(image, memo, index, used, h.parent, 3);
     put_dg(d, next, h.dg + 64, dl, comment);
 }
 
 // The CG.
-fn fill_cg(d: &mut [u8], image: &[u8], memo: &[u64], used: u64, h: PlacedColumn)
+fn fill_cg(
+    d: &mut [u8],
+    image: &[u8],
+    memo: &[u64],
+    index: &[u16; 4096],
+    used: u64,
+    h: PlacedColumn,
+)
+    requires { ⌜ Indexes (now memo) used (now index) ⌝ }
     ensures { λ _. ⌜ now (d .exit) ≡ blit 0 (columnCG (now (image .entry)) (copiesIn (now (memo .entry)) used) h) (now (d .entry)) ⌝ }
 {
-    let name = link(image, memo, used, h.group, 2);
-    let source = link(image, memo, used, h.group, 3);
-    let comment = link(image, memo, used, h.group, 5);
+    let name = link(image, memo, index, used, h.group, 2);
+    let source = link(image, memo, index, used, h.group, 3);
+    let comment = link(image, memo, index, used, h.group, 5);
     let bytes = channel_bytes(image, h.channel);
     let inval = keeps_inval(image, h.group, h.channel);
     put_cg(
@@ -80,14 +99,22 @@ fn fill_cg(d: &mut [u8], image: &[u8], memo: &[u64], used: u64, h: PlacedColumn)
 }
 
 // The CN.
-fn fill_cn(d: &mut [u8], image: &[u8], memo: &[u64], used: u64, h: PlacedColumn)
+fn fill_cn(
+    d: &mut [u8],
+    image: &[u8],
+    memo: &[u64],
+    index: &[u16; 4096],
+    used: u64,
+    h: PlacedColumn,
+)
+    requires { ⌜ Indexes (now memo) used (now index) ⌝ }
     ensures { λ _. ⌜ now (d .exit) ≡ blit 0 (columnCN (now (image .entry)) (copiesIn (now (memo .entry)) used) h) (now (d .entry)) ⌝ }
 {
-    let name = link(image, memo, used, h.channel, 2);
-    let source = link(image, memo, used, h.channel, 3);
-    let conversion = link(image, memo, used, h.channel, 4);
-    let unit = link(image, memo, used, h.channel, 6);
-    let comment = link(image, memo, used, h.channel, 7);
+    let name = link(image, memo, index, used, h.channel, 2);
+    let source = link(image, memo, index, used, h.channel, 3);
+    let conversion = link(image, memo, index, used, h.channel, 4);
+    let unit = link(image, memo, index, used, h.channel, 6);
+    let comment = link(image, memo, index, used, h.channel, 7);
     let keeps = keeps_inval(image, h.group, h.channel);
     put_cn(
         d,
@@ -110,17 +137,18 @@ fn write_dg(
     at: usize,
     image: &[u8],
     memo: &[u64],
+    index: &[u16; 4096],
     used: u64,
     h: PlacedColumn,
     next: u64,
 ) -> usize
-    requires { ⌜ (at ≤ h .dg) × (h .dg + 64 ≤ h .cn) × (h .cn + 160 ≤ length (now out)) ⌝ }
+    requires { ⌜ (at ≤ h .dg) × (h .dg + 64 ≤ h .cn) × (h .cn + 160 ≤ length (now out)) × Indexes (now memo) used (now index) ⌝ }
     ensures { λ r. ⌜ Wrote at (block (h .dg) (columnDG (now (image .entry)) (copiesIn (now (memo .entry)) used) h next) ∷ []) r
         (now (out .entry)) (now (out .exit)) ⌝ }
 {
     let to = h.dg as usize;
     gap(out, at, to);
-    fill_dg(&mut out[to..], image, memo, used, h, next);
+    fill_dg(&mut out[to..], image, memo, index, used, h, next);
     to + 64
 }
 
@@ -130,17 +158,18 @@ fn write_cg(
     at: usize,
     image: &[u8],
     memo: &[u64],
+    index: &[u16; 4096],
     used: u64,
     h: PlacedColumn,
 ) -> usize
     requires { ⌜ (at ≤ h .dg + 64) × (h .cn ≡ h .dg + 64 + cgLength (h .remote)) × (h .cn ≤ length (now out)) ×
-        (dataAt (now image) (h .group) + 32 ≤ length (now image)) ⌝ }
+        (dataAt (now image) (h .group) + 32 ≤ length (now image)) × Indexes (now memo) used (now index) ⌝ }
     ensures { λ r. ⌜ Wrote at (block (h .dg + 64) (columnCG (now (image .entry)) (copiesIn (now (memo .entry)) used) h) ∷ []) r
         (now (out .entry)) (now (out .exit)) ⌝ }
 {
     let to = (h.dg + 64) as usize;
     gap(out, at, to);
-    fill_cg(&mut out[to..], image, memo, used, h);
+    fill_cg(&mut out[to..], image, memo, index, used, h);
     h.cn as usize
 }
 
@@ -150,16 +179,18 @@ fn write_cn(
     at: usize,
     image: &[u8],
     memo: &[u64],
+    index: &[u16; 4096],
     used: u64,
     h: PlacedColumn,
 ) -> usize
-    requires { ⌜ (at ≤ h .cn) × (h .cn + 160 ≤ length (now out)) × (dataAt (now image) (h .channel) + 72 ≤ length (now image)) ⌝ }
+    requires { ⌜ (at ≤ h .cn) × (h .cn + 160 ≤ length (now out)) × (dataAt (now image) (h .channel) + 72 ≤ length (now image))
+        × Indexes (now memo) used (now index) ⌝ }
     ensures { λ r. ⌜ Wrote at (block (h .cn) (columnCN (now (image .entry)) (copiesIn (now (memo .entry)) used) h) ∷ []) r
         (now (out .entry)) (now (out .exit)) ⌝ }
 {
     let to = h.cn as usize;
     gap(out, at, to);
-    fill_cn(&mut out[to..], image, memo, used, h);
+    fill_cn(&mut out[to..], image, memo, index, used, h);
     to + 160
 }
 
@@ -184,17 +215,18 @@ fn write_column(
     at: usize,
     image: &[u8],
     memo: &[u64],
+    index: &[u16; 4096],
     used: u64,
     h: PlacedColumn,
     next: u64,
 ) -> usize
-    requires { ⌜ Room (now image) h at (length (now out)) ⌝ }
+    requires { ⌜ Room (now image) h at (length (now out)) × Indexes (now memo) used (now index) ⌝ }
     ensures { λ r. ⌜ Wrote at (columnParts (now (image .entry)) (copiesIn (now (memo .entry)) used) h next) r
         (now (out .entry)) (now (out .exit)) ⌝ }
 {
-    let a = write_dg(out, at, image, memo, used, h, next);
-    let b = write_cg(out, a, image, memo, used, h);
-    let c = write_cn(out, b, image, memo, used, h);
+    let a = write_dg(out, at, image, memo, index, used, h, next);
+    let b = write_cg(out, a, image, memo, index, used, h);
+    let c = write_cn(out, b, image, memo, index, used, h);
     write_dl(out, c, h)
 }
 
@@ -215,12 +247,13 @@ pub(crate) fn write_structure(
         (placedIn (now (columns .entry)) (now (memo .entry)) 0 n) (placedIn (now (columns .entry)) (now (memo .entry)) 0 n)) r
         (now (out .entry)) (now (out .exit)) ⌝ }
 {
+    let index = index_copies(memo, used);
     let mut k = 0;
     let mut to = at;
     while k < n {
         let h = column_of(image, table, size, columns, memo, n, k);
         let next = next_place(memo, n, k);
-        to = write_column(out, to, image, memo, used, h, next);
+        to = write_column(out, to, image, memo, &index, used, h, next);
         k += 1;
     }
     to

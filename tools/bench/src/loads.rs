@@ -215,6 +215,41 @@ pub fn shuffled(groups: usize, records: usize) -> Vec<usize> {
         .collect()
 }
 
+// Channels of one record that have a name, a unit, a comment and a conversion of their own each.
+pub fn described(channels: usize) -> Vec<u8> {
+    let mut image = Image(recording(&[Group::of(channels, 32, 0)], 1, 4 << 20));
+    let starts: Vec<u64> = (0..image.0.len() - 3).step_by(8).filter(|&p| image.0[p..p + 4] == *b"##CN").map(|p| p as u64).collect();
+    for (i, &cn) in starts.iter().enumerate() {
+        let unit = image.put(b"TX", vec![], format!("unit {i:04}\0").into_bytes());
+        let comment = image.put(b"TX", vec![], format!("comment {i:04}\0").into_bytes());
+        let conversion = image.put(b"CC", vec![0; 4], vec![0; 40]);
+        [(4, conversion), (6, unit), (7, comment)].iter().for_each(|&(k, to)| image.link(cn, k, to));
+    }
+    image.0
+}
+
+// One record, and a history of so many FH.
+pub fn history(blocks: usize) -> Vec<u8> {
+    let mut image = Image(recording(&[Group::of(1, 32, 0)], 1, 4 << 20));
+    let chain: Vec<u64> = (0..blocks).map(|_| image.put(b"FH", vec![0; 2], vec![0; 16])).collect();
+    image.link(64, 1, chain[0]);
+    chain.windows(2).for_each(|w| image.link(w[0], 0, w[1]));
+    image.0
+}
+
+// 512 DG without records that use one DL, of so many links of 0.
+pub fn zero_links(links: usize) -> Vec<u8> {
+    let (mut image, hd) = begun();
+    let dl = image.put(b"DL", vec![0; links + 1], vec![0; 16]);
+    let mut last = 0;
+    for _ in 0..512 {
+        let dg = image.put(b"DG", vec![0, 0, dl, 0], vec![0; 8]);
+        if last == 0 { image.link(hd, 0, dg) } else { image.link(last, 0, dg) }
+        last = dg;
+    }
+    image.0
+}
+
 // One channel of one record whose conversion is a block with this many links, all to blocks that are copied: first to 2,000 of them, then to
 // the last one over and over.
 pub fn many_links(links: usize) -> Vec<u8> {

@@ -2,7 +2,7 @@
 //! bench read TURNS: times reading ranges of column files.
 mod loads;
 mod reading;
-use loads::{bus, by_turns, many_links, mixed, recording, shuffled, Group, Order};
+use loads::{bus, by_turns, described, history, many_links, mixed, recording, shuffled, zero_links, Group, Order};
 use mf4_rs::column::{to_column_oriented_bytes, to_column_oriented_with, ColumnOptions, ColumnSink};
 use mf4_rs::error::MdfError;
 use mf4_rs::index::ByteRangeReader;
@@ -58,9 +58,12 @@ fn word(s: &[u8], p: usize) -> u64 {
     u64::from_le_bytes(s[p..p + 8].try_into().unwrap())
 }
 
-// The identification, history text and time of a result without an older history.
+// The identification, history text and time of a result: those of its last FH.
 fn lent_by(result: &[u8]) -> Lent {
-    let fh = word(result, 96) as usize;
+    let mut fh = word(result, 96) as usize;
+    while word(result, fh + 24) != 0 {
+        fh = word(result, fh + 24) as usize;
+    }
     let md = word(result, fh + 32) as usize;
     let mut text = result[md + 24..md + word(result, md + 8) as usize].to_vec();
     while text.last() == Some(&0) {
@@ -70,7 +73,7 @@ fn lent_by(result: &[u8]) -> Lent {
 }
 
 // The port, into a lent output.
-fn port(image: &[u8], lent: &Lent, work: &mut [Vec<u64>; 4], out: &mut [u8], list: &mut [u64]) -> Outcome {
+fn call(image: &[u8], lent: &Lent, work: &mut [Vec<u64>; 4], out: &mut [u8], list: &mut [u64]) -> Outcome {
     let [a, b, c, d] = work;
     unsafe {
         sitaungo_convert(
@@ -123,6 +126,9 @@ struct Timed {
     port: (f64, f64),
     rust: (f64, f64),
     copy: (f64, f64),
+    // with an output of new memory each time, the port's after a call for its size
+    new_port: f64,
+    new_rust: f64,
 }
 
 // All three in turn, on one image: outputs were written once before.
@@ -131,17 +137,23 @@ fn time(image: &[u8], turns: usize) -> Timed {
     let mut list = vec![0; 2049];
     let (mut theirs, _) = to_column_oriented_bytes(image, &options()).unwrap();
     let lent = lent_by(&theirs);
-    let need = port(image, &lent, &mut work, &mut [], &mut list);
+    let need = call(image, &lent, &mut work, &mut [], &mut list);
     assert_eq!((need.accepted, need.number, need.place), (false, 20, theirs.len() as u64));
     let mut ours = vec![1u8; theirs.len()];
     let mut copied = vec![1u8; image.len()];
-    assert!(port(image, &lent, &mut work, &mut ours, &mut list).accepted);
+    assert!(call(image, &lent, &mut work, &mut ours, &mut list).accepted);
     assert!(ours == theirs, "other bytes");
-    let decided = times(turns, || assert_eq!(port(image, &lent, &mut work, &mut [], &mut list).number, 20));
-    let port = times(turns, || assert!(port(image, &lent, &mut work, &mut ours, &mut list).accepted));
+    let decided = times(turns, || assert_eq!(call(image, &lent, &mut work, &mut [], &mut list).number, 20));
+    let port = times(turns, || assert!(call(image, &lent, &mut work, &mut ours, &mut list).accepted));
     let rust = times(turns, || assert!(to_column_oriented_with(&mut Slice(image), &mut Output(&mut theirs), &options()).is_ok()));
     let copy = times(turns, || copied.copy_from_slice(std::hint::black_box(image)));
-    Timed { decided, port, rust, copy }
+    let new_port = times(turns, || {
+        let need = call(image, &lent, &mut work, &mut [], &mut list);
+        let mut out = vec![0u8; need.place as usize];
+        assert!(call(image, &lent, &mut work, &mut out, &mut list).accepted);
+    });
+    let new_rust = times(turns, || assert!(to_column_oriented_bytes(image, &options()).is_ok()));
+    Timed { decided, port, rust, copy, new_port: new_port.0, new_rust: new_rust.0 }
 }
 
 // The result of an image.
@@ -149,10 +161,10 @@ fn convert(image: &[u8]) -> Vec<u8> {
     let mut work: [Vec<u64>; 4] = std::array::from_fn(|_| vec![0; 8192]);
     let lent = Lent { ident: [&b"MDF     4.20    "[..], &[0; 48]].concat(), text: b"convert".to_vec(), time: 0 };
     let mut list = vec![0; 2049];
-    let need = port(image, &lent, &mut work, &mut [], &mut list);
+    let need = call(image, &lent, &mut work, &mut [], &mut list);
     assert_eq!(need.number, 20);
     let mut out = vec![0; need.place as usize];
-    assert!(port(image, &lent, &mut work, &mut out, &mut list).accepted);
+    assert!(call(image, &lent, &mut work, &mut out, &mut list).accepted);
     out
 }
 
@@ -161,8 +173,8 @@ fn line(name: &str, seconds: &str, image: &[u8], turns: usize, before: Option<f6
     let t = time(image, turns);
     let grown = before.map_or(String::new(), |b| format!("{:.2}", t.port.0 / b));
     println!(
-        "| {name} | {seconds} | {} | {:.1} | {:.1} | {:.1} | {:.1} | {:.1} | {:.1} | {:.2} | {grown} |",
-        image.len() / 1_000_000, t.port.0, t.port.1, t.rust.0, t.rust.1, t.copy.0, t.copy.1, t.port.0 / t.rust.0
+        "| {name} | {seconds} | {:.1} | {:.1} | {:.1} | {:.1} | {:.1} | {:.1} | {:.1} | {:.2} | {:.2} | {grown} |",
+        image.len() as f64 / 1e6, t.port.0, t.port.1, t.rust.0, t.rust.1, t.copy.0, t.copy.1, t.port.0 / t.rust.0, t.new_port / t.new_rust
     );
     t.port.0
 }
@@ -171,8 +183,8 @@ fn line(name: &str, seconds: &str, image: &[u8], turns: usize, before: Option<f6
 fn framed_line(name: &str, image: &[u8], turns: usize) {
     let t = time(image, turns);
     println!(
-        "| {name} | {} | {:.1} | {:.1} | {:.1} | {:.1} | {:.1} | {:.2} |",
-        image.len() / 1_000_000, t.decided.0, t.port.0, t.port.1, t.rust.0, t.rust.1, t.port.0 / t.rust.0
+        "| {name} | {:.1} | {:.1} | {:.1} | {:.1} | {:.1} | {:.1} | {:.2} | {:.2} |",
+        image.len() as f64 / 1e6, t.decided.0, t.port.0, t.port.1, t.rust.0, t.rust.1, t.port.0 / t.rust.0, t.new_port / t.new_rust
     );
 }
 
@@ -226,7 +238,13 @@ fn further() -> Vec<(&'static str, Load)> {
             let widths = (0..300).map(|i| [1, 2, 3, 5, 8][i % 5]).collect();
             recording(&[Group { widths, ..Group::of(0, 8, 0) }], 60_000 * n, 4 << 20)
         }),
+        ("300 channels of 32 bits, 500 DT that split each record, then 1,000", |n| {
+            recording(&[Group::of(300, 32, 0)], 250 * n, 601)
+        }),
         ("100 MB of signal data", |n| recording(&[Group { signal: 100_000_000 * n as usize, ..Group::of(2, 64, 0) }], 1_000, 4 << 20)),
+        ("1,000 metadata blocks of 250 channels, then 2,000 of 500", |n| described(250 * n as usize)),
+        ("a history of 1,000 FH, then of 2,000", |n| history(1_000 * n as usize)),
+        ("a DL of 100,000 links of 0 that 512 DG use, then of 200,000", |n| zero_links(100_000 * n as usize)),
     ]
 }
 
@@ -244,8 +262,8 @@ fn main() {
         ("300 channels of 16 bits with invalidation bits", &inval[..]),
         ("10 unsorted groups of 30 channels of 32 bits", &unsorted[..]),
     ];
-    println!("| load | s | MB | port best | median | Rust best | median | copy best | median | port / Rust | twice the length |");
-    println!("|---|---|---|---|---|---|---|---|---|---|---|");
+    println!("| load | s | MB | port best | median | Rust best | median | copy best | median | port / Rust | with new memory | twice the length |");
+    println!("|---|---|---|---|---|---|---|---|---|---|---|---|");
     for (name, groups) in loads.iter().filter(|l| l.0.contains(&only)) {
         let once = line(name, "60", &recording(groups, 60_000, 4 << 20), turns, None);
         line(name, "120", &recording(groups, 120_000, 4 << 20), turns, Some(once));
@@ -260,8 +278,8 @@ fn main() {
         line(name, "", &make(2), turns, Some(once));
     }
     println!();
-    println!("| load | MB | port before output | port best | median | Rust best | median | port / Rust |");
-    println!("|---|---|---|---|---|---|---|---|");
+    println!("| load | MB | port before output | port best | median | Rust best | median | port / Rust | with new memory |");
+    println!("|---|---|---|---|---|---|---|---|---|");
     for (name, image) in framed().iter().filter(|l| l.0.contains(&only)) {
         framed_line(name, image, turns);
     }

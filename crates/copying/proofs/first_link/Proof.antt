@@ -11,11 +11,11 @@ use Rattle.copying.proofs.first_link.Statement.{statement}
 use Rattle.copying.proofs.first_link.Tie as tie
 
 abbrev Inv-loop : tie.InvT-loop
-Inv-loop image memo used chain fh a end i₀ i = Chain image memo (copiesIn memo used) fh a i end (firstNew image (copiesIn memo
+Inv-loop image memo index used chain fh a end i₀ i = Chain image memo (copiesIn memo used) fh a i end (firstNew image (copiesIn memo
     used) a (historyLink a (part historyAt chain memo) (copiesIn memo used) fh))
 
 abbrev μ-loop : tie.MeasureT-loop
-μ-loop image memo used chain fh a end i₀ i = end - i
+μ-loop image memo index used chain fh a end i₀ i = end - i
 
 chain-end-requires : tie.Need-chain-end-requires Inv-loop μ-loop
 chain-end-requires c κs = search needs
@@ -33,24 +33,24 @@ sub-if2 : tie.Need-sub-if2 Inv-loop μ-loop
 sub-if2 c = search needs
 
 returns : tie.Need-returns Inv-loop μ-loop
-returns c = history-last (c .before .before .before .before .loop .inv) (c .before .before .before .loop-test .taken) (omega
+returns c = λ t. history-last (c .before .before .before .before .loop .inv) (c .before .before .before .loop-test .taken) (omega
     arith) (omega arith)
 
-add-new-link : tie.Need-add-new-link Inv-loop μ-loop
-add-new-link c = search needs
+add-link-by : tie.Need-add-link-by Inv-loop μ-loop
+add-link-by c = search needs
 
-mul-new-link : tie.Need-mul-new-link Inv-loop μ-loop
-mul-new-link c = search needs
+mul-link-by : tie.Need-mul-link-by Inv-loop μ-loop
+mul-link-by c = search needs
 
-shared-slice-read-new-link : tie.Need-shared-slice-read-new-link Inv-loop μ-loop
-shared-slice-read-new-link c = search needs
+shared-slice-read-link-by : tie.Need-shared-slice-read-link-by Inv-loop μ-loop
+shared-slice-read-link-by c = search needs
 
-new-link-requires : tie.Need-new-link-requires Inv-loop μ-loop
-new-link-requires c κs = search needs
+link-by-requires : tie.Need-link-by-requires Inv-loop μ-loop
+link-by-requires c κs = search needs
 
 returns-2 : tie.Need-returns-2 Inv-loop μ-loop
-returns-2 c = history-next (c .before .before .before .before .before .before .loop .inv) (omega arith) (omega arith)
-    (c .new-link .ensures)
+returns-2 c = λ t. history-next (c .before .before .before .before .before .before .loop .inv) (omega arith) (omega arith)
+    (c .link-by .ensures t)
 
 add-i : tie.Need-add-i Inv-loop μ-loop
 add-i c = search needs
@@ -65,7 +65,7 @@ own-link-requires : tie.Need-own-link-requires Inv-loop μ-loop
 own-link-requires c κs = search needs
 
 returns-3 : tie.Need-returns-3 Inv-loop μ-loop
-returns-3 c = history-end (c .before .before .loop .inv) (omega arith) (c .own-link .ensures)
+returns-3 c = λ t. history-end (c .before .before .loop .inv) (omega arith) (c .own-link .ensures t)
 
 pub first-link-spec : {M : Type 1} → statement M
 first-link-spec =
@@ -79,10 +79,10 @@ first-link-spec =
     shared-slice-read-if1
     sub-if2
     returns
-    add-new-link
-    mul-new-link
-    shared-slice-read-new-link
-    new-link-requires
+    add-link-by
+    mul-link-by
+    shared-slice-read-link-by
+    link-by-requires
     returns-2
     add-i
     loop-less

@@ -9,18 +9,18 @@ kind-at-requires : tie.Need-kind-at-requires
 kind-at-requires c κs = search needs
 
 returns : tie.Need-returns
-returns c = own-lost _ _ _ (c .before .kind-at .ensures) (omega arith)
+returns c = λ t. own-lost _ _ _ (c .before .kind-at .ensures) (omega arith)
 
 link-at-requires : tie.Need-link-at-requires
 link-at-requires c κs = search needs
 
-new-link-requires : tie.Need-new-link-requires
-new-link-requires c κs = search needs
+link-by-requires : tie.Need-link-by-requires
+link-by-requires c κs = search needs
 
 returns-2 : tie.Need-returns-2
-returns-2 c = own-led _ _ _ (c .before .before .before .kind-at .ensures) (λ e. omega arith) (c .before .link-at .ensures)
-    (c .new-link .ensures)
+returns-2 c = λ t. own-led _ _ _ (c .before .before .before .kind-at .ensures) (λ e. omega arith) (c .before .link-at .ensures)
+    (c .link-by .ensures t)
 
 pub own-link-spec : {M : Type 1} → statement M
 own-link-spec =
-    tie.close (tie.spec kind-at-requires returns link-at-requires new-link-requires returns-2)
+    tie.close (tie.spec kind-at-requires returns link-at-requires link-by-requires returns-2)

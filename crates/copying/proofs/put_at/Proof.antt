@@ -21,43 +21,53 @@ put-u64-requires : tie.Need-put-u64-requires
 put-u64-requires c κs = search needs
 
 add-put-links : tie.Need-add-put-links
-add-put-links c = omega (arith,
-    c .before .before .before .before .before .before .before .before .before .before .header-size .ensures, min-le-left 24
-    (length
-    (c .before .before .before .before .before .before .before .before .before .before .before .before .before .before .args .image .now)
-    - c .before .before .before .before .before .before .before .before .before .before .before .before .before .before .args .a))
+add-put-links c = omega (
+  arith,
+  c .before .before .before .before .before .before .before .before .before .before .header-size .ensures,
+  min-le-left 24
+      (length
+      (c .before .before .before .before .before .before .before .before .before .before .before .before .before .before .args .image .now)
+      - c .before .before .before .before .before .before .before .before .before .before .before .before .before .before .args .a),
+)
 
 put-links-requires : tie.Need-put-links-requires
-put-links-requires c κs = omega (arith,
-    c .before .before .before .before .before .before .before .before .before .before .header-size .ensures, min-le-left 24
-    (length
-    (c .before .before .before .before .before .before .before .before .before .before .before .before .before .before .args .image .now)
-    - c .before .before .before .before .before .before .before .before .before .before .before .before .before .before .args .a))
+put-links-requires c κs = omega (
+  arith,
+  c .before .before .before .before .before .before .before .before .before .before .header-size .ensures,
+  min-le-left 24
+      (length
+      (c .before .before .before .before .before .before .before .before .before .before .before .before .before .before .args .image .now)
+      - c .before .before .before .before .before .before .before .before .before .before .before .before .before .before .args .a),
+)
 
 add-put-data : tie.Need-add-put-data
-add-put-data c = omega (arith,
-    c .before .before .before .before .before .before .before .before .before .before .before .before .before .before .header-size .ensures,
-    min-le-left 24 (length
-    (c .before .before .before .before .before .before .before .before .before .before .before .before .before .before .before .before .before .before .args .image .now)
-    - c .before .before .before .before .before .before .before .before .before .before .before .before .before .before .before .before .before .before .args .a))
+add-put-data c = omega (
+  arith,
+  c .before .before .before .before .before .before .before .before .before .before .before .before .before .before .header-size .ensures,
+  min-le-left 24 (length
+      (c .before .before .before .before .before .before .before .before .before .before .before .before .before .before .before .before .before .before .args .image .now)
+      - c .before .before .before .before .before .before .before .before .before .before .before .before .before .before .before .before .before .before .args .a),
+)
 
 put-data-requires : tie.Need-put-data-requires
-put-data-requires c κs = omega (arith,
-    c .before .before .before .before .before .before .before .before .before .before .before .before .before .before .header-size .ensures,
-    min-le-left 24 (length
-    (c .before .before .before .before .before .before .before .before .before .before .before .before .before .before .before .before .before .before .args .image .now)
-    - c .before .before .before .before .before .before .before .before .before .before .before .before .before .before .before .before .before .before .args .a))
+put-data-requires c κs = omega (
+  arith,
+  c .before .before .before .before .before .before .before .before .before .before .before .before .before .before .header-size .ensures,
+  min-le-left 24 (length
+      (c .before .before .before .before .before .before .before .before .before .before .before .before .before .before .before .before .before .before .args .image .now)
+      - c .before .before .before .before .before .before .before .before .before .before .before .before .before .before .before .before .before .before .args .a),
+)
 
 same-length : tie.Need-same-length
 same-length c = search needs
 
 returns : tie.Need-returns
-returns c = at-laid _ _ _ _ _
+returns c = λ t. at-laid _ _ _ _ _
     (c .before .before .before .before .before .before .before .before .before .before .before .before .before .before .before .before .before .header-size .ensures)
     (c .before .before .before .before .before .before .before .before .before .before .before .before .before .before .before .before .more-links .ensures)
     (c .before .before .before .before .before .before .before .before .before .before .before .before .before .before .copy .ensures)
     (c .before .before .before .before .before .before .before .before .before .before .put-u64 .ensures)
-    (c .before .before .before .before .before .before .put-links .ensures) (c .before .before .put-data .ensures)
+    (c .before .before .before .before .before .before .put-links .ensures t) (c .before .before .put-data .ensures)
 
 pub put-at-spec : {M : Type 1} → statement M
 put-at-spec =

@@ -1,7 +1,8 @@
 -- The links that are left, laid over the slice as it is now, give the result; past the end they are lost.
 use Rattle.copying.specs.CopyingLaws.{led-is, links-begin, links-turn, links-end, links-done}
-use Rattle.result.specs.Fill.{newLink, newLinks}
+use Rattle.result.specs.Fill.{newLinks}
 use Rattle.placing.specs.Standing.{copiesIn}
+use Rattle.placing.specs.Index.{Indexes}
 use Rattle.puts.specs.PutLaws.{blit-past}
 use Rattle.base.specs.Blit.{blit}
 use Prim.Native.Nat.{_+_, _*_, _<_}
@@ -13,28 +14,25 @@ use Rattle.copying.proofs.put_links.Statement.{statement}
 use Rattle.copying.proofs.put_links.Tie as tie
 
 abbrev Inv-loop : tie.InvT-loop
-Inv-loop d₀ at image memo used a k zero left₀ i₀ p₀ d left i p =
-    (p < length d) × (length d ≡ length d₀) × (p + 8 ≡ at + 8 * i) × (zero ≡ newLink (copiesIn memo used) 0)
-    × (blit p (newLinks image (copiesIn memo used) left (a + 24 + 8 * i)) d ≡ blit at (newLinks image (copiesIn memo used) k (a +
-        32)) d₀)
+Inv-loop d₀ at image memo index used a k left₀ i₀ p₀ d left i p =
+    (p < length d) × (length d ≡ length d₀) × (p + 8 ≡ at + 8 * i)
+    × (Indexes memo used index → blit p (newLinks image (copiesIn memo used) left (a + 24 + 8 * i)) d
+    ≡ blit at (newLinks image (copiesIn memo used) k (a + 32)) d₀)
 
 abbrev μ-loop : tie.MeasureT-loop
-μ-loop d₀ at image memo used a k zero left₀ i₀ p₀ d left i p = left
+μ-loop d₀ at image memo index used a k left₀ i₀ p₀ d left i p = left
 
 returns : tie.Need-returns Inv-loop μ-loop
-returns c = sym (blit-past _ _ _ (omega arith))
-
-new-link-requires : tie.Need-new-link-requires Inv-loop μ-loop
-new-link-requires c κs = search needs
+returns c = λ t. sym (blit-past _ _ _ (omega arith))
 
 loop-holds : tie.Need-loop-holds Inv-loop μ-loop
-loop-holds c = (omega arith, refl, omega arith, led-is _ _ (c .new-link .ensures), links-begin _ _ _ _ _ _)
+loop-holds c = (omega arith, refl, omega arith, λ t. links-begin _ _ _ _ _ _)
 
 link-at-requires : tie.Need-link-at-requires Inv-loop μ-loop
 link-at-requires c κs = search needs
 
-led-requires : tie.Need-led-requires Inv-loop μ-loop
-led-requires c κs = c .before .before .loop .inv .3
+link-by-requires : tie.Need-link-by-requires Inv-loop μ-loop
+link-by-requires c κs = search needs
 
 put-u64-requires : tie.Need-put-u64-requires Inv-loop μ-loop
 put-u64-requires c κs = search needs
@@ -46,10 +44,8 @@ same-length : tie.Need-same-length Inv-loop μ-loop
 same-length c = search needs
 
 returns-2 : tie.Need-returns-2 Inv-loop μ-loop
-returns-2 c = links-end _ _ _ _ _ _ _ (c .before .before .before .before .before .before .before .loop-test .taken)
-    (c .before .before .before .before .before .before .before .before .loop .inv .4)
-    (c .before .before .before .before .before .before .link-at .ensures)
-    (c .before .before .before .before .before .led .ensures) (c .before .before .before .put-u64 .ensures) (omega arith)
+returns-2 c = λ t. links-end _ _ _ _ _ _ _ (c .before .before .before .before .before .before .before .loop-test .taken) (c .before .before .before .before .before .before .before .before .loop .inv .3 t) (c .before .before .before .before .before .before .link-at .ensures)
+    (led-is _ _ (c .before .before .before .before .before .link-by .ensures t)) (c .before .before .before .put-u64 .ensures) (omega arith)
 
 add-p : tie.Need-add-p Inv-loop μ-loop
 add-p c = search needs
@@ -68,18 +64,15 @@ loop-again c = (
   omega arith,
   omega arith,
   omega arith,
-  c .before .before .before .before .before .before .before .before .loop .inv .3,
-  links-turn _ _ _ _ _ _ _ (c .before .before .before .before .before .before .before .loop-test .taken)
-      (c .before .before .before .before .before .before .before .before .loop .inv .4)
-      (c .before .before .before .before .before .before .link-at .ensures)
-      (c .before .before .before .before .before .led .ensures) (c .before .before .before .put-u64 .ensures),
+  λ t. links-turn _ _ _ _ _ _ _ (c .before .before .before .before .before .before .before .loop-test .taken) (c .before .before .before .before .before .before .before .before .loop .inv .3 t) (c .before .before .before .before .before .before .link-at .ensures) (led-is _ _ (c .before .before .before .before .before .link-by .ensures t))
+      (c .before .before .before .put-u64 .ensures),
 )
 
 same-length-2 : tie.Need-same-length-2 Inv-loop μ-loop
 same-length-2 c = search needs
 
 returns-3 : tie.Need-returns-3 Inv-loop μ-loop
-returns-3 c = links-done _ _ _ _ _ _ (c .before .loop .inv .4) (omega arith)
+returns-3 c = λ t. links-done _ _ _ _ _ _ (c .before .loop .inv .3 t) (omega arith)
 
 pub put-links-spec : {M : Type 1} → statement M
 put-links-spec =
@@ -88,10 +81,9 @@ put-links-spec =
     Inv-loop
     μ-loop
     returns
-    new-link-requires
     loop-holds
     link-at-requires
-    led-requires
+    link-by-requires
     put-u64-requires
     sub-if2
     same-length

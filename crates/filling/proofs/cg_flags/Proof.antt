@@ -1,5 +1,4 @@
 -- The cleared flags, with bit 3 where the master is remote.
-use Prim.Native.Nat.{_-_}
 use Rattle.filling.specs.BlocksLaws.{flags-remote, flags-own}
 use borrow.Author.Needs.{needs}
 use Rattle.filling.proofs.cg_flags.Statement.{statement}

@@ -1,5 +1,4 @@
 -- Bit 12 is taken away, and bit 1 where no invalidation bit is kept.
-use Prim.Native.Nat.{_-_}
 use Rattle.filling.specs.BlocksLaws.{flags-kept, flags-lost}
 use borrow.Author.Needs.{needs}
 use Rattle.filling.proofs.cn_flags.Statement.{statement}

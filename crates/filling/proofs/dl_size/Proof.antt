@@ -1,5 +1,4 @@
 -- No blocks, no DL; else its length, at most wrapped.
-use Prim.Native.Nat.{_-_}
 use native.Mathlib.Omega.{arith}
 use Rattle.filling.specs.BlocksLaws.{dl-none, dl-some}
 use borrow.Author.Needs.{needs}

@@ -1,5 +1,4 @@
 -- Header and links, the master where it is remote, the data.
-use Prim.Native.Nat.{_-_}
 use Rattle.filling.specs.BlocksLaws.{cg-remote, cg-own}
 use borrow.Author.Needs.{needs}
 use Rattle.filling.proofs.put_cg.Statement.{statement}

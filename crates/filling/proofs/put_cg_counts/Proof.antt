@@ -1,5 +1,4 @@
 -- Fields, one after the other, and the part that is kept.
-use Prim.Native.Nat.{_-_}
 use native.Mathlib.Omega.{arith}
 use lib.ListN.{length-append}
 use Rattle.base.specs.FieldLaws.{length-le}

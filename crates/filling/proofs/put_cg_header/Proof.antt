@@ -1,5 +1,4 @@
 -- With a master the CG has a seventh link.
-use Prim.Native.Nat.{_-_}
 use Rattle.filling.specs.Blocks.{cgHeader}
 use borrow.Author.Needs.{needs}
 use Rattle.filling.proofs.put_cg_header.Statement.{statement}

@@ -1,5 +1,4 @@
 -- Flags, zeros and the kept parts, one after the other.
-use Prim.Native.Nat.{_-_}
 use native.Mathlib.Omega.{arith}
 use lib.ListN.{length-append}
 use Rattle.base.specs.FieldLaws.{length-le}

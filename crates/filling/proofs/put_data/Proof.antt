@@ -1,5 +1,4 @@
 -- Where the data begins past the image there is nothing to copy; else it begins where the code says.
-use Prim.Native.Nat.{_-_}
 use native.Mathlib.Omega.{arith}
 use Rattle.filling.specs.BlocksLaws.{laid-none, laid-part}
 use borrow.Author.Needs.{needs}

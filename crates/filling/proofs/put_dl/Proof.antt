@@ -1,5 +1,4 @@
 -- Header, links and data, one after the other; lengths have at most wrapped.
-use Prim.Native.Nat.{_-_}
 use Rattle.filling.specs.BlocksLaws.{dl-laid}
 use borrow.Author.Needs.{needs}
 use Rattle.filling.proofs.put_dl.Statement.{statement}

@@ -1,5 +1,4 @@
 -- The data that there is, up to 32 bytes, and zeros for the rest.
-use Prim.Native.Nat.{_-_}
 use Rattle.filling.specs.BlocksLaws.{hd-laid}
 use borrow.Author.Needs.{needs}
 use Rattle.filling.proofs.put_hd_data.Statement.{statement}

@@ -1,6 +1,6 @@
 -- The links that are left, laid over the slice as it is now, give the result; past the end they are lost.
 use mathlib.Core.Path.{_≡_, sym}
-use Prim.Native.Nat.{_-_, _<_}
+use Prim.Native.Nat.{_<_}
 use native.Mathlib.Omega.{arith}
 use lib.ListN.{length}
 use Rattle.base.specs.Blit.{blit}

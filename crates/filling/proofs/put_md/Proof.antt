@@ -1,6 +1,5 @@
 -- Header, text and zeros, one after the other; the length has at most wrapped.
 use mathlib.Core.Path.{refl}
-use Prim.Native.Nat.{_-_}
 use Rattle.filling.specs.BlocksLaws.{md-laid}
 use borrow.Author.Needs.{needs}
 use Rattle.filling.proofs.put_md.Statement.{statement}

@@ -1,6 +1,5 @@
 -- Past the end nothing is stored.
 use mathlib.Core.Path.{sym}
-use Prim.Native.Nat.{_-_}
 use native.Mathlib.Omega.{arith}
 use Rattle.puts.specs.PutLaws.{blit-past}
 use borrow.Author.Needs.{needs}

@@ -1,5 +1,4 @@
 -- Four fields, one after the other.
-use Prim.Native.Nat.{_-_}
 use lib.ListN.{length-append}
 use Rattle.base.specs.BlitLaws.{blit-append}
 use Rattle.base.specs.FieldLaws.{length-le}

@@ -1,6 +1,5 @@
 -- What is left to lay over the slice, laid over it as it is now, gives the result; past the end nothing changes.
 use mathlib.Core.Path.{_≡_, sym, _∙_}
-use Prim.Native.Nat.{_-_}
 use Rattle.base.specs.Blit.{blit}
 use Rattle.base.specs.Field.{le}
 use Rattle.puts.specs.PutLaws.{blit-past, le-turn}

@@ -1,5 +1,4 @@
 -- Near the end the bytes are stored one by one; else the part from the index on is lent whole.
-use Prim.Native.Nat.{_-_}
 use Rattle.puts.specs.PutLaws.{lent-is}
 use borrow.Author.Needs.{needs}
 use Rattle.puts.proofs.put_u16.Statement.{statement}

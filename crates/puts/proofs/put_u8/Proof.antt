@@ -1,6 +1,5 @@
 -- Past the end nothing is stored; inside, the one store is the blit.
 use mathlib.Core.Path.{refl, sym}
-use Prim.Native.Nat.{_-_}
 use Rattle.base.specs.Blit.{blit}
 use Rattle.base.specs.Field.{le}
 use Rattle.puts.specs.PutLaws.{blit-past}

@@ -1,6 +1,5 @@
 -- The stores, the lowest byte first, are the blit of the field.
 use mathlib.Core.Path.{refl}
-use Prim.Native.Nat.{_-_}
 use Rattle.base.specs.Blit.{blit}
 use Rattle.base.specs.Field.{le}
 use lib.ListN.{length-set}

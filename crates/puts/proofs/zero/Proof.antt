@@ -1,6 +1,5 @@
 -- The zeros that have room are all that count.
 use mathlib.Core.Path.{sym, _∙_}
-use Prim.Native.Nat.{_-_}
 use Rattle.puts.specs.PutLaws.{blit-past, zero-clip}
 use native.Mathlib.Omega.{arith}
 use borrow.Author.Needs.{needs}

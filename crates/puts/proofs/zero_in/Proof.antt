@@ -1,6 +1,6 @@
 -- The zeros that are left, laid over the slice as it is now, give the result.
 use mathlib.Core.Path.{_≡_}
-use Prim.Native.Nat.{_+_, _-_, _≤_}
+use Prim.Native.Nat.{_+_, _≤_}
 use Rattle.base.specs.Blit.{blit}
 use Rattle.puts.specs.PutLaws.{zero-turn}
 use lib.ListN.{length, length-set, replicate}

@@ -1,14 +1,9 @@
 -- A refusal's numbers, or the report's.
 use Rattle.sitaungo.specs.AnswerLaws.{exported-as}
 use Rattle.sitaungo.specs.ReadableLaws.{readable-by}
-use native.Mathlib.Omega.{arith}
-use lib.ListN.{length, length-set}
 use borrow.Author.Needs.{needs}
 use Rattle.sitaungo.proofs.sitaungo_convert_with.Statement.{statement}
 use Rattle.sitaungo.proofs.sitaungo_convert_with.Tie as tie
-use Rattle.sitaungo.proofs.sitaungo_convert_with.Reads as reads
-use Rattle.sitaungo.proofs.sitaungo_convert_with.Lts as lts
-use Rattle.writing.proofs.convert.convert.Reads as convert-reads
 
 are-bytes-requires : tie.Need-are-bytes-requires
 are-bytes-requires c κs = search needs

@@ -113,7 +113,7 @@ impl Maker<'_> {
         self.draft.add(*b"CN", links, data)
     }
 
-    fn channel_data(&mut self, kind: u8, g: &Group) -> Vec<u8> {
+    pub fn channel_data(&mut self, kind: u8, g: &Group) -> Vec<u8> {
         let (byte, bit, bits) = self.extent(kind, g.samples);
         let flags = if g.inval > 0 { self.random.pick(&[0, 2, 2, 2, 3, 0x1002]) } else { self.random.pick(&[0, 0, 0, 1, 2, 0x1000]) };
         let position = self.random.below(8 * g.inval + 3) as u32;

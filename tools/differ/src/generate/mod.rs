@@ -1,4 +1,5 @@
 //! Whole recordings made from random numbers: mostly sound, and now and then with one of the faults that only the whole can have.
+mod bus;
 mod data;
 mod groups;
 mod limits;
@@ -19,8 +20,19 @@ pub fn image(random: &mut Random) -> Image {
         return limits::image(random);
     }
     let draft = Maker::new(random).recording();
-    draft.place_anyhow(random)
+    let image = draft.place_anyhow(random);
+    let sum = image.bytes.iter().map(|&b| b as u64).sum::<u64>();
+    if image.bytes.len() < LONG || sum % 8 > 0 {
+        return image;
+    }
+    // numbers of its own, so that all other images of a seed stay as they are
+    let mut own = Random::of(sum, image.bytes.len() as u64);
+    let draft = Maker::new(&mut own).bus();
+    draft.place_anyhow(&mut own)
 }
+
+/// Some images of at least so many bytes give way to recordings of many groups.
+const LONG: usize = 7_000;
 
 /// A recording being made.
 pub struct Maker<'a> {

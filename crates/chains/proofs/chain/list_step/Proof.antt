@@ -1,5 +1,5 @@
 -- The refusal of the check is passed on, then that of the list; else the first link is next.
-use Rattle.chains.specs.TurnLaws.{list-for, dl-refused, dl-stop, dl-next}
+use Rattle.chains.specs.TurnLaws.{list-for, list-lies, dl-refused, dl-stop, dl-next}
 use borrow.Author.Needs.{needs}
 use Rattle.chains.proofs.chain.list_step.Statement.{statement}
 use Rattle.chains.proofs.chain.list_step.Tie as tie
@@ -23,7 +23,7 @@ first-link-requires : tie.Need-first-link-requires
 first-link-requires c κs = search needs
 
 list-requires : tie.Need-list-requires
-list-requires c κs = search needs
+list-requires c κs = list-lies (c .before .before .before .before .before .before .before .before .args .file) _ _ _ (list-for (c .before .before .before .before .before .before .before .before .args .file) _ _ _ (c .before .before .before .before .before .dl-bytes .ensures) (c .before .before .before .before .list-in .ensures)) (c .before .before .enum-told .given .1)
 
 enum-known-all : tie.Need-enum-known-all
 enum-known-all c = search needs

@@ -4,12 +4,9 @@ use Prim.Native.Nat.{_+_, _-_}
 use native.Mathlib.Nat.{div-mul-le-self}
 use native.Mathlib.Omega.{arith}
 use Rattle.plan.specs.Geometry.{alignTo}
-use lib.ListN.{length, length-set}
 use borrow.Author.Needs.{needs}
 use Rattle.placing.proofs.columns.aligned_to.Statement.{statement}
 use Rattle.placing.proofs.columns.aligned_to.Tie as tie
-use Rattle.placing.proofs.columns.aligned_to.Reads as reads
-use Rattle.placing.proofs.columns.aligned_to.Lts as lts
 
 sub-result : tie.Need-sub-result
 sub-result c = search needs

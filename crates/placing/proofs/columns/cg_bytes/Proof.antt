@@ -1,7 +1,6 @@
 -- A CG has a seventh link where it has a master.
 use Rattle.placing.specs.InWordsLaws.{cg-yes, cg-no}
 use native.Mathlib.Omega.{arith}
-use borrow.Author.Needs.{needs}
 use Rattle.placing.proofs.columns.cg_bytes.Statement.{statement}
 use Rattle.placing.proofs.columns.cg_bytes.Tie as tie
 

@@ -1,19 +1,25 @@
 -- What is left of the columns gives what all of them give.
 use Rattle.placing.specs.InWordsLaws.{CopyingOf, copying-begin, copying-end, copying-refused, copying-next}
+use Rattle.placing.specs.TurnLaws.{indexed-at}
+use Rattle.placing.specs.Index.{Indexed}
 use native.Mathlib.Omega.{arith}
 use borrow.Author.Needs.{needs}
 use Rattle.placing.proofs.columns.copy_columns.Statement.{statement}
 use Rattle.placing.proofs.columns.copy_columns.Tie as tie
 
 abbrev Inv-loop : tie.InvT-loop
-Inv-loop image columns n memo₀ p₀ left₀ st₀ memo p left st = CopyingOf image columns n memo₀ st₀ memo p left st
+Inv-loop image columns n memo₀ index₀ p₀ left₀ st₀ memo index p left st =
+    CopyingOf image columns n memo₀ st₀ memo p left st × Indexed memo (st .used) index
 
 abbrev μ-loop : tie.MeasureT-loop
-μ-loop image columns n memo₀ p₀ left₀ st₀ memo p left st = left
+μ-loop image columns n memo₀ index₀ p₀ left₀ st₀ memo index p left st = left
 
 loop-holds : tie.Need-loop-holds Inv-loop μ-loop
-loop-holds c = copying-begin _ _ _ _ _ (c .before .before .before .pre .0) (c .before .before .before .pre .1)
-    (c .before .before .before .pre .2)
+loop-holds c = (
+  copying-begin _ _ _ _ _ (c .before .before .before .pre .0) (c .before .before .before .pre .1)
+      (c .before .before .before .pre .2),
+  c .before .before .before .pre .3,
+)
 
 add-word : tie.Need-add-word Inv-loop μ-loop
 add-word c = search needs
@@ -43,13 +49,16 @@ same-length : tie.Need-same-length Inv-loop μ-loop
 same-length c = search needs
 
 returns : tie.Need-returns Inv-loop μ-loop
-returns c = (copying-refused
-    (c .before .before .before .before .before .before .before .before .before .before .before .loop .inv)
-    (c .before .before .before .before .before .before .before .before .before .before .loop-test .taken)
-    (c .before .before .before .before .before .before .before .before .before .word .ensures)
-    (c .before .before .before .before .before .before .before .before .word2 .ensures)
-    (c .before .before .before .before .before .before .before .word3 .ensures)
-    (c .before .before .before .before .before .column-roots .ensures .0) (c .before .got2 .given .1), tt)
+returns c = (
+  copying-refused
+      (c .before .before .before .before .before .before .before .before .before .before .before .before .loop .inv .0)
+      (c .before .before .before .before .before .before .before .before .before .before .before .loop-test .taken)
+      (c .before .before .before .before .before .before .before .before .before .before .word .ensures)
+      (c .before .before .before .before .before .before .before .before .before .word2 .ensures)
+      (c .before .before .before .before .before .before .before .before .word3 .ensures)
+      (c .before .before .before .before .before .column-roots .ensures .0) (c .before .got2 .given .1),
+  (tt, tt),
+)
 
 add-p : tie.Need-add-p Inv-loop μ-loop
 add-p c = search needs
@@ -61,21 +70,24 @@ loop-less : tie.Need-loop-less Inv-loop μ-loop
 loop-less c = search needs
 
 loop-again : tie.Need-loop-again Inv-loop μ-loop
-loop-again c = copying-next
-    (c .before .before .before .before .before .before .before .before .before .before .before .loop .inv)
-    (c .before .before .before .before .before .before .before .before .before .before .loop-test .taken)
-    (c .before .before .before .before .before .before .before .before .before .word .ensures)
-    (c .before .before .before .before .before .before .before .before .word2 .ensures)
-    (c .before .before .before .before .before .before .before .word3 .ensures)
-    (c .before .before .before .before .before .column-roots .ensures .0)
-    (c .before .before .before .before .before .column-roots .ensures .1) (c .before .got .given .1)
-    (c .before .before .before .before .before .column-roots .kept .1 .0)
+loop-again c = (
+  copying-next
+      (c .before .before .before .before .before .before .before .before .before .before .before .before .loop .inv .0)
+      (c .before .before .before .before .before .before .before .before .before .before .before .loop-test .taken)
+      (c .before .before .before .before .before .before .before .before .before .before .word .ensures)
+      (c .before .before .before .before .before .before .before .before .before .word2 .ensures)
+      (c .before .before .before .before .before .before .before .before .word3 .ensures)
+      (c .before .before .before .before .before .column-roots .ensures .0)
+      (c .before .before .before .before .before .column-roots .ensures .1 .0) (c .before .got .given .1)
+      (c .before .before .before .before .before .column-roots .kept .1 .0),
+  indexed-at (c .before .before .before .before .before .column-roots .ensures .1 .1) (c .before .got .given .1),
+)
 
 same-length-2 : tie.Need-same-length-2 Inv-loop μ-loop
 same-length-2 c = search needs
 
 returns-2 : tie.Need-returns-2 Inv-loop μ-loop
-returns-2 c = (copying-end (c .before .loop .inv) (omega arith), c .before .loop .inv .held .after)
+returns-2 c = (copying-end (c .before .loop .inv .0) (omega arith), (c .before .loop .inv .0 .held .after, c .before .loop .inv .1))
 
 pub copy-columns-spec : {M : Type 1} → statement M
 copy-columns-spec =

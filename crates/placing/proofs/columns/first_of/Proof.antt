@@ -1,14 +1,8 @@
 -- Without blocks nothing moves; else the next multiple.
 use Rattle.placing.specs.InWordsLaws.{first-none, first-some}
-use native.Mathlib.Omega.{arith}
-use lib.ListN.{length, length-set}
 use borrow.Author.Needs.{needs}
 use Rattle.placing.proofs.columns.first_of.Statement.{statement}
 use Rattle.placing.proofs.columns.first_of.Tie as tie
-use Rattle.placing.proofs.columns.first_of.Reads as reads
-use Rattle.placing.proofs.columns.first_of.Lts as lts
-use Rattle.placing.proofs.columns.aligned_to.Reads as aligned-to-reads
-use Rattle.placing.proofs.columns.blocks_at.Reads as blocks-at-reads
 
 blocks-at-requires : tie.Need-blocks-at-requires
 blocks-at-requires c κs = search needs

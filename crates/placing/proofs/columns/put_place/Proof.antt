@@ -2,7 +2,7 @@
 use Rattle.placing.specs.AttachingLaws.{three-stores}
 use mathlib.Core.Path.{refl}
 use native.Mathlib.Omega.{arith}
-use lib.ListN.{length, length-set}
+use lib.ListN.{length-set}
 use borrow.Author.Needs.{needs}
 use Rattle.placing.proofs.columns.put_place.Statement.{statement}
 use Rattle.placing.proofs.columns.put_place.Tie as tie

@@ -1,14 +1,8 @@
 -- Without signal data nothing moves; else the next multiple.
 use Rattle.placing.specs.InWordsLaws.{sd-none, sd-some}
-use native.Mathlib.Omega.{arith}
-use lib.ListN.{length, length-set}
 use borrow.Author.Needs.{needs}
 use Rattle.placing.proofs.columns.sd_of.Statement.{statement}
 use Rattle.placing.proofs.columns.sd_of.Tie as tie
-use Rattle.placing.proofs.columns.sd_of.Reads as reads
-use Rattle.placing.proofs.columns.sd_of.Lts as lts
-use Rattle.placing.proofs.columns.aligned_to.Reads as aligned-to-reads
-use Rattle.placing.proofs.columns.word.Reads as word-reads
 
 add-word : tie.Need-add-word
 add-word c = search needs

@@ -1,7 +1,6 @@
 -- No SD without signal data; else its bytes, by the words.
 use Rattle.placing.specs.InWordsLaws.{signal-none, signal-by, signal-some}
 use native.Mathlib.Omega.{arith}
-use Prim.Native.Nat.{_≤_}
 use borrow.Author.Needs.{needs}
 use Rattle.placing.proofs.columns.signal_end.Statement.{statement}
 use Rattle.placing.proofs.columns.signal_end.Tie as tie

@@ -6,7 +6,8 @@ use borrow.Fn.Kinds.{In}
 use borrow.Fn.PlainCycle.{Measures, is, falls, and}
 use Rattle.fields.proofs.u64_at.Reads as u64-at-reads
 use Rattle.blocks.proofs.block.size_at.Reads as size-at-reads
-use Rattle.placing.specs.TurnLaws.{Turn, turn-begin, turn-next, so-begun, copy-nothing, copy-refused, copy-stopped, copy-done, Started, started}
+use Rattle.placing.specs.TurnLaws.{indexed-at, Turn, turn-begin, turn-next, so-begun, copy-nothing, copy-refused, copy-stopped, copy-done, Started, started}
+use Rattle.placing.specs.Index.{Indexed}
 use Rattle.placing.proofs.copier.copy.Reads as copy
 use Rattle.placing.proofs.copier.copy.Kinds as copy-kinds
 use Rattle.placing.proofs.copier.+copy.Lts-copy as copy-lts
@@ -17,14 +18,14 @@ use Rattle.placing.proofs.memo.place.Reads as place-reads
 use Rattle.placing.proofs.copier.+copy.{statement}
 use Rattle.placing.proofs.copier.+copy.Tie.{close}
 
-abbrev μ-copy : Measures 2 copy-kinds.ps ℕ
-μ-copy κs a = a .1 .1 .1 .1 .0
+abbrev μ-copy : Measures 3 copy-kinds.ps ℕ
+μ-copy κs a = a .1 .1 .1 .1 .1 .0
 
-abbrev copy-at : ℕ → In 2 copy-kinds.ps
-copy-at t = and 2 copy-kinds.ps (is 2 copy-kinds.ps μ-copy t) copy.Pre
+abbrev copy-at : ℕ → In 3 copy-kinds.ps
+copy-at t = and 3 copy-kinds.ps (is 3 copy-kinds.ps μ-copy t) copy.Pre
 
-abbrev copy-below : ℕ → In 2 copy-kinds.ps
-copy-below t = and 2 copy-kinds.ps (falls 2 copy-kinds.ps _<_ μ-copy t) copy.Pre
+abbrev copy-below : ℕ → In 3 copy-kinds.ps
+copy-below t = and 3 copy-kinds.ps (falls 3 copy-kinds.ps _<_ μ-copy t) copy.Pre
 
 abbrev told : ℕ → copy-lts.Claims
 told t = (
@@ -45,11 +46,11 @@ told t = (
 )
 
 abbrev copy-Inv-loop : copy-lts.InvT-loop
-copy-Inv-loop image memo₀ a left used down links₀ p₀ st₀ memo links p st = Turn left image down memo₀ links₀ p₀ st₀ memo links p
-    st
+copy-Inv-loop image memo₀ index₀ a left used down links₀ p₀ st₀ memo index links p st =
+    Turn left image down memo₀ links₀ p₀ st₀ memo links p st × Indexed memo (st .used) index
 
 abbrev copy-μ-loop : copy-lts.MeasureT-loop
-copy-μ-loop image memo₀ a left used down links₀ p₀ st₀ memo links p st = links
+copy-μ-loop image memo₀ index₀ a left used down links₀ p₀ st₀ memo index links p st = links
 
 copy-slice-aggregate-begin : (t : ℕ) → copy-lts.Need-slice-aggregate-begin (told t) (copy-at t) copy.Post copy-Inv-loop
     copy-μ-loop
@@ -66,9 +67,11 @@ copy-same-length t c = search needs
 
 copy-returns : (t : ℕ) → copy-lts.Need-returns (told t) (copy-at t) copy.Post copy-Inv-loop copy-μ-loop
 copy-returns t c =
-    let a = c .before .before .before .before .before .before .before .args in
-    copy-nothing (a .left) (a .image .now) _ (a .a) (a .memo .now) (a .state) (so-begun (c .before .before .begin .ensures)
-        (c .enum-told .given .1))
+    let a = c .before .before .before .before .before .before .before .before .args in (
+      copy-nothing (a .left) (a .image .now) _ (a .a) (a .memo .now) (a .state) (so-begun (c .before .before .begin .ensures)
+          (c .enum-told .given .1)),
+      c .before .before .before .before .before .before .before .before .pre .1 .4,
+    )
 
 copy-enum-known-begun : (t : ℕ) → copy-lts.Need-enum-known-begun (told t) (copy-at t) copy.Post copy-Inv-loop copy-μ-loop
 copy-enum-known-begun t c = search needs
@@ -78,26 +81,28 @@ copy-same-length-2 t c = search needs
 
 copy-returns-2 : (t : ℕ) → copy-lts.Need-returns-2 (told t) (copy-at t) copy.Post copy-Inv-loop copy-μ-loop
 copy-returns-2 t c =
-    let a = c .before .before .before .before .before .before .before .before .args in
-    copy-refused (a .left) (a .image .now) _ (a .a) (a .memo .now) (a .state) (so-begun
-        (c .before .before .before .begin .ensures) (c .before .begun .given .1))
+    let a = c .before .before .before .before .before .before .before .before .before .args in (
+      copy-refused (a .left) (a .image .now) _ (a .a) (a .memo .now) (a .state) (so-begun
+          (c .before .before .before .begin .ensures) (c .before .begun .given .1)),
+      tt,
+    )
 
 copy-enum-told-2 : (t : ℕ) → copy-lts.Need-enum-told-2 (told t) (copy-at t) copy.Post copy-Inv-loop copy-μ-loop
 copy-enum-told-2 t c = search needs
 
 -- where the links are to be followed
 at-links : (t : ℕ) (c : copy-lts.After-enum-told2 (told t) (copy-at t) copy.Post copy-Inv-loop copy-μ-loop)
-    → Started (c .before .before .before .before .before .before .before .args .left)
-        (c .before .before .before .before .before .before .before .args .image .now)
-        (c .before .before .before .before .before .before .before .args .t3)
-        (c .before .before .before .before .before .before .before .args .a)
-        (c .before .before .before .before .before .before .before .args .memo .now)
-        (c .before .before .before .before .before .before .before .args .state)
+    → Started (c .before .before .before .before .before .before .before .before .args .left)
+    (c .before .before .before .before .before .before .before .before .args .image .now)
+    (c .before .before .before .before .before .before .before .before .args .t4)
+    (c .before .before .before .before .before .before .before .before .args .a)
+    (c .before .before .before .before .before .before .before .before .args .memo .now)
+    (c .before .before .before .before .before .before .before .before .args .state)
 at-links t c =
-    let a = c .before .before .before .before .before .before .before .args in
-    let h = c .before .before .before .before .before .before .before .pre .1 in
-    started (a .left) (a .image .now) (a .t3) (a .a) (a .memo .now) (a .state) (c .before .before .begin .ensures)
-        (c .enum-told2 .given .1) (omega arith)
+    let a = c .before .before .before .before .before .before .before .before .args in
+    let h = c .before .before .before .before .before .before .before .before .pre .1 in
+    started (a .left) (a .image .now) (a .t4) (a .a) (a .memo .now) (a .state) (c .before .before .begin .ensures)
+    (c .enum-told2 .given .1) (omega arith)
     (h .1) (h .0) (h .3)
 
 copy-sub-down : (t : ℕ) → copy-lts.Need-sub-down (told t) (copy-at t) copy.Post copy-Inv-loop copy-μ-loop
@@ -127,16 +132,19 @@ copy-add-p-2 t c = let u = at-links t (c .before .before) in omega arith
 copy-loop-holds : (t : ℕ) → copy-lts.Need-loop-holds (told t) (copy-at t) copy.Post copy-Inv-loop copy-μ-loop
 copy-loop-holds t c =
     let u = at-links t (c .before .before) in
-    turn-begin _ _ _ _ _ _ _ (omega arith) (u .deep) (u .few) (u .room)
+    (turn-begin _ _ _ _ _ _ _ (omega arith) (u .deep) (u .few) (u .room), c .before .before .before .before .before .before .before .before .before .before .pre .1 .4)
 
 copy-u64-at-requires : (t : ℕ) → copy-lts.Need-u64-at-requires (told t) (copy-at t) copy.Post copy-Inv-loop copy-μ-loop
 copy-u64-at-requires t c κs = search needs
 
 copy-sub-copy : (t : ℕ) → copy-lts.Need-sub-copy (told t) (copy-at t) copy.Post copy-Inv-loop copy-μ-loop
-copy-sub-copy t c = let u = at-links t (c .before .before .before .before .before .before) in omega arith
+copy-sub-copy t c = let u = at-links t (c .before .before .before .before .before .before .before) in omega arith
 
 copy-copy-requires : (t : ℕ) → copy-lts.Need-copy-requires (told t) (copy-at t) copy.Post copy-Inv-loop copy-μ-loop
-copy-copy-requires t c κs = let u = at-links t (c .before .before .before .before .before .before) in search needs
+copy-copy-requires t c κs =
+    let u = at-links t (c .before .before .before .before .before .before .before) in
+    let v = c .before .before .before .before .loop .inv .0 in
+    (omega arith, (omega arith, omega arith, omega arith, v .room, c .before .before .before .before .loop .inv .1))
 
 copy-enum-known-got : (t : ℕ) → copy-lts.Need-enum-known-got (told t) (copy-at t) copy.Post copy-Inv-loop copy-μ-loop
 copy-enum-known-got t c = search needs
@@ -149,16 +157,18 @@ copy-same-length-3 t c = search needs
 
 copy-returns-3 : (t : ℕ) → copy-lts.Need-returns-3 (told t) (copy-at t) copy.Post copy-Inv-loop copy-μ-loop
 copy-returns-3 t c =
-    let u = at-links t (c .before .before .before .before .before .before .before .before .before .before .before .before) in
-    copy-stopped _ _ (c .before .before .before .before .before .before .before .before .before .loop .inv) (u .begins) (u .down)
-        (c .before .before .before .before .before .before .before .before .before .before .before .links-left .ensures) (omega
-        (arith, c .before .before .before .before .before .before .before .before .before .before .lost-links .ensures))
-        (c .before .before .before .before .before .before .before .before .loop-test .taken)
-        (c .before .before .before .before .before .copy .ensures) (c .before .got2 .given .1)
-        (c .before .before .before .before .before .before .before .u64-at .ensures .is)
+    let u = at-links t (c .before .before .before .before .before .before .before .before .before .before .before .before .before) in (
+      copy-stopped _ _ (c .before .before .before .before .before .before .before .before .before .before .loop .inv .0) (u .begins) (u .down)
+          (c .before .before .before .before .before .before .before .before .before .before .before .before .links-left .ensures) (omega
+          (arith, c .before .before .before .before .before .before .before .before .before .before .before .lost-links .ensures))
+          (c .before .before .before .before .before .before .before .before .before .loop-test .taken)
+          (c .before .before .before .before .before .copy .ensures .0) (c .before .got2 .given .1)
+          (c .before .before .before .before .before .before .before .before .u64-at .ensures .is),
+      tt,
+    )
 
 copy-add-p-3 : (t : ℕ) → copy-lts.Need-add-p-3 (told t) (copy-at t) copy.Post copy-Inv-loop copy-μ-loop
-copy-add-p-3 t c = search needs
+copy-add-p-3 t c = let g = c .before .before .before .before .before .before .before .before .before .before .before .before .before .before .before .before .before .before .before .before .before .good .0 in let u = c .before .before .before .before .before .before .before .before .before .before .loop .inv .0 .lies in search needs
 
 copy-sub-links : (t : ℕ) → copy-lts.Need-sub-links (told t) (copy-at t) copy.Post copy-Inv-loop copy-μ-loop
 copy-sub-links t c = search needs
@@ -167,30 +177,39 @@ copy-loop-less : (t : ℕ) → copy-lts.Need-loop-less (told t) (copy-at t) copy
 copy-loop-less t c = search needs
 
 copy-loop-again : (t : ℕ) → copy-lts.Need-loop-again (told t) (copy-at t) copy.Post copy-Inv-loop copy-μ-loop
-copy-loop-again t c =
-    turn-next (c .before .before .before .before .before .before .before .before .before .loop .inv)
-        (c .before .before .before .before .before .before .before .before .loop-test .taken)
-        (c .before .before .before .before .before .copy .ensures) (c .before .got .given .1)
-        (c .before .before .before .before .before .before .before .u64-at .ensures .is)
-        (c .before .before .before .before .before .copy .kept .1 .0)
+copy-loop-again t c = (
+  turn-next (c .before .before .before .before .before .before .before .before .before .before .loop .inv .0)
+      (c .before .before .before .before .before .before .before .before .before .loop-test .taken)
+      (c .before .before .before .before .before .copy .ensures .0) (c .before .got .given .1)
+      (c .before .before .before .before .before .before .before .before .u64-at .ensures .is)
+      (c .before .before .before .before .before .copy .kept .1 .0),
+  indexed-at (c .before .before .before .before .before .copy .ensures .1) (c .before .got .given .1),
+)
 
 copy-size-at-requires : (t : ℕ) → copy-lts.Need-size-at-requires (told t) (copy-at t) copy.Post copy-Inv-loop copy-μ-loop
 copy-size-at-requires t c κs = search needs
 
 copy-place-requires : (t : ℕ) → copy-lts.Need-place-requires (told t) (copy-at t) copy.Post copy-Inv-loop copy-μ-loop
-copy-place-requires t c κs = let u = at-links t (c .before .before .before .before .before .before) in search needs
+copy-place-requires t c κs =
+    let u = at-links t (c .before .before .before .before .before .before .before) in
+    let v = c .before .before .before .before .loop .inv .0 in
+    (omega arith, omega arith, v .room, omega (arith, c .before .before .size-at .ensures), c .before .before .before .before .loop .inv .1)
 
 copy-same-length-4 : (t : ℕ) → copy-lts.Need-same-length-4 (told t) (copy-at t) copy.Post copy-Inv-loop copy-μ-loop
 copy-same-length-4 t c = search needs
 
 copy-returns-4 : (t : ℕ) → copy-lts.Need-returns-4 (told t) (copy-at t) copy.Post copy-Inv-loop copy-μ-loop
 copy-returns-4 t c =
-    let u = at-links t (c .before .before .before .before .before .before .before .before .before) in
-    copy-done _ _ (c .before .before .before .before .before .before .loop .inv) (u .begins) (u .down)
-        (c .before .before .before .before .before .before .before .before .links-left .ensures) (omega (arith,
-        c .before .before .before .before .before .before .before .lost-links .ensures)) (omega arith)
-        (c .before .before .before .before .size-at .ensures) (c .before .before .place .ensures .0)
-        (c .before .before .place .ensures .1)
+    let u = at-links t (c .before .before .before .before .before .before .before .before .before .before) in (
+      copy-done _ _ (c .before .before .before .before .before .before .before .loop .inv .0) (u .begins) (u .down)
+          (c .before .before .before .before .before .before .before .before .before .links-left .ensures) (omega (
+            arith,
+            c .before .before .before .before .before .before .before .before .lost-links .ensures,
+          )) (omega arith)
+          (c .before .before .before .before .before .size-at .ensures) (c .before .before .place .ensures .0)
+          (c .before .before .place .ensures .1 .0),
+      c .before .before .place .ensures .1 .1,
+    )
 
 pub +copy-spec : {M : Type 1} → statement M
 +copy-spec = close μ-copy λ t. copy-lts.spec (told t)

@@ -11,14 +11,14 @@ use Rattle.placing.proofs.copier.begin.Tie as tie
 returns : tie.Need-returns
 returns c = begin-none _ _ _ _ _ (c .if1 .taken)
 
-find-requires : tie.Need-find-requires
-find-requires c κs = search needs
+find-in-requires : tie.Need-find-in-requires
+find-in-requires c κs = search needs
 
 enum-told : tie.Need-enum-told
 enum-told c = search needs
 
 returns-2 : tie.Need-returns-2
-returns-2 c = begin-found _ _ _ _ _ (c .before .before .before .if1 .left) (so-some (c .before .before .find .ensures)
+returns-2 c = begin-found _ _ _ _ _ (c .before .before .before .if1 .left) (so-some (c .before .before .find-in .ensures (c .before .before .before .before .before .before .before .pre .4))
     (c .enum-told .given .1))
 
 enum-told-2 : tie.Need-enum-told-2
@@ -26,7 +26,7 @@ enum-told-2 c = search needs
 
 returns-3 : tie.Need-returns-3
 returns-3 c = begin-deep _ _ _ _ _ (c .before .before .before .before .if1 .left) (so-none
-    (c .before .before .before .find .ensures) (c .before .enum-told2 .given .1)) (c .if2 .taken)
+    (c .before .before .before .find-in .ensures (c .before .before .before .before .before .before .before .before .pre .4)) (c .before .enum-told2 .given .1)) (c .if2 .taken)
 
 is-in-requires : tie.Need-is-in-requires
 is-in-requires c κs = search needs
@@ -35,8 +35,8 @@ returns-4 : tie.Need-returns-4
 returns-4 c =
     let a = c .before .before .before .before .before .before .before .before .before .before .args in
     begin-circle _ _ _ _ _ (c .before .before .before .before .before .before .if1 .left) (so-none
-        (c .before .before .before .before .before .find .ensures) (c .before .before .before .enum-told2 .given .1))
-        (c .before .before .if2 .left)
+    (c .before .before .before .before .before .find-in .ensures (c .before .before .before .before .before .before .before .before .before .before .pre .4)) (c .before .before .before .enum-told2 .given .1))
+    (c .before .before .if2 .left)
     (on-way (a .way .now) (a .left) 65 (a .a) (omega arith) (c .before .is-in .ensures) (c .if3 .taken))
 
 whole-at-requires : tie.Need-whole-at-requires
@@ -48,13 +48,13 @@ enum-known-whole c = search needs
 returns-5 : tie.Need-returns-5
 returns-5 c =
     let a = c .before .before .before .before .before .before .before .before .before .before .before .before .before .before .args
-        in
+    in
     begin-refused _ _ _ _ _ (c .before .before .before .before .before .before .before .before .before .before .if1 .left)
-        (so-none (c .before .before .before .before .before .before .before .before .before .find .ensures)
-        (c .before .before .before .before .before .before .before .enum-told2 .given .1))
-        (c .before .before .before .before .before .before .if2 .left)
+    (so-none (c .before .before .before .before .before .before .before .before .before .find-in .ensures (c .before .before .before .before .before .before .before .before .before .before .before .before .before .before .pre .4))
+    (c .before .before .before .before .before .before .before .enum-told2 .given .1))
+    (c .before .before .before .before .before .before .if2 .left)
     (on-way (a .way .now) (a .left) 65 (a .a) (omega arith) (c .before .before .before .before .before .is-in .ensures)
-        (c .before .before .before .before .if3 .left))
+    (c .before .before .before .before .if3 .left))
     (so-refused (c .before .before .before .whole-at .ensures) (c .before .whole .given .1))
 
 enum-told-3 : tie.Need-enum-told-3
@@ -75,54 +75,54 @@ add-if5 c = search needs
 returns-6 : tie.Need-returns-6
 returns-6 c =
     let a = c .before .before .before .before .before .before .before .before .before .before .before .before .before .before .before .before .before .args
-        in
+    in
     begin-links _ _ _ _ _
-        (c .before .before .before .before .before .before .before .before .before .before .before .before .before .if1 .left)
-        (so-none
-        (c .before .before .before .before .before .before .before .before .before .before .before .before .find .ensures)
-        (c .before .before .before .before .before .before .before .before .before .before .enum-told2 .given .1))
-        (c .before .before .before .before .before .before .before .before .before .if2 .left)
+    (c .before .before .before .before .before .before .before .before .before .before .before .before .before .if1 .left)
+    (so-none
+    (c .before .before .before .before .before .before .before .before .before .before .before .before .find-in .ensures (c .before .before .before .before .before .before .before .before .before .before .before .before .before .before .before .before .before .pre .4))
+    (c .before .before .before .before .before .before .before .before .before .before .enum-told2 .given .1))
+    (c .before .before .before .before .before .before .before .before .before .if2 .left)
     (on-way (a .way .now) (a .left) 65 (a .a) (omega arith)
-        (c .before .before .before .before .before .before .before .before .is-in .ensures)
-        (c .before .before .before .before .before .before .before .if3 .left)) (so-fine
-        (c .before .before .before .before .before .before .whole-at .ensures)
-        (c .before .before .before .before .enum-told3 .given .1))
+    (c .before .before .before .before .before .before .before .before .is-in .ensures)
+    (c .before .before .before .before .before .before .before .if3 .left)) (so-fine
+    (c .before .before .before .before .before .before .whole-at .ensures)
+    (c .before .before .before .before .enum-told3 .given .1))
     (so-copied (a .image .now) (a .a) (c .before .before .before .kind-at .ensures) (c .before .before .is-copied .ensures)
-        (c .before .if4 .taken))
+    (c .before .if4 .taken))
     (omega (arith, length-copies (a .memo .now) 0 (a .used), length-drop (a .left) (a .way .now)))
 
 returns-7 : tie.Need-returns-7
 returns-7 c =
     let a = c .before .before .before .before .before .before .before .before .before .before .before .before .before .before .before .before .before .args
-        in
+    in
     begin-full _ _ _ _ _
-        (c .before .before .before .before .before .before .before .before .before .before .before .before .before .if1 .left)
-        (so-none
-        (c .before .before .before .before .before .before .before .before .before .before .before .before .find .ensures)
-        (c .before .before .before .before .before .before .before .before .before .before .enum-told2 .given .1))
-        (c .before .before .before .before .before .before .before .before .before .if2 .left)
+    (c .before .before .before .before .before .before .before .before .before .before .before .before .before .if1 .left)
+    (so-none
+    (c .before .before .before .before .before .before .before .before .before .before .before .before .find-in .ensures (c .before .before .before .before .before .before .before .before .before .before .before .before .before .before .before .before .before .pre .4))
+    (c .before .before .before .before .before .before .before .before .before .before .enum-told2 .given .1))
+    (c .before .before .before .before .before .before .before .before .before .if2 .left)
     (on-way (a .way .now) (a .left) 65 (a .a) (omega arith)
-        (c .before .before .before .before .before .before .before .before .is-in .ensures)
-        (c .before .before .before .before .before .before .before .if3 .left)) (so-fine
-        (c .before .before .before .before .before .before .whole-at .ensures)
-        (c .before .before .before .before .enum-told3 .given .1))
+    (c .before .before .before .before .before .before .before .before .is-in .ensures)
+    (c .before .before .before .before .before .before .before .if3 .left)) (so-fine
+    (c .before .before .before .before .before .before .whole-at .ensures)
+    (c .before .before .before .before .enum-told3 .given .1))
     (so-copied (a .image .now) (a .a) (c .before .before .before .kind-at .ensures) (c .before .before .is-copied .ensures)
-        (c .before .if4 .taken))
+    (c .before .if4 .taken))
     (omega (arith, length-copies (a .memo .now) 0 (a .used), length-drop (a .left) (a .way .now)))
 
 returns-8 : tie.Need-returns-8
 returns-8 c =
     let a = c .before .before .before .before .before .before .before .before .before .before .before .before .before .before .before .before .args
-        in
+    in
     begin-other _ _ _ _ _
-        (c .before .before .before .before .before .before .before .before .before .before .before .before .if1 .left) (so-none
-        (c .before .before .before .before .before .before .before .before .before .before .before .find .ensures)
-        (c .before .before .before .before .before .before .before .before .before .enum-told2 .given .1))
-        (c .before .before .before .before .before .before .before .before .if2 .left)
+    (c .before .before .before .before .before .before .before .before .before .before .before .before .if1 .left) (so-none
+    (c .before .before .before .before .before .before .before .before .before .before .before .find-in .ensures (c .before .before .before .before .before .before .before .before .before .before .before .before .before .before .before .before .pre .4))
+    (c .before .before .before .before .before .before .before .before .before .enum-told2 .given .1))
+    (c .before .before .before .before .before .before .before .before .if2 .left)
     (on-way (a .way .now) (a .left) 65 (a .a) (omega arith)
-        (c .before .before .before .before .before .before .before .is-in .ensures)
-        (c .before .before .before .before .before .before .if3 .left)) (so-fine
-        (c .before .before .before .before .before .whole-at .ensures) (c .before .before .before .enum-told3 .given .1))
+    (c .before .before .before .before .before .before .before .is-in .ensures)
+    (c .before .before .before .before .before .before .if3 .left)) (so-fine
+    (c .before .before .before .before .before .whole-at .ensures) (c .before .before .before .enum-told3 .given .1))
     (so-copied (a .image .now) (a .a) (c .before .before .kind-at .ensures) (c .before .is-copied .ensures) (c .if4 .left))
 
 pub begin-spec : {M : Type 1} → statement M
@@ -130,7 +130,7 @@ begin-spec =
     tie.close
     (tie.spec
     returns
-    find-requires
+    find-in-requires
     enum-told
     returns-2
     enum-told-2

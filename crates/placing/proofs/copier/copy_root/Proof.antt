@@ -12,9 +12,14 @@ same-length c = search needs
 
 returns : tie.Need-returns
 returns c =
-    let a = c .before .before .before .before .before .before .args in
-    (root-copied _ _ _ (c .before .before .copy .ensures), root-after (a .image .now) (a .a) (a .memo .now) _ (a .state) _
-        (c .before .before .copy .ensures) (c .before .before .before .before .before .before .pre .1))
+    let a = c .before .before .before .before .before .before .before .args in (
+      root-copied _ _ _ (c .before .before .copy .ensures .0),
+      (
+        root-after (a .image .now) (a .a) (a .memo .now) _ (a .state) _
+            (c .before .before .copy .ensures .0) (c .before .before .before .before .before .before .before .pre .1),
+        c .before .before .copy .ensures .1,
+      ),
+    )
 
 pub copy-root-spec : {M : Type 1} → statement M
 copy-root-spec = tie.close (tie.spec copy-requires same-length returns)

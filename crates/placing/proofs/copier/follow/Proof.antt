@@ -5,22 +5,23 @@ use native.Mathlib.Omega.{arith}
 use lib.ListN.{length}
 use borrow.Author.Needs.{needs}
 use Rattle.plan.specs.Copies.{copyLinks, copyRoot}
-use Rattle.placing.specs.TurnLaws.{Held, held-begin, held-next, follow-next, follow-refused, follow-end}
+use Rattle.placing.specs.TurnLaws.{indexed-at, Held, held-begin, held-next, follow-next, follow-refused, follow-end}
 use Rattle.placing.specs.Standing.{standing}
+use Rattle.placing.specs.Index.{Indexed}
 use Rattle.placing.proofs.copier.follow.Statement.{statement}
 use Rattle.placing.proofs.copier.follow.Tie as tie
 
 abbrev Inv-loop : tie.InvT-loop
-Inv-loop image memo₀ count at links₀ p₀ st₀ memo links p st =
+Inv-loop image memo₀ index₀ count at links₀ p₀ st₀ memo index links p st =
     (p + 8 * links ≤ length image + 8) × Held memo₀ st₀ memo st × (8192 ≤ length memo)
     × (copyLinks (copyRoot image) image links p (standing memo st) ≡ copyLinks (copyRoot image) image count at (standing memo₀
-        st₀))
+    st₀)) × Indexed memo (st .used) index
 
 abbrev μ-loop : tie.MeasureT-loop
-μ-loop image memo₀ count at links₀ p₀ st₀ memo links p st = links
+μ-loop image memo₀ index₀ count at links₀ p₀ st₀ memo index links p st = links
 
 loop-holds : tie.Need-loop-holds Inv-loop μ-loop
-loop-holds c = (search needs, held-begin _ _ (c .before .before .pre .1), search needs, refl)
+loop-holds c = (search needs, held-begin _ _ (c .before .before .pre .1), search needs, refl, c .before .before .pre .3)
 
 u64-at-requires : tie.Need-u64-at-requires Inv-loop μ-loop
 u64-at-requires c κs = search needs
@@ -38,10 +39,13 @@ same-length : tie.Need-same-length Inv-loop μ-loop
 same-length c = search needs
 
 returns : tie.Need-returns Inv-loop μ-loop
-returns c = (follow-refused _ _ _ _ _ (c .before .before .before .before .before .before .before .before .before .loop .inv .3)
-    (c .before .before .before .before .before .before .before .before .loop-test .taken)
-    (c .before .before .before .before .before .copy-root .ensures .0) (c .before .got2 .given .1)
-    (c .before .before .before .before .before .before .before .u64-at .ensures .is), tt)
+returns c = (
+  follow-refused _ _ _ _ _ (c .before .before .before .before .before .before .before .before .before .before .loop .inv .3)
+      (c .before .before .before .before .before .before .before .before .before .loop-test .taken)
+      (c .before .before .before .before .before .copy-root .ensures .0) (c .before .got2 .given .1)
+      (c .before .before .before .before .before .before .before .before .u64-at .ensures .is),
+  (tt, tt),
+)
 
 add-p : tie.Need-add-p Inv-loop μ-loop
 add-p c = search needs
@@ -55,16 +59,20 @@ loop-less c = search needs
 loop-again : tie.Need-loop-again Inv-loop μ-loop
 loop-again c = (
   search needs,
-  held-next (c .before .before .before .before .before .before .before .before .before .loop .inv .1)
+  held-next (c .before .before .before .before .before .before .before .before .before .before .loop .inv .1)
       (c .before .before .before .before .before .copy-root .ensures .0)
-      (c .before .before .before .before .before .copy-root .ensures .1) (c .before .got .given .1)
+      (c .before .before .before .before .before .copy-root .ensures .1 .0) (c .before .got .given .1)
       (c .before .before .before .before .before .copy-root .kept .1 .0),
-  omega (arith, c .before .before .before .before .before .copy-root .kept .1 .0,
-      c .before .before .before .before .before .before .before .before .before .loop .inv .2),
-  follow-next _ _ _ _ _ (c .before .before .before .before .before .before .before .before .before .loop .inv .3)
-      (c .before .before .before .before .before .before .before .before .loop-test .taken)
+  omega (
+    arith,
+    c .before .before .before .before .before .copy-root .kept .1 .0,
+    c .before .before .before .before .before .before .before .before .before .before .loop .inv .2,
+  ),
+  follow-next _ _ _ _ _ (c .before .before .before .before .before .before .before .before .before .before .loop .inv .3)
+      (c .before .before .before .before .before .before .before .before .before .loop-test .taken)
       (c .before .before .before .before .before .copy-root .ensures .0) (c .before .got .given .1)
-      (c .before .before .before .before .before .before .before .u64-at .ensures .is),
+      (c .before .before .before .before .before .before .before .before .u64-at .ensures .is),
+  indexed-at (c .before .before .before .before .before .copy-root .ensures .1 .1) (c .before .got .given .1),
 )
 
 same-length-2 : tie.Need-same-length-2 Inv-loop μ-loop
@@ -73,7 +81,7 @@ same-length-2 c = search needs
 returns-2 : tie.Need-returns-2 Inv-loop μ-loop
 returns-2 c =
     let i = c .before .loop .inv in
-    (follow-end _ _ _ _ _ (i .3) (omega arith) (i .1), i .1 .after)
+    (follow-end _ _ _ _ _ (i .3) (omega arith) (i .1), (i .1 .after, i .4))
 
 pub follow-spec : {M : Type 1} → statement M
 follow-spec =

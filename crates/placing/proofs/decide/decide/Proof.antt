@@ -3,14 +3,9 @@ use mathlib.Core.List.{[]}
 use Rattle.plan.specs.Rules.{builtIn}
 use Rattle.placing.specs.DecisionLaws.{short-first, short-second, short-third, short-fourth, work-fine, short-work, lent-refused, text-fits, rest-refused, rest-decided, rests-refused, cleared, decides-some}
 use native.Mathlib.Omega.{arith}
-use lib.ListN.{length, length-set}
 use borrow.Author.Needs.{needs}
 use Rattle.placing.proofs.decide.decide.Statement.{statement}
 use Rattle.placing.proofs.decide.decide.Tie as tie
-use Rattle.placing.proofs.decide.decide.Reads as reads
-use Rattle.placing.proofs.decide.decide.Lts as lts
-use Rattle.placing.proofs.decide.decide_rest.Reads as decide-rest-reads
-use Rattle.placing.proofs.decide.lent_in.Reads as lent-in-reads
 
 -- src/decide.rt:86:9
 returns : tie.Need-returns

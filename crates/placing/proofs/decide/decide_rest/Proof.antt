@@ -1,16 +1,10 @@
 -- 2, 3, planning, layout.
-use Rattle.placing.specs.DecisionLaws.{PlannedIn, chosen-refused, chosen-fine, rest-unchosen, plans-done, plans-refused, lays-few, lays-within, laid-plan, rest-empty, rest-large, rest-unplanned, rest-unlaid, unlaid, rest-in}
+use Rattle.placing.specs.DecisionLaws.{chosen-refused, chosen-fine, rest-unchosen, plans-done, plans-refused, lays-few, lays-within, laid-plan, rest-empty, rest-large, rest-unplanned, rest-unlaid, unlaid, rest-in}
 use Rattle.plan_laws.specs.TableLaws.{choices-unit}
 use Rattle.payload_laws.specs.UnitLaws.{unit-is}
-use native.Mathlib.Omega.{arith}
-use lib.ListN.{length, length-set}
 use borrow.Author.Needs.{needs}
 use Rattle.placing.proofs.decide.decide_rest.Statement.{statement}
 use Rattle.placing.proofs.decide.decide_rest.Tie as tie
-use Rattle.placing.proofs.decide.decide_rest.Reads as reads
-use Rattle.placing.proofs.decide.decide_rest.Lts as lts
-use Rattle.placing.proofs.layout.lay_out.Reads as lay-out-reads
-use Rattle.planning.proofs.recording.plan.Reads as plan-reads
 
 -- src/decide.rt:58:9
 returns : tie.Need-returns

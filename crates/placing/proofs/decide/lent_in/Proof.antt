@@ -1,12 +1,7 @@
 use Rattle.placing.specs.DecisionLaws.{lent-short, lent-unmarked, lent-other, lent-long, lent-fine}
-use native.Mathlib.Omega.{arith}
-use lib.ListN.{length, length-set}
 use borrow.Author.Needs.{needs}
 use Rattle.placing.proofs.decide.lent_in.Statement.{statement}
 use Rattle.placing.proofs.decide.lent_in.Tie as tie
-use Rattle.placing.proofs.decide.lent_in.Reads as reads
-use Rattle.placing.proofs.decide.lent_in.Lts as lts
-use Rattle.fields.proofs.u64_at.Reads as u64-at-reads
 
 -- src/decide.rt:24:9
 returns : tie.Need-returns

@@ -1,6 +1,6 @@
 -- The HD comment, then the history chain.
 use Rattle.placing.specs.LayingLaws.{first-refused, first-chain}
-use Rattle.placing.specs.TurnLaws.{after-at}
+use Rattle.placing.specs.TurnLaws.{indexed-at, after-at}
 use native.Mathlib.Omega.{arith}
 use borrow.Author.Needs.{needs}
 use Rattle.placing.proofs.layout.first_copies.Statement.{statement}
@@ -19,22 +19,31 @@ link-at-requires-2 : tie.Need-link-at-requires-2
 link-at-requires-2 c κs = search needs
 
 history-chain-requires : tie.Need-history-chain-requires
-history-chain-requires c κs = (omega (arith,
-    c .before .before .before .before .before .before .before .before .before .before .before .before .pre,
-    c .before .before .before .before .before .before .before .copy-root .kept .1 .0), after-at
-    (c .before .before .before .before .before .before .before .copy-root .ensures .1)
-    (c .before .before .before .got .given .1) .room)
+history-chain-requires c κs = (
+  omega (
+    arith,
+    c .before .before .before .before .before .before .before .before .before .before .before .before .before .before .pre .0,
+    c .before .before .before .before .before .before .before .before .copy-root .kept .1 .0,
+  ),
+  after-at
+      (c .before .before .before .before .before .before .before .before .copy-root .ensures .1 .0)
+      (c .before .before .before .before .got .given .1) .room,
+  indexed-at (c .before .before .before .before .before .before .before .before .copy-root .ensures .1 .1) (c .before .before .before .before .got .given .1),
+)
 
 same-length : tie.Need-same-length
 same-length c = search needs
 
 returns : tie.Need-returns
-returns c = first-chain _ _
-    (c .before .before .before .before .before .before .before .before .before .before .before .link-at .ensures)
-    (c .before .before .before .before .before .before .before .before .before .before .copy-root .ensures .0)
-    (c .before .before .before .before .before .before .got .given .1)
-    (c .before .before .before .before .before .before .before .before .before .before .copy-root .ensures .1)
-    (c .before .before .before .link-at2 .ensures) _ (c .before .before .history-chain .ensures)
+returns c = (
+  first-chain _ _
+      (c .before .before .before .before .before .before .before .before .before .before .before .before .link-at .ensures)
+      (c .before .before .before .before .before .before .before .before .before .before .before .copy-root .ensures .0)
+      (c .before .before .before .before .before .before .before .got .given .1)
+      (c .before .before .before .before .before .before .before .before .before .before .before .copy-root .ensures .1 .0)
+      (c .before .before .before .link-at2 .ensures) _ (c .before .before .history-chain .ensures .0),
+  c .before .before .history-chain .ensures .1,
+)
 
 enum-known-got-2 : tie.Need-enum-known-got-2
 enum-known-got-2 c = search needs
@@ -43,8 +52,11 @@ same-length-2 : tie.Need-same-length-2
 same-length-2 c = search needs
 
 returns-2 : tie.Need-returns-2
-returns-2 c = first-refused _ _ (c .before .before .before .before .before .before .link-at .ensures)
-    (c .before .before .before .before .before .copy-root .ensures .0) (c .before .got2 .given .1)
+returns-2 c = (
+  first-refused _ _ (c .before .before .before .before .before .before .link-at .ensures)
+      (c .before .before .before .before .before .copy-root .ensures .0) (c .before .got2 .given .1),
+  tt,
+)
 
 pub first-copies-spec : {M : Type 1} → statement M
 first-copies-spec =

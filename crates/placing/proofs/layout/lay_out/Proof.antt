@@ -1,90 +1,105 @@
 -- The stages of the layout, one after the other.
 use Rattle.placing.specs.LayingLaws.{begins-at, first-near, whole-first, whole-columns, whole-rest, rests-at, whole-done}
-use Rattle.placing.specs.TurnLaws.{after-at}
+use Rattle.placing.specs.TurnLaws.{after-at, indexed-at}
+use Rattle.placing.specs.HistoryLaws.{indexed-chain}
+use Rattle.placing.specs.IndexLaws.{index-begin}
 use native.Mathlib.Omega.{arith}
 use borrow.Author.Needs.{needs}
 use Rattle.placing.proofs.layout.lay_out.Statement.{statement}
 use Rattle.placing.proofs.layout.lay_out.Tie as tie
 
 first-copies-requires : tie.Need-first-copies-requires
-first-copies-requires c κs = search needs
+first-copies-requires c κs = (c .before .before .before .before .before .before .pre .1, index-begin _)
 
 enum-known-begun : tie.Need-enum-known-begun
 enum-known-begun c = search needs
 
 aligned-requires : tie.Need-aligned-requires
-aligned-requires c κs = let o = begins-at _ _ _ _ (c .before .before .before .before .before .first-copies .ensures)
+aligned-requires c κs = let o = begins-at _ _ _ _ (c .before .before .before .before .before .first-copies .ensures .0)
     (c .before .begun .given .1) in let k = o .after in omega arith
 
 md-bytes-requires : tie.Need-md-bytes-requires
 md-bytes-requires c κs = search needs
 
 add-fh : tie.Need-add-fh
-add-fh c = let o = begins-at _ _ _ _ (c .before .before .before .before .before .before .before .first-copies .ensures)
+add-fh c = let o = begins-at _ _ _ _ (c .before .before .before .before .before .before .before .first-copies .ensures .0)
     (c .before .before .before .begun .given .1) in let z = first-near o (c .before .aligned .ensures) _ (c .md-bytes .ensures)
-    (c .before .before .before .before .before .before .before .before .before .before .before .before .before .pre .3) in omega
+    (c .before .before .before .before .before .before .before .before .before .before .before .before .before .before .pre .3) in omega
     arith
 
-add-t28 : tie.Need-add-t28
-add-t28 c = let o = begins-at _ _ _ _ (c .before .before .before .before .before .before .before .before .first-copies .ensures)
-    (c .before .before .before .before .begun .given .1) in let z = first-near o (c .before .before .aligned .ensures) _
-    (c .before .md-bytes .ensures)
-    (c .before .before .before .before .before .before .before .before .before .before .before .before .before .before .pre .3)
+add-t30 : tie.Need-add-t30
+add-t30 c = let o = begins-at _ _ _ _ (c .before .before .before .before .before .before .before .before .before .first-copies .ensures .0)
+    (c .before .before .before .before .before .begun .given .1) in let z = first-near o (c .before .before .before .aligned .ensures) _
+    (c .before .before .md-bytes .ensures)
+    (c .before .before .before .before .before .before .before .before .before .before .before .before .before .before .before .before .pre .3)
     in omega arith
 
 copy-columns-requires : tie.Need-copy-columns-requires
 copy-columns-requires c κs = let o = begins-at _ _ _ _
-    (c .before .before .before .before .before .before .before .before .first-copies .ensures)
-    (c .before .before .before .before .begun .given .1) in let z = first-near o (c .before .before .aligned .ensures) _
-    (c .before .md-bytes .ensures)
-    (c .before .before .before .before .before .before .before .before .before .before .before .before .before .before .pre .3)
-    in (c .before .before .before .before .before .before .before .before .before .before .before .before .before .before .pre .0,
-    omega (arith,
-    c .before .before .before .before .before .before .before .before .before .before .before .before .before .before .pre .1,
-    c .before .before .before .before .before .before .before .before .first-copies .kept .1 .0), z .room)
+    (c .before .before .before .before .before .before .before .before .before .first-copies .ensures .0)
+    (c .before .before .before .before .before .begun .given .1) in let z = first-near o (c .before .before .before .aligned .ensures) _
+    (c .before .before .md-bytes .ensures)
+    (c .before .before .before .before .before .before .before .before .before .before .before .before .before .before .before .before .pre .3)
+    in (
+      c .before .before .before .before .before .before .before .before .before .before .before .before .before .before .before .before .pre .0,
+      omega (
+        arith,
+        c .before .before .before .before .before .before .before .before .before .before .before .before .before .before .before .before .pre .1,
+        c .before .before .before .before .before .before .before .before .before .first-copies .kept .1 .0,
+      ),
+      z .room,
+      indexed-chain (c .before .before .before .before .before .before .before .before .before .first-copies .ensures .1) (c .before .before .before .before .before .begun .given .1),
+    )
 
 enum-known-got : tie.Need-enum-known-got
 enum-known-got c = search needs
 
 place-rest-requires : tie.Need-place-rest-requires
 place-rest-requires c κs = let o = begins-at _ _ _ _
-    (c .before .before .before .before .before .before .before .before .before .before .before .before .before .before .before .first-copies .ensures)
-    (c .before .before .before .before .before .before .before .before .before .before .before .begun .given .1) in let z =
-    first-near o (c .before .before .before .before .before .before .before .before .before .aligned .ensures) _
-    (c .before .before .before .before .before .before .before .before .md-bytes .ensures)
-    (c .before .before .before .before .before .before .before .before .before .before .before .before .before .before .before .before .before .before .before .before .before .pre .3)
-    in let y = after-at (c .before .before .before .before .before .before .copy-columns .ensures .1)
-    (c .before .before .got .given .1) in
-    (c .before .before .before .before .before .before .before .before .before .before .before .before .before .before .before .before .before .before .before .before .before .pre .0,
-    omega (arith,
-    c .before .before .before .before .before .before .before .before .before .before .before .before .before .before .before .before .before .before .before .before .before .pre .1,
-    c .before .before .before .before .before .before .before .before .before .before .before .before .before .before .before .first-copies .kept .1 .0,
-    c .before .before .before .before .before .before .copy-columns .kept .1 .1 .1 .0),
-    c .before .before .before .before .before .before .before .before .before .before .before .before .before .before .before .before .before .before .before .before .before .pre .2,
-    omega (arith, y .most), omega (arith, y .most, y .near, z .near),
-    c .before .before .before .before .before .before .before .before .before .before .before .before .before .before .before .before .before .before .before .before .before .pre .4, c .before .before .before .before .before .before .before .before .before .before .before .before .before .before .before .before .before .before .before .before .before .pre .5, c .before .before .before .before .before .before .before .before .before .before .before .before .before .before .before .before .before .before .before .before .before .pre .6)
+    (c .before .before .before .before .before .before .before .before .before .before .before .before .before .before .before .before .before .first-copies .ensures .0)
+    (c .before .before .before .before .before .before .before .before .before .before .before .before .before .begun .given .1) in let z =
+    first-near o (c .before .before .before .before .before .before .before .before .before .before .before .aligned .ensures) _
+    (c .before .before .before .before .before .before .before .before .before .before .md-bytes .ensures)
+    (c .before .before .before .before .before .before .before .before .before .before .before .before .before .before .before .before .before .before .before .before .before .before .before .before .pre .3)
+    in let y = after-at (c .before .before .before .before .before .before .before .copy-columns .ensures .1 .0)
+    (c .before .before .before .got .given .1) in (
+      c .before .before .before .before .before .before .before .before .before .before .before .before .before .before .before .before .before .before .before .before .before .before .before .before .pre .0,
+      omega (
+        arith,
+        c .before .before .before .before .before .before .before .before .before .before .before .before .before .before .before .before .before .before .before .before .before .before .before .before .pre .1,
+        c .before .before .before .before .before .before .before .before .before .before .before .before .before .before .before .before .before .first-copies .kept .1 .0,
+        c .before .before .before .before .before .before .before .copy-columns .kept .1 .1 .1 .0,
+      ),
+      c .before .before .before .before .before .before .before .before .before .before .before .before .before .before .before .before .before .before .before .before .before .before .before .before .pre .2,
+      omega (arith, y .most),
+      omega (arith, y .most, y .near, z .near),
+      c .before .before .before .before .before .before .before .before .before .before .before .before .before .before .before .before .before .before .before .before .before .before .before .before .pre .4,
+      c .before .before .before .before .before .before .before .before .before .before .before .before .before .before .before .before .before .before .before .before .before .before .before .before .pre .5,
+      c .before .before .before .before .before .before .before .before .before .before .before .before .before .before .before .before .before .before .before .before .before .before .before .before .pre .6,
+      indexed-at (c .before .before .before .before .before .before .before .copy-columns .ensures .1 .1) (c .before .before .before .got .given .1),
+    )
 
 enum-known-rest : tie.Need-enum-known-rest
 enum-known-rest c = search needs
 
 same-length : tie.Need-same-length
-same-length c = search needs
+same-length c = omega (arith, c .before .before .before .before .before .before .before .before .before .before .before .before .before .before .before .before .before .before .before .before .before .before .before .first-copies .kept .1 .0, c .before .before .before .before .before .before .before .before .before .before .before .before .before .copy-columns .kept .1 .1 .1 .0, c .before .before .before .before .before .place-rest .kept .1 .1 .1 .1 .1 .1 .0)
 
 returns : tie.Need-returns
 returns c = let o = begins-at _ _ _ _
-    (c .before .before .before .before .before .before .before .before .before .before .before .before .before .before .before .before .before .before .before .before .before .first-copies .ensures)
-    (c .before .before .before .before .before .before .before .before .before .before .before .before .before .before .before .before .before .begun .given .1)
+    (c .before .before .before .before .before .before .before .before .before .before .before .before .before .before .before .before .before .before .before .before .before .before .before .first-copies .ensures .0)
+    (c .before .before .before .before .before .before .before .before .before .before .before .before .before .before .before .before .before .before .before .begun .given .1)
     in whole-done _ _ _ _ _ _ _ _ o
-    (c .before .before .before .before .before .before .before .before .before .before .before .before .before .before .before .aligned .ensures)
-    (c .before .before .before .before .before .before .before .before .before .before .before .before .before .before .md-bytes .ensures)
-    (c .before .before .before .before .before .before .before .before .before .before .before .before .copy-columns .ensures .0)
-    (c .before .before .before .before .before .before .before .before .got .given .1) (rests-at _ _ _ _ _ _ _ _ _ _
+    (c .before .before .before .before .before .before .before .before .before .before .before .before .before .before .before .before .before .aligned .ensures)
+    (c .before .before .before .before .before .before .before .before .before .before .before .before .before .before .before .before .md-bytes .ensures)
+    (c .before .before .before .before .before .before .before .before .before .before .before .before .before .copy-columns .ensures .0)
+    (c .before .before .before .before .before .before .before .before .before .got .given .1) (rests-at _ _ _ _ _ _ _ _ _ _
     (c .before .before .before .before .before .place-rest .ensures) (c .before .rest .given .1))
-    (c .before .before .before .before .before .before .before .before .before .before .before .before .before .before .before .before .before .before .before .before .before .first-copies .kept .1 .0)
-    (c .before .before .before .before .before .before .before .before .before .before .before .before .copy-columns .kept .1 .1 .1 .0)
+    (c .before .before .before .before .before .before .before .before .before .before .before .before .before .before .before .before .before .before .before .before .before .before .before .first-copies .kept .1 .0)
+    (c .before .before .before .before .before .before .before .before .before .before .before .before .before .copy-columns .kept .1 .1 .1 .0)
     (c .before .before .before .before .before .place-rest .kept .1 .1 .1 .1 .1 .1 .0)
-    (c .before .before .before .before .before .before .before .before .before .before .before .before .before .before .before .before .before .before .before .before .before .before .before .before .before .before .before .pre .1)
-    (c .before .before .before .before .before .before .before .before .before .before .before .before .copy-columns .ensures .1)
+    (c .before .before .before .before .before .before .before .before .before .before .before .before .before .before .before .before .before .before .before .before .before .before .before .before .before .before .before .before .before .before .pre .1)
+    (c .before .before .before .before .before .before .before .before .before .before .before .before .before .copy-columns .ensures .1 .0)
 
 enum-known-rest-2 : tie.Need-enum-known-rest-2
 enum-known-rest-2 c = search needs
@@ -94,13 +109,13 @@ same-length-2 c = search needs
 
 returns-2 : tie.Need-returns-2
 returns-2 c = let o = begins-at _ _ _ _
-    (c .before .before .before .before .before .before .before .before .before .before .before .before .before .before .before .before .before .before .before .before .before .first-copies .ensures)
-    (c .before .before .before .before .before .before .before .before .before .before .before .before .before .before .before .before .before .begun .given .1)
+    (c .before .before .before .before .before .before .before .before .before .before .before .before .before .before .before .before .before .before .before .before .before .before .before .first-copies .ensures .0)
+    (c .before .before .before .before .before .before .before .before .before .before .before .before .before .before .before .before .before .before .before .begun .given .1)
     in whole-rest _ _ _ _ _ _ _ _ o
-    (c .before .before .before .before .before .before .before .before .before .before .before .before .before .before .before .aligned .ensures)
-    (c .before .before .before .before .before .before .before .before .before .before .before .before .before .before .md-bytes .ensures)
-    (c .before .before .before .before .before .before .before .before .before .before .before .before .copy-columns .ensures .0)
-    (c .before .before .before .before .before .before .before .before .got .given .1) _
+    (c .before .before .before .before .before .before .before .before .before .before .before .before .before .before .before .before .before .aligned .ensures)
+    (c .before .before .before .before .before .before .before .before .before .before .before .before .before .before .before .before .md-bytes .ensures)
+    (c .before .before .before .before .before .before .before .before .before .before .before .before .before .copy-columns .ensures .0)
+    (c .before .before .before .before .before .before .before .before .before .got .given .1) _
     (c .before .before .before .before .before .place-rest .ensures) (c .before .rest2 .given .1)
 
 enum-known-got-2 : tie.Need-enum-known-got-2
@@ -111,10 +126,10 @@ same-length-3 c = search needs
 
 returns-3 : tie.Need-returns-3
 returns-3 c = let o = begins-at _ _ _ _
-    (c .before .before .before .before .before .before .before .before .before .before .before .before .before .before .first-copies .ensures)
-    (c .before .before .before .before .before .before .before .before .before .before .begun .given .1) in whole-columns _ _ _ _ _
-    _ _ _ o (c .before .before .before .before .before .before .before .before .aligned .ensures)
-    (c .before .before .before .before .before .before .before .md-bytes .ensures)
+    (c .before .before .before .before .before .before .before .before .before .before .before .before .before .before .before .first-copies .ensures .0)
+    (c .before .before .before .before .before .before .before .before .before .before .before .begun .given .1) in whole-columns _ _ _ _ _
+    _ _ _ o (c .before .before .before .before .before .before .before .before .before .aligned .ensures)
+    (c .before .before .before .before .before .before .before .before .md-bytes .ensures)
     (c .before .before .before .before .before .copy-columns .ensures .0) (c .before .got2 .given .1)
 
 enum-known-begun-2 : tie.Need-enum-known-begun-2
@@ -124,7 +139,7 @@ same-length-4 : tie.Need-same-length-4
 same-length-4 c = search needs
 
 returns-4 : tie.Need-returns-4
-returns-4 c = whole-first _ _ _ _ _ _ _ _ _ _ (c .before .before .before .before .before .first-copies .ensures)
+returns-4 c = whole-first _ _ _ _ _ _ _ _ _ _ (c .before .before .before .before .before .first-copies .ensures .0)
     (c .before .begun2 .given .1)
 
 pub lay-out-spec : {M : Type 1} → statement M
@@ -136,7 +151,7 @@ lay-out-spec =
     aligned-requires
     md-bytes-requires
     add-fh
-    add-t28
+    add-t30
     copy-columns-requires
     enum-known-got
     place-rest-requires

@@ -6,23 +6,24 @@ use lib.ListN.{drop}
 use lib.ListN.{length}
 use borrow.Author.Needs.{needs}
 use Rattle.plan.specs.Copies.{copyRoots}
-use Rattle.placing.specs.TurnLaws.{Held, held-begin, held-next, roots-next, roots-refused, roots-end}
+use Rattle.placing.specs.TurnLaws.{indexed-at, Held, held-begin, held-next, roots-next, roots-refused, roots-end}
 use Rattle.placing.specs.Roots.{roots, roots-nine}
 use Rattle.placing.specs.Standing.{standing}
+use Rattle.placing.specs.Index.{Indexed}
 use Rattle.placing.proofs.roots.column_roots.Statement.{statement}
 use Rattle.placing.proofs.roots.column_roots.Tie as tie
 
 abbrev Inv-loop : tie.InvT-loop
-Inv-loop image memo₀ dg cg cn i₀ st₀ memo i st =
+Inv-loop image memo₀ index₀ dg cg cn i₀ st₀ memo index i st =
     (i ≤ 9) × Held memo₀ st₀ memo st × (8192 ≤ length memo)
     × (copyRoots image (drop i (roots image dg cg cn)) (standing memo st) ≡ copyRoots image (roots image dg cg cn) (standing
-        memo₀ st₀))
+    memo₀ st₀)) × Indexed memo (st .used) index
 
 abbrev μ-loop : tie.MeasureT-loop
-μ-loop image memo₀ dg cg cn i₀ st₀ memo i st = 9 - i
+μ-loop image memo₀ index₀ dg cg cn i₀ st₀ memo index i st = 9 - i
 
 loop-holds : tie.Need-loop-holds Inv-loop μ-loop
-loop-holds c = (search needs, held-begin _ _ (c .before .before .pre .1), search needs, refl)
+loop-holds c = (search needs, held-begin _ _ (c .before .before .pre .1), search needs, refl, c .before .before .pre .2)
 
 root-requires : tie.Need-root-requires Inv-loop μ-loop
 root-requires c κs = search needs
@@ -41,14 +42,14 @@ same-length c = search needs
 
 returns : tie.Need-returns Inv-loop μ-loop
 returns c =
-    let a = c .before .before .before .before .before .before .before .before .before .before .before .before .args in
+    let a = c .before .before .before .before .before .before .before .before .before .before .before .before .before .args in
     let n = roots-nine (a .image .now) (a .dg) (a .cg) (a .cn) in (
       roots-refused _ (roots (a .image .now) (a .dg) (a .cg) (a .cn))
-          (c .before .before .before .before .before .before .before .before .before .loop .i) _ _ _
-          (c .before .before .before .before .before .before .before .before .before .loop .inv .3) (omega arith)
+          (c .before .before .before .before .before .before .before .before .before .before .loop .i) _ _ _
+          (c .before .before .before .before .before .before .before .before .before .before .loop .inv .3) (omega arith)
           (c .before .before .before .before .before .copy-root .ensures .0) (c .before .got2 .given .1)
-          (c .before .before .before .before .before .before .before .root .ensures),
-      tt,
+          (c .before .before .before .before .before .before .before .before .root .ensures),
+      (tt, tt),
     )
 
 add-i : tie.Need-add-i Inv-loop μ-loop
@@ -59,20 +60,24 @@ loop-less c = search needs
 
 loop-again : tie.Need-loop-again Inv-loop μ-loop
 loop-again c =
-    let a = c .before .before .before .before .before .before .before .before .before .before .before .before .args in
+    let a = c .before .before .before .before .before .before .before .before .before .before .before .before .before .args in
     let n = roots-nine (a .image .now) (a .dg) (a .cg) (a .cn) in (
       search needs,
-      held-next (c .before .before .before .before .before .before .before .before .before .loop .inv .1)
+      held-next (c .before .before .before .before .before .before .before .before .before .before .loop .inv .1)
           (c .before .before .before .before .before .copy-root .ensures .0)
-          (c .before .before .before .before .before .copy-root .ensures .1) (c .before .got .given .1)
+          (c .before .before .before .before .before .copy-root .ensures .1 .0) (c .before .got .given .1)
           (c .before .before .before .before .before .copy-root .kept .1 .0),
-      omega (arith, c .before .before .before .before .before .copy-root .kept .1 .0,
-          c .before .before .before .before .before .before .before .before .before .loop .inv .2),
+      omega (
+        arith,
+        c .before .before .before .before .before .copy-root .kept .1 .0,
+        c .before .before .before .before .before .before .before .before .before .before .loop .inv .2,
+      ),
       roots-next _ (roots (a .image .now) (a .dg) (a .cg) (a .cn))
-          (c .before .before .before .before .before .before .before .before .before .loop .i) _ _ _
-          (c .before .before .before .before .before .before .before .before .before .loop .inv .3) (omega arith)
+          (c .before .before .before .before .before .before .before .before .before .before .loop .i) _ _ _
+          (c .before .before .before .before .before .before .before .before .before .before .loop .inv .3) (omega arith)
           (c .before .before .before .before .before .copy-root .ensures .0) (c .before .got .given .1)
-          (c .before .before .before .before .before .before .before .root .ensures),
+          (c .before .before .before .before .before .before .before .before .root .ensures),
+      indexed-at (c .before .before .before .before .before .copy-root .ensures .1 .1) (c .before .got .given .1),
     )
 
 same-length-2 : tie.Need-same-length-2 Inv-loop μ-loop
@@ -82,9 +87,10 @@ returns-2 : tie.Need-returns-2 Inv-loop μ-loop
 returns-2 c =
     let a = c .before .before .before .before .args in
     let i = c .before .loop .inv in
-    let n = roots-nine (a .image .now) (a .dg) (a .cg) (a .cn) in
-    (roots-end _ (roots (a .image .now) (a .dg) (a .cg) (a .cn)) (c .before .loop .i) _ _ (i .3) (omega arith) (i .1),
-        i .1 .after)
+    let n = roots-nine (a .image .now) (a .dg) (a .cg) (a .cn) in (
+      roots-end _ (roots (a .image .now) (a .dg) (a .cg) (a .cn)) (c .before .loop .i) _ _ (i .3) (omega arith) (i .1),
+      (i .1 .after, i .4),
+    )
 
 pub column-roots-spec : {M : Type 1} → statement M
 column-roots-spec =

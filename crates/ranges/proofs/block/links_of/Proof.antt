@@ -1,7 +1,5 @@
 -- A link of 0 has none.
 use Rattle.ranges.specs.BlocksLaws.{links-none, links-some}
-use native.Mathlib.Omega.{arith}
-use lib.ListN.{length, length-set}
 use borrow.Author.Needs.{needs}
 use Rattle.ranges.proofs.block.links_of.Statement.{statement}
 use Rattle.ranges.proofs.block.links_of.Tie as tie

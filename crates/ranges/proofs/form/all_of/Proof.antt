@@ -4,8 +4,6 @@ use Rattle.ranges.specs.BlocksLaws.{kinds-hit, kinds-pass, kinds-end}
 use mathlib.Core.Path.{_≡_, refl}
 use Prim.Native.Nat.{_-_}
 use borrow.Author.Needs.{needs}
-use native.Mathlib.Omega.{arith}
-use lib.ListN.{length, length-set}
 use Rattle.ranges.proofs.form.all_of.Statement.{statement}
 use Rattle.ranges.proofs.form.all_of.Tie as tie
 

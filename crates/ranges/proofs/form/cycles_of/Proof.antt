@@ -1,7 +1,5 @@
 -- The field is the definition.
 use Rattle.ranges.specs.FormLaws.{cycles-is}
-use native.Mathlib.Omega.{arith}
-use lib.ListN.{length, length-set}
 use borrow.Author.Needs.{needs}
 use Rattle.ranges.proofs.form.cycles_of.Statement.{statement}
 use Rattle.ranges.proofs.form.cycles_of.Tie as tie

@@ -1,7 +1,5 @@
 -- A link of 0, or the DL.
 use Rattle.ranges.specs.FormLaws.{data-zero, data-list}
-use native.Mathlib.Omega.{arith}
-use lib.ListN.{length, length-set}
 use borrow.Author.Needs.{needs}
 use Rattle.ranges.proofs.form.data_formed.Statement.{statement}
 use Rattle.ranges.proofs.form.data_formed.Tie as tie

@@ -6,7 +6,6 @@ use mathlib.Core.Path.{_≡_, refl}
 use Prim.Native.Nat.{_+_, _-_, _≤_}
 use borrow.Author.Needs.{needs}
 use native.Mathlib.Omega.{arith}
-use lib.ListN.{length, length-set}
 use Rattle.ranges.proofs.form.have_length.Statement.{statement}
 use Rattle.ranges.proofs.form.have_length.Tie as tie
 

@@ -1,7 +1,5 @@
 -- Records without bytes sum to 0.
 use Rattle.ranges.specs.FormLaws.{records-none, records-some}
-use native.Mathlib.Omega.{arith}
-use lib.ListN.{length, length-set}
 use borrow.Author.Needs.{needs}
 use Rattle.ranges.proofs.form.hold_records.Statement.{statement}
 use Rattle.ranges.proofs.form.hold_records.Tie as tie

@@ -1,7 +1,5 @@
 -- Each return is one test.
 use Rattle.ranges.specs.FormLaws.{equal-short, equal-over, equal-bit}
-use native.Mathlib.Omega.{arith}
-use lib.ListN.{length, length-set}
 use borrow.Author.Needs.{needs}
 use Rattle.ranges.proofs.form.is_equal_length.Statement.{statement}
 use Rattle.ranges.proofs.form.is_equal_length.Tie as tie

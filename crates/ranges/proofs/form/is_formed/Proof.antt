@@ -1,7 +1,5 @@
 -- Each return is one test.
 use Rattle.ranges.specs.FormLaws.{form-ids, form-data, form-kinds, form-records}
-use native.Mathlib.Omega.{arith}
-use lib.ListN.{length, length-set}
 use borrow.Author.Needs.{needs}
 use Rattle.ranges.proofs.form.is_formed.Statement.{statement}
 use Rattle.ranges.proofs.form.is_formed.Tie as tie

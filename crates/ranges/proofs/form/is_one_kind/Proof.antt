@@ -1,7 +1,5 @@
 -- Each return is one test.
 use Rattle.ranges.specs.FormLaws.{kind-dt, kind-mixed, kind-dv}
-use native.Mathlib.Omega.{arith}
-use lib.ListN.{length, length-set}
 use borrow.Author.Needs.{needs}
 use Rattle.ranges.proofs.form.is_one_kind.Statement.{statement}
 use Rattle.ranges.proofs.form.is_one_kind.Tie as tie

@@ -1,8 +1,6 @@
 -- The kind of the block decides.
 use Rattle.ranges.specs.BlocksLaws.{other-dt, other-dv}
 use mathlib.Core.Path.{sym, _∙_}
-use native.Mathlib.Omega.{arith}
-use lib.ListN.{length, length-set}
 use borrow.Author.Needs.{needs}
 use Rattle.ranges.proofs.form.is_other.Statement.{statement}
 use Rattle.ranges.proofs.form.is_other.Tie as tie

@@ -1,7 +1,5 @@
 -- Each return is one test.
 use Rattle.ranges.specs.FormLaws.{links-empty, links-first, links-rest}
-use native.Mathlib.Omega.{arith}
-use lib.ListN.{length, length-set}
 use borrow.Author.Needs.{needs}
 use Rattle.ranges.proofs.form.links_formed.Statement.{statement}
 use Rattle.ranges.proofs.form.links_formed.Tie as tie

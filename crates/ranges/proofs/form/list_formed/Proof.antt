@@ -1,7 +1,5 @@
 -- Each return is one test.
 use Rattle.ranges.specs.FormLaws.{list-other, list-links, list-unequal, list-lengths}
-use native.Mathlib.Omega.{arith}
-use lib.ListN.{length, length-set}
 use borrow.Author.Needs.{needs}
 use Rattle.ranges.proofs.form.list_formed.Statement.{statement}
 use Rattle.ranges.proofs.form.list_formed.Tie as tie

@@ -4,8 +4,6 @@ use Rattle.ranges.specs.BlocksLaws.{none-hit, none-pass, none-end}
 use mathlib.Core.Path.{_≡_, refl}
 use Prim.Native.Nat.{_-_}
 use borrow.Author.Needs.{needs}
-use native.Mathlib.Omega.{arith}
-use lib.ListN.{length, length-set}
 use Rattle.ranges.proofs.form.none_zero.Statement.{statement}
 use Rattle.ranges.proofs.form.none_zero.Tie as tie
 

@@ -1,7 +1,5 @@
 -- The sum of two fields.
 use Rattle.ranges.specs.FormLaws.{bytes-is}
-use native.Mathlib.Omega.{arith}
-use lib.ListN.{length, length-set}
 use borrow.Author.Needs.{needs}
 use Rattle.ranges.proofs.form.record_bytes.Statement.{statement}
 use Rattle.ranges.proofs.form.record_bytes.Tie as tie

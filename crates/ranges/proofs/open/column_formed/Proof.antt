@@ -1,7 +1,5 @@
 -- Each return is one test.
 use Rattle.ranges.specs.OpenLaws.{column-dg, column-cg, column-cn, column-is}
-use native.Mathlib.Omega.{arith}
-use lib.ListN.{length, length-set}
 use borrow.Author.Needs.{needs}
 use Rattle.ranges.proofs.open.column_formed.Statement.{statement}
 use Rattle.ranges.proofs.open.column_formed.Tie as tie

@@ -3,7 +3,6 @@ use Rattle.ranges.specs.OpenLaws.{Forming, form-begin, form-short, form-
 use Prim.{tt}
 use borrow.Author.Needs.{needs}
 use native.Mathlib.Omega.{arith}
-use lib.ListN.{length, length-set}
 use Rattle.ranges.proofs.open.form_of.Statement.{statement}
 use Rattle.ranges.proofs.open.form_of.Tie as tie
 

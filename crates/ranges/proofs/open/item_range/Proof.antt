@@ -1,7 +1,5 @@
 -- A DG or not.
 use Rattle.ranges.specs.OpenLaws.{item-dg, item-other}
-use native.Mathlib.Omega.{arith}
-use lib.ListN.{length, length-set}
 use borrow.Author.Needs.{needs}
 use Rattle.ranges.proofs.open.item_range.Statement.{statement}
 use Rattle.ranges.proofs.open.item_range.Tie as tie

@@ -1,7 +1,5 @@
 -- A refusal, or the number of columns at the last word.
 use Rattle.ranges.specs.ReadLaws.{kept-refused, kept-columns}
-use native.Mathlib.Omega.{arith}
-use lib.ListN.{length, length-set}
 use borrow.Author.Needs.{needs}
 use Rattle.ranges.proofs.open.open_columns.Statement.{statement}
 use Rattle.ranges.proofs.open.open_columns.Tie as tie

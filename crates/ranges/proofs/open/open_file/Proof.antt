@@ -1,7 +1,5 @@
 -- Identification, walk, ranges, form, in turn.
 use Rattle.ranges.specs.OpenedLaws.{open-unknown, open-stopped, open-few, open-lasting, open-ranges, open-form}
-use native.Mathlib.Omega.{arith}
-use lib.ListN.{length, length-set}
 use Prim.{tt}
 use borrow.Author.Needs.{needs}
 use Rattle.ranges.proofs.open.open_file.Statement.{statement}

@@ -1,12 +1,10 @@
 -- What is left of the pass gives what the whole pass gives.
 use Rattle.ranges.specs.Open.{wordRanges}
 use Rattle.ranges.specs.OpenLaws.{word-stop, word-on, word-end}
-use mathlib.Core.Path.{_≡_, refl}
+use mathlib.Core.Path.{_≡_}
 use Prim.Native.Nat.{_-_}
 use native.Mathlib.Nat.{sub-zero}
 use borrow.Author.Needs.{needs}
-use native.Mathlib.Omega.{arith}
-use lib.ListN.{length, length-set}
 use Rattle.ranges.proofs.open.word_ranges.Statement.{statement}
 use Rattle.ranges.proofs.open.word_ranges.Tie as tie
 

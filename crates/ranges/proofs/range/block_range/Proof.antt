@@ -1,8 +1,6 @@
 -- Within the image, or not.
 use Rattle.ranges.specs.RangedLaws.{range-out, range-fine}
-use borrow.Author.Needs.{needs}
 use native.Mathlib.Omega.{arith}
-use lib.ListN.{length, length-set}
 use Rattle.ranges.proofs.range.block_range.Statement.{statement}
 use Rattle.ranges.proofs.range.block_range.Tie as tie
 

@@ -3,8 +3,6 @@ use Rattle.ranges.specs.Ranged.{chainRanges}
 use Rattle.ranges.specs.RangedLaws.{chain-out, chain-end, chain-over, chain-on}
 use mathlib.Core.Path.{_≡_, refl}
 use borrow.Author.Needs.{needs}
-use native.Mathlib.Omega.{arith}
-use lib.ListN.{length, length-set}
 use Rattle.ranges.proofs.range.chain_ranges.Statement.{statement}
 use Rattle.ranges.proofs.range.chain_ranges.Tie as tie
 

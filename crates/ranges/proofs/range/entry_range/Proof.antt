@@ -1,7 +1,5 @@
 -- What stands at the link decides.
 use Rattle.ranges.specs.RangedLaws.{entry-zero, entry-refused, entry-dl, entry-hl, entry-block}
-use native.Mathlib.Omega.{arith}
-use lib.ListN.{length, length-set}
 use borrow.Author.Needs.{needs}
 use Rattle.ranges.proofs.range.entry_range.Statement.{statement}
 use Rattle.ranges.proofs.range.entry_range.Tie as tie

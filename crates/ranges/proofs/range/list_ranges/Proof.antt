@@ -5,8 +5,6 @@ use Rattle.ranges.specs.RangedLaws.{ranges-begin, ranges-stop, ranges-on
 use mathlib.Core.Path.{_≡_}
 use Prim.Native.Nat.{_-_}
 use borrow.Author.Needs.{needs}
-use native.Mathlib.Omega.{arith}
-use lib.ListN.{length, length-set}
 use Rattle.ranges.proofs.range.list_ranges.Statement.{statement}
 use Rattle.ranges.proofs.range.list_ranges.Tie as tie
 

@@ -1,7 +1,5 @@
 -- What stands there decides.
 use Rattle.ranges.specs.RangedLaws.{pass-refused, pass-block, pass-hl, pass-stop, pass-dl}
-use native.Mathlib.Omega.{arith}
-use lib.ListN.{length, length-set}
 use borrow.Author.Needs.{needs}
 use Rattle.ranges.proofs.range.pass_at.Statement.{statement}
 use Rattle.ranges.proofs.range.pass_at.Tie as tie

@@ -1,7 +1,5 @@
 -- The refusal of opening, or what the opened file answers.
 use Rattle.ranges.specs.ReadLaws.{ask-refused, ask-holds}
-use native.Mathlib.Omega.{arith}
-use lib.ListN.{length, length-set}
 use borrow.Author.Needs.{needs}
 use Rattle.ranges.proofs.read.ask.Statement.{statement}
 use Rattle.ranges.proofs.read.ask.Tie as tie

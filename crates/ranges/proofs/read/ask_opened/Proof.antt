@@ -1,7 +1,6 @@
 -- 22, 23, or the column.
 use Rattle.ranges.specs.ReadLaws.{ask-22, ask-23, ask-column}
 use native.Mathlib.Omega.{arith}
-use lib.ListN.{length, length-set}
 use borrow.Author.Needs.{needs}
 use Rattle.ranges.proofs.read.ask_opened.Statement.{statement}
 use Rattle.ranges.proofs.read.ask_opened.Tie as tie

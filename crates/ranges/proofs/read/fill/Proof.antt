@@ -1,8 +1,6 @@
 -- The block with the first byte, then block by block.
 use mathlib.Core.Path.{refl}
 use Rattle.ranges.specs.ReadLaws.{fill-asks, fill-is}
-use native.Mathlib.Omega.{arith}
-use lib.ListN.{length, length-set}
 use borrow.Author.Needs.{needs}
 use Rattle.ranges.proofs.read.fill.Statement.{statement}
 use Rattle.ranges.proofs.read.fill.Tie as tie

@@ -1,7 +1,5 @@
 -- By division.
 use Rattle.ranges.specs.ReadLaws.{fits-none, fits-part, fits-whole}
-use native.Mathlib.Omega.{arith}
-use lib.ListN.{length, length-set}
 use borrow.Author.Needs.{needs}
 use Rattle.ranges.proofs.read.fits.Statement.{statement}
 use Rattle.ranges.proofs.read.fits.Tie as tie

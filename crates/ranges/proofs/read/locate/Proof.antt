@@ -1,7 +1,5 @@
 -- A refusal, no bytes, or inside a block.
 use Rattle.ranges.specs.ReadLaws.{locate-refused, locate-none, locate-fills, locate-some, none-of, of-none}
-use native.Mathlib.Omega.{arith}
-use lib.ListN.{length, length-set}
 use borrow.Author.Needs.{needs}
 use Rattle.ranges.proofs.read.locate.Statement.{statement}
 use Rattle.ranges.proofs.read.locate.Tie as tie

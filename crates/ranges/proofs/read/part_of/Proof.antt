@@ -1,7 +1,6 @@
 -- Past the end, to the end, or inside.
 use Rattle.ranges.specs.ReadLaws.{part-past, part-rest, part-within}
 use native.Mathlib.Omega.{arith}
-use lib.ListN.{length, length-set}
 use borrow.Author.Needs.{needs}
 use Rattle.ranges.proofs.read.part_of.Statement.{statement}
 use Rattle.ranges.proofs.read.part_of.Tie as tie

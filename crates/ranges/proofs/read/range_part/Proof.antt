@@ -1,7 +1,5 @@
 -- The words by the place, and the part.
 use Rattle.ranges.specs.ReadLaws.{hand-refused, hand-split, hand-at}
-use native.Mathlib.Omega.{arith}
-use lib.ListN.{length, length-set}
 use borrow.Author.Needs.{needs}
 use Rattle.ranges.proofs.read.range_part.Statement.{statement}
 use Rattle.ranges.proofs.read.range_part.Tie as tie

@@ -1,7 +1,6 @@
 -- A refusal, another length, no bytes, or the bytes.
 use Rattle.ranges.specs.ReadLaws.{read-refused, read-short, read-fills, read-copied, read-empty}
 use native.Mathlib.Omega.{arith}
-use lib.ListN.{length, length-set}
 use borrow.Author.Needs.{needs}
 use Rattle.ranges.proofs.read.read_range.Statement.{statement}
 use Rattle.ranges.proofs.read.read_range.Tie as tie

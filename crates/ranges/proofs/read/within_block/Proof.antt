@@ -1,7 +1,6 @@
 -- The block that holds the first byte, and what is left of it.
 use Rattle.ranges.specs.ReadLaws.{block-place, block-inside, block-split, block-at, too-many, not-many}
 use native.Mathlib.Omega.{arith}
-use lib.ListN.{length, length-set}
 use borrow.Author.Needs.{needs}
 use Rattle.ranges.proofs.read.within_block.Statement.{statement}
 use Rattle.ranges.proofs.read.within_block.Tie as tie

@@ -6,7 +6,7 @@ use Rattle.ranges.specs.Blocks.{listedFrom}
 use Prim.Native.Nat.{_-_}
 use borrow.Author.Needs.{needs}
 use native.Mathlib.Omega.{arith}
-use lib.ListN.{length, length-set}
+use lib.ListN.{length}
 use Rattle.ranges.proofs.seek.copy_from.Statement.{statement}
 use Rattle.ranges.proofs.seek.copy_from.Tie as tie
 

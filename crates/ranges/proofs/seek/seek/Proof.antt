@@ -3,7 +3,6 @@ use Rattle.ranges.specs.SeekLaws.{Seeking, seek-begin, seek-end, seek-he
 use Prim.Native.Nat.{_-_}
 use borrow.Author.Needs.{needs}
 use native.Mathlib.Omega.{arith}
-use lib.ListN.{length, length-set}
 use Rattle.ranges.proofs.seek.seek.Statement.{statement}
 use Rattle.ranges.proofs.seek.seek.Tie as tie
 

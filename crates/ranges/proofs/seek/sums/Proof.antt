@@ -3,7 +3,6 @@ use Rattle.ranges.specs.SeekLaws.{Summing, sum-begin, sum-end, sum-short
 use Prim.Native.Nat.{_-_}
 use borrow.Author.Needs.{needs}
 use native.Mathlib.Omega.{arith}
-use lib.ListN.{length, length-set}
 use Rattle.ranges.proofs.seek.sums.Statement.{statement}
 use Rattle.ranges.proofs.seek.sums.Tie as tie
 

@@ -3,7 +3,6 @@ use Rattle.ranges.specs.SeekLaws.{off-few, off-just, off-whole, off-part
 use native.Mathlib.Nat.{mod-lt}
 use Prim.Native.Nat.{_%_, _<_}
 use native.Mathlib.Omega.{arith}
-use lib.ListN.{length, length-set}
 use borrow.Author.Needs.{needs}
 use Rattle.ranges.proofs.seek.take_off.Statement.{statement}
 use Rattle.ranges.proofs.seek.take_off.Tie as tie

@@ -13,7 +13,7 @@ use base.Fml.{Lft, GName, Share, Fml, ftrue, flft}
 use prog.Memory.{Memory}
 use prog.Routine.{Routine}
 use prog.Wp.{Heap, Calls, Loops, WpFn, Tables}
-use ghost.Atoms.{Atoms, sem}
+use ghost.Atoms.{Atoms}
 use sound.WpLaws.{FmC, fmOf, WpFn-mono}
 use contract.Monad.{Fun, fact}
 use contract.Running.{givenOf, tables, tablesOf}

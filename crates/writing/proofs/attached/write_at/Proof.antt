@@ -34,11 +34,11 @@ same-length c = search needs
 returns : tie.Need-returns
 returns c =
     wrote-placed _ _ _ _ _ _
-        (c .before .before .before .before .before .before .before .before .before .before .before .before .pre .0) (length-at _
-        _ _ _ (c .before .before .before .before .before .before .before .before .before .before .before .before .pre .1) ∙ sym
-        (c .size-at .ensures))
+    (c .before .before .before .before .before .before .before .before .before .before .before .before .pre .0) (length-at _
+    _ _ _ (c .before .before .before .before .before .before .before .before .before .before .before .before .pre .1) ∙ sym
+    (c .size-at .ensures))
     (c .before .before .before .before .before .before .before .gap .ensures) (lent-is _ _ _ _
-        (c .before .before .before .put-at .ensures))
+    (c .before .before .before .put-at .ensures (c .before .before .before .before .before .before .before .before .before .before .before .before .pre .3)))
 
 pub write-at-spec : {M : Type 1} → statement M
 write-at-spec =

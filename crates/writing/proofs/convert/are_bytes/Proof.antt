@@ -1,11 +1,8 @@
 use Rattle.writing.specs.FinishLaws.{none-bytes}
 use native.Mathlib.Omega.{arith}
-use lib.ListN.{length, length-set}
 use borrow.Author.Needs.{needs}
 use Rattle.writing.proofs.convert.are_bytes.Statement.{statement}
 use Rattle.writing.proofs.convert.are_bytes.Tie as tie
-use Rattle.writing.proofs.convert.are_bytes.Reads as reads
-use Rattle.writing.proofs.convert.are_bytes.Lts as lts
 
 -- src/convert.rt:36:22
 shared-slice-read--first : tie.Need-shared-slice-read--first

@@ -1,14 +1,8 @@
 -- A refusal of what was decided, or the rest.
 use Rattle.writing.specs.FinishLaws.{decides-done, decides-refused, stands-timed, refused-left, done-left, promised-by, cleared-source, cleared-fragments, cleared-columns}
-use native.Mathlib.Omega.{arith}
-use lib.ListN.{length, length-set}
 use borrow.Author.Needs.{needs}
 use Rattle.writing.proofs.convert.convert.Statement.{statement}
 use Rattle.writing.proofs.convert.convert.Tie as tie
-use Rattle.writing.proofs.convert.convert.Reads as reads
-use Rattle.writing.proofs.convert.convert.Lts as lts
-use Rattle.writing.proofs.convert.finish.Reads as finish-reads
-use Rattle.placing.proofs.decide.decide.Reads as decide-reads
 
 -- src/convert.rt:108:9
 are-bytes-requires : tie.Need-are-bytes-requires

@@ -2,15 +2,9 @@
 use mathlib.Core.Path.{_∙_}
 use Rattle.writing.specs.FinishLaws.{short-output, short-list, all-done, stands-omissions, stands-words, stands-long, stands-listed, stands-counts, stands-report}
 use native.Mathlib.Omega.{arith}
-use lib.ListN.{length, length-set}
 use borrow.Author.Needs.{needs}
 use Rattle.writing.proofs.convert.finish.Statement.{statement}
 use Rattle.writing.proofs.convert.finish.Tie as tie
-use Rattle.writing.proofs.convert.finish.Reads as reads
-use Rattle.writing.proofs.convert.finish.Lts as lts
-use Rattle.writing.proofs.convert.count_up.Reads as count-up-reads
-use Rattle.writing.proofs.file.write_file.Reads as write-file-reads
-use Rattle.writing.proofs.omissions.write_list.Reads as write-list-reads
 
 -- src/convert.rt:86:9
 returns : tie.Need-returns

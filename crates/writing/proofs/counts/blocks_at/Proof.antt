@@ -1,14 +1,8 @@
 use Rattle.writing.specs.CountedLaws.{data-blocks, blocks-alone, blocks-signal}
 use native.Mathlib.Omega.{arith}
-use lib.ListN.{length, length-set}
 use borrow.Author.Needs.{needs}
 use Rattle.writing.proofs.counts.blocks_at.Statement.{statement}
 use Rattle.writing.proofs.counts.blocks_at.Tie as tie
-use Rattle.writing.proofs.counts.blocks_at.Reads as reads
-use Rattle.writing.proofs.counts.blocks_at.Lts as lts
-use Rattle.channels.proofs.block_count.Reads as block-count-reads
-use Rattle.channels.proofs.width_of.Reads as width-of-reads
-use Rattle.planning.proofs.words.word.Reads as word-reads
 
 -- src/counts.rt:71:27
 mul-word : tie.Need-mul-word

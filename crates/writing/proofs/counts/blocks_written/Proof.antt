@@ -4,12 +4,8 @@ use Rattle.writing.specs.SumLaws.{Summing, sum-none, sum-more, sum-all}
 use Rattle.writing.specs.Counted.{blocksAt}
 use borrow.Author.Needs.{needs}
 use native.Mathlib.Omega.{arith}
-use lib.ListN.{length, length-set}
 use Rattle.writing.proofs.counts.blocks_written.Statement.{statement}
 use Rattle.writing.proofs.counts.blocks_written.Tie as tie
-use Rattle.writing.proofs.counts.blocks_written.Reads as reads
-use Rattle.writing.proofs.counts.blocks_written.Lts as lts
-use Rattle.writing.proofs.counts.blocks_at.Reads as blocks-at-reads
 
 abbrev Inv-loop : tie.InvT-loop
 Inv-loop image size columns n k₀ sum₀ k sum = Summing (blocksAt image size columns) 4294967296 n k sum

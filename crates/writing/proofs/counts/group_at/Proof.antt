@@ -1,13 +1,7 @@
 use Rattle.writing.specs.CountedLaws.{group-not, group-storage, group-counts}
-use native.Mathlib.Omega.{arith}
-use lib.ListN.{length, length-set}
 use borrow.Author.Needs.{needs}
 use Rattle.writing.proofs.counts.group_at.Statement.{statement}
 use Rattle.writing.proofs.counts.group_at.Tie as tie
-use Rattle.writing.proofs.counts.group_at.Reads as reads
-use Rattle.writing.proofs.counts.group_at.Lts as lts
-use Rattle.channels.proofs.is_storage.Reads as is-storage-reads
-use Rattle.planning.proofs.words.word.Reads as word-reads
 
 -- src/counts.rt:15:21
 add-word : tie.Need-add-word

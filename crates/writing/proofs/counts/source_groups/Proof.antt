@@ -3,13 +3,8 @@ use Prim.Native.Nat.{_-_}
 use Rattle.writing.specs.SumLaws.{Summing, sum-none, sum-more, sum-all}
 use Rattle.writing.specs.Counted.{groupAt}
 use borrow.Author.Needs.{needs}
-use native.Mathlib.Omega.{arith}
-use lib.ListN.{length, length-set}
 use Rattle.writing.proofs.counts.source_groups.Statement.{statement}
 use Rattle.writing.proofs.counts.source_groups.Tie as tie
-use Rattle.writing.proofs.counts.source_groups.Reads as reads
-use Rattle.writing.proofs.counts.source_groups.Lts as lts
-use Rattle.writing.proofs.counts.group_at.Reads as group-at-reads
 
 abbrev Inv-loop : tie.InvT-loop
 Inv-loop image source n i₀ sum₀ i sum = Summing (groupAt image source) 1 n i sum

@@ -1,12 +1,7 @@
 use Rattle.writing.specs.CountedLaws.{time-yes, time-no}
-use native.Mathlib.Omega.{arith}
-use lib.ListN.{length, length-set}
 use borrow.Author.Needs.{needs}
 use Rattle.writing.proofs.counts.time_at.Statement.{statement}
 use Rattle.writing.proofs.counts.time_at.Tie as tie
-use Rattle.writing.proofs.counts.time_at.Reads as reads
-use Rattle.writing.proofs.counts.time_at.Lts as lts
-use Rattle.planning.proofs.words.word.Reads as word-reads
 
 -- src/counts.rt:44:22
 mul-word : tie.Need-mul-word

@@ -4,12 +4,8 @@ use Rattle.writing.specs.SumLaws.{Summing, sum-none, sum-more, sum-all}
 use Rattle.writing.specs.Counted.{timeAt}
 use borrow.Author.Needs.{needs}
 use native.Mathlib.Omega.{arith}
-use lib.ListN.{length, length-set}
 use Rattle.writing.proofs.counts.time_columns.Statement.{statement}
 use Rattle.writing.proofs.counts.time_columns.Tie as tie
-use Rattle.writing.proofs.counts.time_columns.Reads as reads
-use Rattle.writing.proofs.counts.time_columns.Lts as lts
-use Rattle.writing.proofs.counts.time_at.Reads as time-at-reads
 
 abbrev Inv-loop : tie.InvT-loop
 Inv-loop columns n k₀ sum₀ k sum = Summing (timeAt columns) 1 n k sum

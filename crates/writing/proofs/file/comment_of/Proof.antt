@@ -1,13 +1,7 @@
 use Rattle.writing.specs.StructureLaws.{link-new}
-use native.Mathlib.Omega.{arith}
-use lib.ListN.{length, length-set}
 use borrow.Author.Needs.{needs}
 use Rattle.writing.proofs.file.comment_of.Statement.{statement}
 use Rattle.writing.proofs.file.comment_of.Tie as tie
-use Rattle.writing.proofs.file.comment_of.Reads as reads
-use Rattle.writing.proofs.file.comment_of.Lts as lts
-use Rattle.blocks.proofs.block.link_at.Reads as link-at-reads
-use Rattle.placing.proofs.memo.new_link.Reads as new-link-reads
 
 -- src/file.rt:49:9
 link-at-requires : tie.Need-link-at-requires

@@ -1,13 +1,8 @@
 use mathlib.Core.Path.{refl}
 use Rattle.base.specs.ChoiceLaws.{eq-yes, eq-no}
-use native.Mathlib.Omega.{arith}
-use lib.ListN.{length, length-set}
 use borrow.Author.Needs.{needs}
 use Rattle.writing.proofs.file.first_column.Statement.{statement}
 use Rattle.writing.proofs.file.first_column.Tie as tie
-use Rattle.writing.proofs.file.first_column.Reads as reads
-use Rattle.writing.proofs.file.first_column.Lts as lts
-use Rattle.planning.proofs.words.word.Reads as word-reads
 
 -- src/file.rt:29:9
 returns : tie.Need-returns

@@ -1,15 +1,9 @@
 use mathlib.Core.Path.{refl}
 use Rattle.base.specs.ChoiceLaws.{eq-yes, eq-no}
 use Rattle.writing.specs.StructureLaws.{link-new}
-use native.Mathlib.Omega.{arith}
-use lib.ListN.{length, length-set}
 use borrow.Author.Needs.{needs}
 use Rattle.writing.proofs.file.first_history.Statement.{statement}
 use Rattle.writing.proofs.file.first_history.Tie as tie
-use Rattle.writing.proofs.file.first_history.Reads as reads
-use Rattle.writing.proofs.file.first_history.Lts as lts
-use Rattle.placing.proofs.memo.new_link.Reads as new-link-reads
-use Rattle.planning.proofs.words.word.Reads as word-reads
 
 -- src/file.rt:39:9
 returns : tie.Need-returns

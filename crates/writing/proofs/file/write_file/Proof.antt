@@ -1,23 +1,8 @@
 -- Each part after the one before.
 use Rattle.writing.specs.FileLaws.{few-attachments, front-is, front-room, front-done, history-asks, history-done, new-asks, new-done, columns-asks, columns-done, structure-asks, structure-done, data-asks, data-done, attached-asks, attached-done, end-room, file-same, file-done}
-use native.Mathlib.Omega.{arith}
-use lib.ListN.{length, length-set}
 use borrow.Author.Needs.{needs}
 use Rattle.writing.proofs.file.write_file.Statement.{statement}
 use Rattle.writing.proofs.file.write_file.Tie as tie
-use Rattle.writing.proofs.file.write_file.Reads as reads
-use Rattle.writing.proofs.file.write_file.Lts as lts
-use Rattle.writing.proofs.attached.next_place.Reads as next-place-reads
-use Rattle.writing.proofs.attached.write_attachments.Reads as write-attachments-reads
-use Rattle.writing.proofs.copies.write_copies.Reads as write-copies-reads
-use Rattle.writing.proofs.data.write_data.Reads as write-data-reads
-use Rattle.writing.proofs.file.comment_of.Reads as comment-of-reads
-use Rattle.writing.proofs.file.first_column.Reads as first-column-reads
-use Rattle.writing.proofs.file.first_history.Reads as first-history-reads
-use Rattle.writing.proofs.front.write_front.Reads as write-front-reads
-use Rattle.writing.proofs.front.write_history.Reads as write-history-reads
-use Rattle.writing.proofs.gap.gap.Reads as gap-reads
-use Rattle.writing.proofs.structure.write_structure.Reads as write-structure-reads
 
 -- src/file.rt:66:9
 first-column-requires : tie.Need-first-column-requires

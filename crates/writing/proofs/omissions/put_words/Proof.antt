@@ -3,11 +3,8 @@ use Prim.Native.Nat.{_-_}
 use Rattle.writing.specs.OmissionsLaws.{Putting, putting-none, putting-more, putting-all}
 use borrow.Author.Needs.{needs}
 use native.Mathlib.Omega.{arith}
-use lib.ListN.{length, length-set}
 use Rattle.writing.proofs.omissions.put_words.Statement.{statement}
 use Rattle.writing.proofs.omissions.put_words.Tie as tie
-use Rattle.writing.proofs.omissions.put_words.Reads as reads
-use Rattle.writing.proofs.omissions.put_words.Lts as lts
 
 abbrev Inv-loop : tie.InvT-loop
 Inv-loop list₀ at w i n k₀ list k = Putting list₀ w at i n k list

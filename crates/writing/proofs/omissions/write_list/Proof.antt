@@ -2,13 +2,10 @@
 use mathlib.Core.Path.{refl}
 use Rattle.writing.specs.OmissionsLaws.{list-room, list-same, list-put}
 use native.Mathlib.Omega.{arith}
-use lib.ListN.{length, length-set}
+use lib.ListN.{length-set}
 use borrow.Author.Needs.{needs}
 use Rattle.writing.proofs.omissions.write_list.Statement.{statement}
 use Rattle.writing.proofs.omissions.write_list.Tie as tie
-use Rattle.writing.proofs.omissions.write_list.Reads as reads
-use Rattle.writing.proofs.omissions.write_list.Lts as lts
-use Rattle.writing.proofs.omissions.put_words.Reads as put-words-reads
 
 -- src/omissions.rt:25:5
 slice-write-list : tie.Need-slice-write-list

@@ -5,13 +5,13 @@ use Rattle.writing.proofs.structure.fill_cg.Statement.{statement}
 use Rattle.writing.proofs.structure.fill_cg.Tie as tie
 
 link-requires : tie.Need-link-requires
-link-requires c κs = search needs
+link-requires c κs = c .before .before .before .pre
 
 link-requires-2 : tie.Need-link-requires-2
-link-requires-2 c κs = search needs
+link-requires-2 c κs = c .before .before .before .before .pre
 
 link-requires-3 : tie.Need-link-requires-3
-link-requires-3 c κs = search needs
+link-requires-3 c κs = c .before .before .before .before .before .pre
 
 channel-bytes-requires : tie.Need-channel-bytes-requires
 channel-bytes-requires c κs = search needs
@@ -32,7 +32,7 @@ returns c =
     (c .before .before .before .before .before .before .before .link2 .ensures)
     (c .before .before .before .before .before .before .link3 .ensures)
     (c .before .before .before .before .before .channel-bytes .ensures .is)
-        (c .before .before .before .before .keeps-inval .ensures)
+    (c .before .before .before .before .keeps-inval .ensures)
 
 pub fill-cg-spec : {M : Type 1} → statement M
 fill-cg-spec =

@@ -8,7 +8,7 @@ dl-place-requires : tie.Need-dl-place-requires
 dl-place-requires c κs = search needs
 
 link-requires : tie.Need-link-requires
-link-requires c κs = search needs
+link-requires c κs = c .before .before .before .before .pre .2
 
 add-put-dg : tie.Need-add-put-dg
 add-put-dg c = search needs
@@ -22,7 +22,7 @@ same-length c = search needs
 returns : tie.Need-returns
 returns c =
     filled-dg _ _ _ _ _ _ (c .before .before .put-dg .ensures)
-        (c .before .before .before .before .before .before .dl-place .ensures)
+    (c .before .before .before .before .before .before .dl-place .ensures)
     (c .before .before .before .before .before .link .ensures)
 
 pub fill-dg-spec : {M : Type 1} → statement M

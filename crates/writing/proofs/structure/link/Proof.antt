@@ -7,11 +7,11 @@ use Rattle.writing.proofs.structure.link.Tie as tie
 link-at-requires : tie.Need-link-at-requires
 link-at-requires c κs = search needs
 
-new-link-requires : tie.Need-new-link-requires
-new-link-requires c κs = search needs
+link-by-requires : tie.Need-link-by-requires
+link-by-requires c κs = search needs
 
 returns : tie.Need-returns
-returns c = link-new _ _ _ (c .new-link .ensures) (c .before .link-at .ensures)
+returns c = link-new _ _ _ (c .link-by .ensures (c .before .before .before .before .pre)) (c .before .link-at .ensures)
 
 pub link-spec : {M : Type 1} → statement M
-link-spec = tie.close (tie.spec link-at-requires new-link-requires returns)
+link-spec = tie.close (tie.spec link-at-requires link-by-requires returns)

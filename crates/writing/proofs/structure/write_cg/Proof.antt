@@ -21,7 +21,7 @@ part-fill-cg-end : tie.Need-part-fill-cg-end
 part-fill-cg-end c = search needs
 
 fill-cg-requires : tie.Need-fill-cg-requires
-fill-cg-requires c κs = search needs
+fill-cg-requires c κs = c .before .before .before .before .before .before .before .before .before .pre .4
 
 same-length : tie.Need-same-length
 same-length c = search needs

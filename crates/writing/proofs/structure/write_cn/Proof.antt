@@ -18,7 +18,7 @@ part-fill-cn-end : tie.Need-part-fill-cn-end
 part-fill-cn-end c = search needs
 
 fill-cn-requires : tie.Need-fill-cn-requires
-fill-cn-requires c κs = search needs
+fill-cn-requires c κs = c .before .before .before .before .before .before .before .before .pre .3
 
 add-result : tie.Need-add-result
 add-result c = search needs

@@ -6,36 +6,38 @@ use Rattle.writing.proofs.structure.write_column.Statement.{statement}
 use Rattle.writing.proofs.structure.write_column.Tie as tie
 
 write-dg-requires : tie.Need-write-dg-requires
-write-dg-requires c κs = search needs
+write-dg-requires c κs = let r = c .before .before .before .before .pre .0 in (omega arith, omega arith, omega arith, c .before .before .before .before .pre .1)
 
 write-cg-requires : tie.Need-write-cg-requires
 write-cg-requires c κs = (
   omega (arith, past-one _ 64 (c .before .before .before .write-dg .ensures) (length-columnDG _ _ _ _)),
-  c .before .before .before .before .before .before .before .before .pre .cn,
+  c .before .before .before .before .before .before .before .before .pre .0 .cn,
   omega (
     arith,
-    c .before .before .before .before .before .before .before .before .pre .ends,
+    c .before .before .before .before .before .before .before .before .pre .0 .ends,
     c .before .before .before .write-dg .kept,
   ),
-  c .before .before .before .before .before .before .before .before .pre .group,
+  c .before .before .before .before .before .before .before .before .pre .0 .group,
+  c .before .before .before .before .before .before .before .before .pre .1,
 )
 
 write-cn-requires : tie.Need-write-cn-requires
 write-cn-requires c κs = (
   omega (
     arith,
-    c .before .before .before .before .before .before .before .before .before .before .before .before .pre .cn,
+    c .before .before .before .before .before .before .before .before .before .before .before .before .pre .0 .cn,
     past-one _ _
         (c .before .before .before .write-cg .ensures) (length-columnCG _ _ _
-        (c .before .before .before .before .before .before .before .before .before .before .before .before .pre .group)),
+        (c .before .before .before .before .before .before .before .before .before .before .before .before .pre .0 .group)),
   ),
   omega (
     arith,
-    c .before .before .before .before .before .before .before .before .before .before .before .before .pre .ends,
+    c .before .before .before .before .before .before .before .before .before .before .before .before .pre .0 .ends,
     c .before .before .before .before .before .before .before .write-dg .kept,
     c .before .before .before .write-cg .kept,
   ),
-  c .before .before .before .before .before .before .before .before .before .before .before .before .pre .channel,
+  c .before .before .before .before .before .before .before .before .before .before .before .before .pre .0 .channel,
+  c .before .before .before .before .before .before .before .before .before .before .before .before .pre .1,
 )
 
 write-dl-requires : tie.Need-write-dl-requires
@@ -43,11 +45,11 @@ write-dl-requires c κs = (
   omega (
     arith,
     past-one _ 160 (c .before .before .before .write-cn .ensures) (length-columnCN _ _ _
-        (c .before .before .before .before .before .before .before .before .before .before .before .before .before .before .before .before .pre .channel)),
+        (c .before .before .before .before .before .before .before .before .before .before .before .before .before .before .before .before .pre .0 .channel)),
   ),
   omega (
     arith,
-    c .before .before .before .before .before .before .before .before .before .before .before .before .before .before .before .before .pre .ends,
+    c .before .before .before .before .before .before .before .before .before .before .before .before .before .before .before .before .pre .0 .ends,
     c .before .before .before .before .before .before .before .before .before .before .before .write-dg .kept,
     c .before .before .before .before .before .before .before .write-cg .kept,
     c .before .before .before .write-cn .kept,
@@ -60,7 +62,7 @@ same-length c = search needs
 returns : tie.Need-returns
 returns c =
     wrote-column _ _
-    (c .before .before .before .before .before .before .before .before .before .before .before .before .before .before .before .before .before .before .before .pre)
+    (c .before .before .before .before .before .before .before .before .before .before .before .before .before .before .before .before .before .before .before .pre .0)
     (c .before .before .before .before .before .before .before .before .before .before .before .before .before .before .write-dg .ensures)
     (c .before .before .before .before .before .before .before .before .before .before .write-cg .ensures)
     (c .before .before .before .before .before .before .write-cn .ensures) (c .before .before .write-dl .ensures)

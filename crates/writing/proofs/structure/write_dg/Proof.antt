@@ -18,7 +18,7 @@ part-fill-dg-end : tie.Need-part-fill-dg-end
 part-fill-dg-end c = search needs
 
 fill-dg-requires : tie.Need-fill-dg-requires
-fill-dg-requires c κs = search needs
+fill-dg-requires c κs = (omega arith, omega arith, c .before .before .before .before .before .before .before .before .pre .3)
 
 add-result : tie.Need-add-result
 add-result c = search needs
@@ -29,7 +29,7 @@ same-length c = search needs
 returns : tie.Need-returns
 returns c =
     wrote-dg _ _ _ _ _ _ _ _ (c .before .before .before .before .before .before .gap .ensures)
-        (c .before .before .fill-dg .ensures)
+    (c .before .before .fill-dg .ensures)
     (omega arith)
 
 pub write-dg-spec : {M : Type 1} → statement M

@@ -8,31 +8,31 @@ use Rattle.writing.proofs.structure.write_structure.Statement.{statemen
 use Rattle.writing.proofs.structure.write_structure.Tie as tie
 
 abbrev Inv-loop : tie.InvT-loop
-Inv-loop out₀ at image table size columns memo n used k₀ to₀ out k to = Structures (onTable table) image size columns memo n used at out₀ k to out
+Inv-loop out₀ at image table size columns memo n used index k₀ to₀ out k to = Structures (onTable table) image size columns memo n used at out₀ k to out
 
 abbrev μ-loop : tie.MeasureT-loop
-μ-loop out₀ at image table size columns memo n used k₀ to₀ out k to = n - k
+μ-loop out₀ at image table size columns memo n used index k₀ to₀ out k to = n - k
+
+index-copies-requires : tie.Need-index-copies-requires Inv-loop μ-loop
+index-copies-requires c κs = search needs
 
 loop-holds : tie.Need-loop-holds Inv-loop μ-loop
-loop-holds c = structures-begin (c .before .before .before .before .before .pre)
+loop-holds c = structures-begin (c .before .before .before .before .before .before .pre)
 
 column-of-requires : tie.Need-column-of-requires Inv-loop μ-loop
 column-of-requires c κs = (
-  near-ready (c .before .before .before .before .before .before .before .pre) (omega arith),
+  near-ready (c .before .before .before .before .before .before .before .before .pre) (omega arith),
   c .loop-test .taken,
-  c .before .before .before .before .before .before .before .pre .long,
+  c .before .before .before .before .before .before .before .before .pre .long,
 )
 
 next-place-requires : tie.Need-next-place-requires Inv-loop μ-loop
 next-place-requires c κs =
-    (near-ready (c .before .before .before .before .before .before .before .before .pre) (omega arith), c .before .loop-test .taken)
+    (near-ready (c .before .before .before .before .before .before .before .before .before .pre) (omega arith), c .before .loop-test .taken)
 
 write-column-requires : tie.Need-write-column-requires Inv-loop μ-loop
 write-column-requires c κs =
-    rw (c .before .before .column-of .ensures) (structures-room
-    (c .before .before .before .before .before .before .before .before .before .before .pre)
-        (c .before .before .before .before .loop .inv)
-    (c .before .before .before .loop-test .taken))
+    (rw (c .before .before .before .column-of .ensures) (structures-room (c .before .before .before .before .before .before .before .before .before .before .before .before .pre) (c .before .before .before .before .before .loop .inv) (c .before .before .before .before .loop-test .taken)), c .before .before .before .before .before .before .index-copies .ensures)
 
 add-k : tie.Need-add-k Inv-loop μ-loop
 add-k c = search needs
@@ -42,9 +42,9 @@ loop-less c = search needs
 
 loop-again : tie.Need-loop-again Inv-loop μ-loop
 loop-again c =
-    structures-turn (c .before .before .before .before .before .before .before .loop .inv)
-    (c .before .before .before .before .before .before .loop-test .taken)
-    (c .before .before .before .before .before .column-of .ensures) (c .before .before .before .before .next-place .ensures)
+    structures-turn (c .before .before .before .before .before .before .before .before .loop .inv)
+    (c .before .before .before .before .before .before .before .loop-test .taken)
+    (c .before .before .before .before .before .before .column-of .ensures) (c .before .before .before .before .before .next-place .ensures)
     (c .before .before .write-column .ensures) (omega (arith, c .before .before .write-column .kept))
 
 same-length : tie.Need-same-length Inv-loop μ-loop
@@ -59,6 +59,7 @@ write-structure-spec =
     (tie.spec
     Inv-loop
     μ-loop
+    index-copies-requires
     loop-holds
     column-of-requires
     next-place-requires
