@@ -101,7 +101,7 @@ impl Tally {
 }
 
 /// 1234567 as 1,234,567.
-fn grouped(n: u64) -> String {
+pub fn grouped(n: u64) -> String {
     if n < 1000 {
         n.to_string()
     } else {

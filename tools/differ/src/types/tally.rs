@@ -1,6 +1,7 @@
 //! What was met with tables of treatments, for docs/COMPARED.md.
 use super::model::{Column, Plan};
 use crate::blocks::data_field;
+use crate::tally::grouped;
 use std::collections::BTreeMap;
 
 /// Where a refusal is met.
@@ -50,20 +51,26 @@ impl Tally {
     }
 
     pub fn print(&self) {
-        println!("| Images | {} |\n|---|---:|", self.images);
-        println!("| of these with a type or link that lies in another block too, not tried with tables | {} |", self.overlapping);
-        println!("| accepted with a table, as the model plans and the Rust writes | {} |\n| bytes of these | {} |", self.files, self.bytes);
-        println!("| of these refused without a table | {} |", self.only_with);
-        self.refused.iter().for_each(|((stage, number), n)| println!("| refused with {number} in {} | {n} |", stage_words(*stage)));
-        println!("| of these accepted without a table | {} |", self.only_without);
-        println!("| with a table that is none: 27, after 1, 2 and 26 | {} |", self.wrong);
-        println!("| listings compared | {} |\n| disagreements | {} |\n", self.listings, self.disagreements);
-        println!("| Accepted with a table | columns or omissions |\n|---|---:|");
-        self.columns.iter().for_each(|(what, n)| println!("| {what} | {n} |"));
-        self.reasons.iter().for_each(|(reason, n)| println!("| omitted with reason {reason} | {n} |"));
+        println!("| Images | {} |\n|---|---:|", grouped(self.images));
+        row("of these with a type or link that lies in another block too, not tried with tables", self.overlapping);
+        row("accepted with a table, as the model plans and the Rust writes", self.files);
+        row("bytes of these", self.bytes);
+        row("of these refused without a table", self.only_with);
+        self.refused.iter().for_each(|((stage, number), n)| row(&format!("refused with {number} in {}", stage_words(*stage)), *n));
+        row("of these accepted without a table", self.only_without);
+        row("with a table that is none: 27, after 1, 2 and 26", self.wrong);
+        row("listings compared", self.listings);
+        row("disagreements", self.disagreements);
+        println!("\n| Accepted with a table | columns or omissions |\n|---|---:|");
+        self.columns.iter().for_each(|(what, n)| row(what, *n));
+        self.reasons.iter().for_each(|(reason, n)| row(&format!("omitted with reason {reason}"), *n));
         println!("\n| What a table changes of a channel | channels |\n|---|---:|");
-        self.moved.iter().for_each(|(what, n)| println!("| {what} | {n} |"));
+        self.moved.iter().for_each(|(what, n)| row(what, *n));
     }
+}
+
+fn row(what: &str, n: u64) {
+    println!("| {what} | {} |", grouped(n));
 }
 
 fn stage_words(stage: Stage) -> &'static str {
