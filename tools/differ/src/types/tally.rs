@@ -77,7 +77,7 @@ fn stage_words(stage: Stage) -> &'static str {
     match stage {
         Stage::Reading => "reading",
         Stage::Planning => "planning, as the model says",
-        Stage::Later => "later stages, as the Rust's recording is",
+        Stage::Later => "later stages, as the recording that stands for it",
     }
 }
 
