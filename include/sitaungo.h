@@ -24,7 +24,7 @@ extern "C" {
 #endif
 
 /* Of library and command. The command writes it into the history entry of each result. */
-#define SITAUNGO_VERSION "1.1.0"
+#define SITAUNGO_VERSION "1.2.0"
 
 /* ---- lengths of the slices */
 
