@@ -143,7 +143,10 @@ struct sitaungo_outcome {
  * `ident` becomes the result's first 64 bytes and begins with `MDF`, five blanks, `4.20`, four blanks. `text` is the new history entry's
  * comment, `time` its time in nanoseconds since 1970. A refusal leaves out and list as they were; what lies past result and list stays too.
  * The work slices are zero afterwards, but as they were after refusal 1. An empty `out` gives refusal 20 with the bytes needed as its place,
- * once all else is decided. */
+ * once all else is decided.
+ *
+ * `fragments` may have more words than it needs: one more for each record of groups that share a DG is enough to keep where each of these lies. The result
+ * doesn't depend on it; without, a recording whose groups follow each other in no regular order is gone through once for each column. */
 struct sitaungo_outcome sitaungo_convert(
     const uint8_t *image, size_t image_length, uint64_t size,
     const uint8_t *ident, size_t ident_length, const uint8_t *text, size_t text_length, uint64_t time,

@@ -44,6 +44,12 @@ uint64_t data_u64(struct image image, const struct block *block, uint64_t byte)
     return byte <= room && room - byte >= 8 ? u64_at(image.bytes + block->at + 24 + 8 * block->links + byte) : 0;
 }
 
+static uint8_t data_u8(struct image image, const struct block *block, uint64_t byte)
+{
+    uint64_t room = block->length - 24 - 8 * block->links;
+    return byte < room ? image.bytes[block->at + 24 + 8 * block->links + byte] : 0;
+}
+
 struct text text_at(struct image image, uint64_t at)
 {
     struct block block;
@@ -122,6 +128,24 @@ struct names next_column_names(struct image image, uint64_t *dg)
     if (kind_at(image, cg, "CG", &group))
         names.channel = name_of(image, link_of(image, &group, 1), "CN");
     return names;
+}
+
+/* ---- records */
+
+uint64_t shared_records(struct image image)
+{
+    struct block header, data_group, group;
+    int left = MOST_BLOCKS;
+    uint64_t records = 0, most = image.length / 2;
+    uint64_t dg = kind_at(image, HEADER, "HD", &header) ? link_of(image, &header, 0) : 0;
+    for (; --left > 0 && kind_at(image, dg, "DG", &data_group); dg = link_of(image, &data_group, 0)) {
+        uint64_t cg = data_u8(image, &data_group, 0) ? link_of(image, &data_group, 1) : 0;
+        for (; --left > 0 && kind_at(image, cg, "CG", &group); cg = link_of(image, &group, 0)) {
+            uint64_t cycles = data_u64(image, &group, 8);
+            records = cycles < most - records ? records + cycles : most;
+        }
+    }
+    return records;
 }
 
 /* ---- where a byte lies */

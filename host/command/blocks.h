@@ -1,4 +1,4 @@
-/* A small reader of MDF blocks by links: names of channels and groups, the history's last entry, the block that holds a byte. Whatever the
+/* A small reader of MDF blocks by links: names of channels and groups, cycle counts, the history's last entry, the block that holds a byte. Whatever the
  * bytes are, it reads none outside the image and ends. It decides nothing about a conversion. */
 #ifndef BLOCKS_H
 #define BLOCKS_H
@@ -45,6 +45,9 @@ struct names names_of(struct image image, uint64_t at);
 
 /* Names of the next column of a result: *dg is the offset of its DG, 0 for the first one, and becomes that of the next. */
 struct names next_column_names(struct image image, uint64_t *dg);
+
+/* How many records there are in DG with ids, as cycle counts say; at most half the image's bytes, since each has an id and, to be of use, a byte. */
+uint64_t shared_records(struct image image);
 
 /* The written block of a result that holds this byte, or lies before it; false where there is none. */
 bool block_around(struct image image, uint64_t byte, struct block *found);

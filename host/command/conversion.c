@@ -94,19 +94,33 @@ static struct sitaungo_options options_of(const struct choices *c)
     return (struct sitaungo_options){.unit = c->unit};
 }
 
-struct sitaungo_outcome convert(const struct recording *r, const struct lent *l, uint8_t *out, size_t length)
+static struct sitaungo_outcome convert_with(
+    const struct recording *r, const struct lent *l, uint64_t *fragments, size_t words, uint8_t *out, size_t length)
 {
     const struct choices *c = &l->choices;
     return sitaungo_convert_with(
         r->bytes, r->length, c->block_size, ident, sizeof ident, (const uint8_t *)l->text, l->text_length, l->time, options_of(c),
         c->types, c->types_length,
-        work[0], SITAUNGO_WORK_WORDS, work[1], SITAUNGO_WORK_WORDS, work[2], SITAUNGO_WORK_WORDS, work[3], SITAUNGO_WORK_WORDS,
+        work[0], SITAUNGO_WORK_WORDS, fragments, words, work[2], SITAUNGO_WORK_WORDS, work[3], SITAUNGO_WORK_WORDS,
         out, length, omissions, SITAUNGO_LIST_WORDS);
 }
 
 struct sitaungo_outcome measure(const struct recording *r, const struct lent *l)
 {
-    return convert(r, l, NULL, 0);
+    return convert_with(r, l, work[1], SITAUNGO_WORK_WORDS, NULL, 0);
+}
+
+/* A word more for each record that shares its DG with other groups: the conversion keeps there where these lie. Without them it finds the
+ * same, in more time. */
+struct sitaungo_outcome convert(const struct recording *r, const struct lent *l, uint8_t *out, size_t length)
+{
+    size_t words = SITAUNGO_WORK_WORDS + shared_records((struct image){r->bytes, r->length});
+    uint64_t *fragments = mmap(NULL, words * sizeof *fragments, PROT_READ | PROT_WRITE, MAP_PRIVATE | MAP_ANONYMOUS, -1, 0);
+    if (fragments == MAP_FAILED)
+        return convert_with(r, l, work[1], SITAUNGO_WORK_WORDS, out, length);
+    struct sitaungo_outcome outcome = convert_with(r, l, fragments, words, out, length);
+    munmap(fragments, words * sizeof *fragments);
+    return outcome;
 }
 
 /* The omission list from the end of a listing. */

@@ -6,11 +6,5 @@ pub mod Strided
 pub mod StridedLaws
 pub mod Spot
 pub mod SpotLaws
-pub mod Blocks
-pub mod Region
-pub mod RegionLaws
-pub mod Filled
-pub mod FilledLaws
-pub mod NumberLaws
-pub mod Written
-pub mod WrittenLaws
+pub mod Gathered
+pub mod GatheredLaws

@@ -77,7 +77,7 @@ run-most room stride n l =
     record { some = omega arith; few = omega arith; within = rw e (div-mul-le-self room stride) }
 
 -- ---- records of bytes past some
-part-drop : (o p n : ℕ) (l : List ℕ) → part p n (drop o l) ≡ part (o + p) n l
+pub part-drop : (o p n : ℕ) (l : List ℕ) → part p n (drop o l) ≡ part (o + p) n l
 unfolding part
 part-drop o p n l = ap (take n) (drop-drop p o l)
 
@@ -89,7 +89,7 @@ records-past o n l p stride (suc m) =
     rw (part-drop o p n l) (ap (λ (rs : List (List ℕ)). part (o + p) n l ∷ rs) (records-past o n l (p + stride) stride m ∙ rw e))
 
 -- ---- records that lie in the fragment that a cursor is in
-part-here : (s ws : List ℕ) (k : Cursor) (q n : ℕ) → rangesIn s (ahead ws k) ≡ fine → q + n ≤ k .left
+pub part-here : (s ws : List ℕ) (k : Cursor) (q n : ℕ) → rangesIn s (ahead ws k) ≡ fine → q + n ≤ k .left
     → part q n (joined s (ahead ws k)) ≡ part (k .position + q) n s
 unfolding part
 part-here s ws k q n r h =

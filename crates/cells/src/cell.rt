@@ -37,10 +37,9 @@ pub struct Shape {
     pub width: u64,
 }
 
-// The channel at c in the records of the group at g.
-pub(crate) fn shape_of(image: &[u8], g: u64, c: u64) -> Shape
-    requires { ⌜ fits (now image) g c ≡ true ⌝ }
-    ensures { λ r. ⌜ ShapeOf (now (image .entry)) g c r ⌝ }
+// The channel at c in the records of the group at g, which it fits.
+pub fn shape_of(image: &[u8], g: u64, c: u64) -> Shape
+    ensures { λ r. ⌜ (fits (now (image .entry)) g c ≡ true → ShapeOf (now (image .entry)) g c r) ⌝ }
 {
     let first = byte_offset(image, c);
     let bytes = channel_bytes(image, c);
@@ -151,6 +150,15 @@ fn copy7(d: &mut [u8], at: usize, s: &[u8], from: usize)
     copy3(d, at + 4, s, from + 4);
 }
 
+// 16 bytes, by two of these.
+fn copy16(d: &mut [u8], at: usize, s: &[u8], from: usize)
+    requires { ⌜ (at + 16 ≤ length (now d)) × (from + 16 ≤ length (now s)) ⌝ }
+    ensures { λ _. ⌜ now (d .exit) ≡ blit at (part from 16 (now (s .entry))) (now (d .entry)) ⌝ }
+{
+    copy8(d, at, s, from);
+    copy8(d, at + 8, s, from + 8);
+}
+
 // Any other number.
 fn copy_other(d: &mut [u8], at: usize, s: &[u8], from: usize, n: usize)
     requires { ⌜ (at + n ≤ length (now d)) × (from + n ≤ length (now s)) ⌝ }
@@ -170,6 +178,10 @@ fn copy_other(d: &mut [u8], at: usize, s: &[u8], from: usize, n: usize)
     }
     if n == 7 {
         copy7(d, at, s, from);
+        return;
+    }
+    if n == 16 {
+        copy16(d, at, s, from);
         return;
     }
     copy(d, at, s, from as u64, n as u64);

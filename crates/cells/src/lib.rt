@@ -1,10 +1,7 @@
-// The data blocks of a column: the cells of its records, found in stretches of the joined data.
-mod by;
-mod cell;
-pub mod column;
+// The cells of records at given places of the joined data.
+pub mod cell;
 mod cursor;
-mod piece;
-mod run;
-mod spot;
+pub mod gathered;
+pub mod run;
+pub mod spot;
 mod strided;
-mod total;

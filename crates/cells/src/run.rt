@@ -60,7 +60,8 @@ fn put_some(
 }
 
 // The cells of n records, the first at an offset of the joined data, at index to; the place of the last run.
-pub(crate) fn put_stretch(
+// Callers show that the records lie in the data, and that out has room for the cells.
+pub fn put_stretch(
     out: &mut [u8],
     to: usize,
     image: &[u8],

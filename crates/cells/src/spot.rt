@@ -16,7 +16,7 @@ pub struct Spot {
 }
 
 // The place before all bytes.
-pub(crate) fn begin() -> Spot
+pub fn begin() -> Spot
     ensures { λ r. ⌜ r ≡ front ⌝ }
 {
     let cursor = Cursor {

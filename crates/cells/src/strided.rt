@@ -41,7 +41,7 @@ fn strided(
     }
 }
 
-// Of 3, 5, 6 and 7 bytes, and of any other number.
+// Of 3, 5, 6, 7 and 16 bytes, and of any other number.
 fn put_bare_other(
     out: &mut [u8],
     to: usize,
@@ -70,6 +70,10 @@ fn put_bare_other(
     }
     if h.bytes == 7 {
         strided(out, to, image, from, stride, n, h, 7, false);
+        return;
+    }
+    if h.bytes == 16 {
+        strided(out, to, image, from, stride, n, h, 16, false);
         return;
     }
     strided(out, to, image, from, stride, n, h, h.bytes as usize, false);
@@ -101,7 +105,7 @@ fn put_bare(out: &mut [u8], to: usize, image: &[u8], from: usize, stride: usize,
     put_bare_other(out, to, image, from, stride, n, h);
 }
 
-// Of 3, 5, 6 and 7 bytes, and of any other number.
+// Of 3, 5, 6, 7 and 16 bytes, and of any other number.
 fn put_kept_other(
     out: &mut [u8],
     to: usize,
@@ -130,6 +134,10 @@ fn put_kept_other(
     }
     if h.bytes == 7 {
         strided(out, to, image, from, stride, n, h, 7, true);
+        return;
+    }
+    if h.bytes == 16 {
+        strided(out, to, image, from, stride, n, h, 16, true);
         return;
     }
     strided(out, to, image, from, stride, n, h, h.bytes as usize, true);

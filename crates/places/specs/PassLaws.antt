@@ -104,7 +104,7 @@ PassingOn s d n gs ws ids sizes p₀ p counts c =
     (gsOf wsOf : ℕ → List ℕ) → gsOf d ≡ gs → wsOf d ≡ ws → recordsIn s d gs (fragmentsOf ws) ≡ fine → n ≡ idSize s d → 1 < length gs
     → Tabled s gs ids sizes → Pooled s gsOf wsOf p₀ → Pooled s gsOf wsOf p × Passing s d gs ws counts c
 
-not-storage : (s : List ℕ) (g : ℕ) → (sizeWord s g ≡ 0 → ⊥) → isStorage s g ≡ false
+pub not-storage : (s : List ℕ) (g : ℕ) → (sizeWord s g ≡ 0 → ⊥) → isStorage s g ≡ false
 unfolding sizeWord
 not-storage s g h = go (isStorage s g) refl
   where
@@ -112,7 +112,7 @@ not-storage s g h = go (isStorage s g) refl
     go false e = e
     go true e = absurd (h (rw e))
 
-zeros-at : (n j : ℕ) → _≡_ {A = ℕ} (getD (replicate n 0) j 0) 0
+pub zeros-at : (n j : ℕ) → _≡_ {A = ℕ} (getD (replicate n 0) j 0) 0
 zeros-at zero j = refl
 zeros-at (suc n) zero = refl
 zeros-at (suc n) (suc j) = zeros-at n j

@@ -19,7 +19,7 @@ abbrev pub entryWords : ℕ → ℕ → Stretch → List ℕ
 entryWords d g t = d ∷ g ∷ t .number ∷ t .first ∷ t .stride ∷ t .count ∷ []
 
 -- what is not laid over stays
-outside : (bs : List ℕ) (i j : ℕ) (p : List ℕ) → (j < i) ⊎ (i + length bs ≤ j) → getD (blit i bs p) j 0 ≡ getD p j 0
+pub outside : (bs : List ℕ) (i j : ℕ) (p : List ℕ) → (j < i) ⊎ (i + length bs ≤ j) → getD (blit i bs p) j 0 ≡ getD p j 0
 unfolding blit
 outside [] i j p h = refl
 outside (b ∷ bs) i j p (inl h) = outside bs (suc i) j (set p i b) (inl (omega arith)) ∙ getD-set-other p i j b 0 (λ e. omega arith)

@@ -15,7 +15,7 @@ pub struct Found {
 }
 
 // The record that follows c; ids have n bytes, and the group before was number last.
-pub(crate) fn next_record(
+pub fn next_record(
     image: &[u8],
     n: u64,
     groups: &[u64],

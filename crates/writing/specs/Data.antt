@@ -18,9 +18,8 @@ use Rattle.result.specs.Fill.{Block, block, blockOf, payloadBlocks}
 use Rattle.result.specs.Ordered.{Ordered}
 use Rattle.payload_laws.specs.Lists.{Long}
 use Rattle.places.specs.Stretch.{numberIn}
-use Rattle.places.specs.Pool.{Pooled}
-use Rattle.cells.specs.declared.column.Column.{Column}
-use Rattle.cells.specs.Blocks.{columnRecords, perOf, countOf, kindOf, blocksBytes}
+use Rattle.data_blocks.specs.declared.column.Column.{Column}
+use Rattle.data_blocks.specs.Blocks.{columnRecords, perOf, countOf, kindOf, blocksBytes, PlacesKept}
 use Rattle.writing.specs.declared.data.Entry.{Entry}
 use Rattle.writing.specs.Own.{groupsAt, wordsAt}
 
@@ -107,6 +106,6 @@ pub record DataReady (s : List ℕ) (size : ℕ) (w : List ℕ) (n : ℕ) (fs : 
   pub entries : (k : ℕ) → k < number → EntryReady s w n fs nf (entryIn cs m k)
   pub ordered : Ordered at (dataFrom s size w n fs nf cs m 0 number) room
 
--- the stretches that are kept are right for each DG
-abbrev pub Kept : List ℕ → List ℕ → ℕ → List ℕ → ℕ → List ℕ → Type 0
-Kept s w n fs nf p = Pooled s (groupsAt w n nf) (wordsAt w n fs nf) p
+-- the places that are kept are right for each DG: of stretches in p, of each record in q
+abbrev pub Kept : List ℕ → List ℕ → ℕ → List ℕ → ℕ → List ℕ → List ℕ → Type 0
+Kept s w n fs nf p q = PlacesKept s (groupsAt w n nf) (wordsAt w n fs nf) p q

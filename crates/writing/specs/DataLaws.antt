@@ -24,7 +24,8 @@ use Rattle.payload_laws.specs.Lists.{Long, together}
 use Rattle.payload_laws.specs.GeometryLaws.{split, no-blocks}
 use Rattle.payload_laws.specs.PayloadLaws.{length-framed, length-payloads, payloads-joined}
 use Rattle.payload_laws.specs.CellLaws.{length-cells}
-use Rattle.cells.specs.Blocks.{framedAll, blocksFor, BlocksReady, WritesBlocks}
+use Rattle.data_blocks.specs.Blocks.{framedAll, blocksFor, BlocksReady, WritesBlocks}
+use Rattle.offsets.specs.Offsets.{KeepsNone}
 use Rattle.writing.specs.declared.own.Own.{Own}
 use Rattle.writing.specs.declared.data.Entry.{Entry}
 use Rattle.writing.specs.Wrote.{endOf, Wrote}
@@ -47,10 +48,10 @@ module _ {s w : List ℕ} {n : ℕ} {fs : List ℕ} {nf : ℕ} {e : Entry} {o : 
   blocks-ready room r h =
       rw (q .is) (record { fit = r .fit; kept = r .kept; listed = r .listed; checked = r .checked; counted = r .counted; small = r .small; ends = h })
 
-  pub blocks-put : (p last-p out last : List ℕ) → EntryReady s w n fs nf e → length (entryBytes s size w n fs nf e) ≤ length out
-      → Kept s w n fs nf p → WritesBlocks s size (ownGroups w o) (ownWords fs o) (entryColumn e) p last-p out last
-      → Kept s w n fs nf last-p × (last ≡ blit 0 (entryBytes s size w n fs nf e) out)
-  blocks-put p last-p out last r h k v =
+  pub blocks-put : (p last-p u last-u out last : List ℕ) → EntryReady s w n fs nf e → length (entryBytes s size w n fs nf e) ≤ length out
+      → Kept s w n fs nf p u → WritesBlocks s size (ownGroups w o) (ownWords fs o) (entryColumn e) p last-p u last-u out last
+      → Kept s w n fs nf last-p last-u × (last ≡ blit 0 (entryBytes s size w n fs nf e) out)
+  blocks-put p last-p u last-u out last r h k v =
       rw (q .is) at (v (groupsAt w n nf) (wordsAt w n fs nf) (rw (q .is)) (rw (q .is)) k (blocks-ready (length out) r h))
 
 -- ---- blocks one after the other
@@ -290,5 +291,5 @@ module _ {s : List ℕ} {size : ℕ} {w : List ℕ} {n : ℕ} {fs : List ℕ} {n
           }
 
 -- nothing is kept at first
-pub kept-none : (s w : List ℕ) (n : ℕ) (fs : List ℕ) (nf : ℕ) → Kept s w n fs nf (replicate 4096 0)
-kept-none s w n fs nf = record { right = λ i h. absurd (omega arith) }
+pub kept-none : (s w : List ℕ) (n : ℕ) (fs : List ℕ) (nf : ℕ) {q : List ℕ} → KeepsNone q → Kept s w n fs nf (replicate 4096 0) q
+kept-none s w n fs nf h = record { stretches = record { right = λ i h. absurd (omega arith) }; offsets = h s (groupsAt w n nf) (wordsAt w n fs nf) }

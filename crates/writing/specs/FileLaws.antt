@@ -3,8 +3,8 @@ use Prim.Native.Nat.{ℕ, zero, suc, _+_, _*_, _-_, _≤_, _<_}
 use mathlib.Core.List.{List, [], _∷_, _++_, append-nil, append-assoc}
 use mathlib.Core.Path.{_≡_, refl, sym, ap, subst, _∙_}
 use native.Mathlib.Omega.{arith}
-use lib.ListN.{length, length-append, getD, drop, replicate}
-use lib.Seq.{drop-cons}
+use lib.ListN.{length, length-append, getD, take, drop, replicate}
+use lib.Seq.{drop-cons, length-take-le}
 use Rattle.base.specs.Blit.{part, blit}
 use Rattle.base.specs.BlitLaws.{length-blit}
 use Rattle.base.specs.Choice.{ifEq}
@@ -23,6 +23,8 @@ use Rattle.plan_laws.specs.ColumnLaws.{signalsOf}
 use Rattle.planning.specs.HeldLaws.{size-is}
 use Rattle.writing.specs.Data.{entryIn, dataFrom, DataReady}
 use Rattle.writing.specs.DataReadyLaws.{SameColumn, data-blocks, data-ready, data-columns}
+use Rattle.chains.specs.KeptLaws.{length-words}
+use Rattle.writing.specs.FragmentsLaws.{take-blit}
 use Rattle.writing.specs.Answer.{fileFor}
 use Rattle.plan.specs.Copies.{Copy, Attachment}
 use Rattle.work_words.specs.CopyWords.{historyAt, laidCopies}
@@ -279,22 +281,38 @@ module _ {x : Args} {items pieces columns omitted : ℕ} {n : numbers.Numbers} {
   number-pieces : pieces ≡ length (known .steps .source .fragments)
   number-pieces = st .by .fragments ∙ ap (λ (z : Source). length (z .fragments)) source-same
 
-  few-pieces : 3 * length (known .steps .source .fragments ++ signalFragments (d .planned .columns)) ≤ length (st .b)
+  few-pieces : 3 * length (known .steps .source .fragments ++ signalFragments (d .planned .columns)) ≤ 3072
   few-pieces =
       let p = known .planned in
       let h = length-append (known .steps .source .fragments) (signalFragments (d .planned .columns)) in
-      omega (arith, h, signals-length (d .planned .columns), p .signals, p .few, st .by .longB)
+      omega (arith, h, signals-length (d .planned .columns), p .signals, p .few)
 
-  data-same : dataFrom s (x .blockSize) v items f pieces w m 0 columns ≡ partData
+  pub long-fragments : 3072 ≤ length f
+  long-fragments = omega (arith, ap length words-fragments, length-blit 0 (fragmentWords (known .steps .source .fragments ++ signalFragments (d .planned .columns))) (st .b), st .by .longB)
+
+  -- the words of fragments, copied
+  pub kept-long : {kept : List ℕ} → kept ≡ take 3072 f → 3072 ≡ length kept
+  kept-long q = sym (ap length q ∙ length-take-le 3072 f long-fragments)
+
+  words-kept : take 3072 f ≡ blit 0 (fragmentWords (known .steps .source .fragments ++ signalFragments (d .planned .columns))) (take 3072 (st .b))
+  words-kept =
+      ap (take 3072) words-fragments
+      ∙ take-blit (fragmentWords (known .steps .source .fragments ++ signalFragments (d .planned .columns))) 0 3072 (st .b)
+      (omega (arith, length-words (known .steps .source .fragments ++ signalFragments (d .planned .columns)), few-pieces))
+
+  kept-pieces : 3 * length (known .steps .source .fragments ++ signalFragments (d .planned .columns)) ≤ length (take 3072 (st .b))
+  kept-pieces = omega (arith, few-pieces, length-take-le 3072 (st .b) (omega (arith, st .by .longB)))
+
+  data-same : dataFrom s (x .blockSize) v items (take 3072 f) pieces w m 0 columns ≡ partData
   data-same =
-      data-eq s (x .blockSize) words-source number-items words-fragments number-pieces words-columns (st .by .numbered .words) (st .by .columns)
-      ∙ data-blocks x d known (st .a) (st .b) (st .c) (st .d) (st .by .longA) (st .by .longC) (st .by .longD) few-pieces (columns-placed laid)
+      data-eq s (x .blockSize) words-source number-items words-kept number-pieces words-columns (st .by .numbered .words) (st .by .columns)
+      ∙ data-blocks x d known (st .a) (take 3072 (st .b)) (st .c) (st .d) (st .by .longA) (st .by .longC) (st .by .longD) kept-pieces (columns-placed laid)
 
-  pub column-same : (k : ℕ) → k < columns → SameColumn s (x .blockSize) v items f pieces (entryIn w m k) (l .placed)
+  pub column-same : (k : ℕ) → k < columns → SameColumn s (x .blockSize) v items (take 3072 f) pieces (entryIn w m k) (l .placed)
   column-same k h =
       let e = st .by .columns in
-      column-eq s (x .blockSize) k (l .placed) words-source number-items words-fragments number-pieces words-columns (st .by .numbered .words)
-      (data-columns x d known (st .a) (st .b) (st .c) (st .d) (st .by .longA) (st .by .longC) (st .by .longD) few-pieces (columns-placed laid) k
+      column-eq s (x .blockSize) k (l .placed) words-source number-items words-kept number-pieces words-columns (st .by .numbered .words)
+      (data-columns x d known (st .a) (take 3072 (st .b)) (st .c) (st .d) (st .by .longA) (st .by .longC) (st .by .longD) kept-pieces (columns-placed laid) k
       (omega (arith, h, e)))
 
   -- ---- each part's room and what was written, where the file is begun
@@ -360,15 +378,17 @@ module _ {x : Args} {items pieces columns omitted : ℕ} {n : numbers.Numbers} {
         → Begun (before ++ partStructure) ys (l .fileSize) r out next
     structure-done b {r} {next} z = begun-next partStructure ys b (subst (λ (bs : List Block). Wrote a bs r last next) structure-same z)
 
-    pub data-asks : Begun before (partData ++ ys) (l .fileSize) a out last → DataReady s (x .blockSize) v items f pieces w m columns a (length last)
-    data-asks b =
-        ready-eq s (x .blockSize) a (length last) words-source number-items words-fragments number-pieces words-columns (st .by .numbered .words) (st .by .columns)
-        (data-ready x d known (st .a) (st .b) (st .c) (st .d) (st .by .longA) (st .by .longC) (st .by .longD) few-pieces (columns-placed laid) a (length last)
+    pub data-asks : {kept : List ℕ} → kept ≡ take 3072 f → Begun before (partData ++ ys) (l .fileSize) a out last
+        → DataReady s (x .blockSize) v items kept pieces w m columns a (length last)
+    data-asks q b =
+        ready-eq s (x .blockSize) a (length last) words-source number-items (q ∙ words-kept) number-pieces words-columns (st .by .numbered .words) (st .by .columns)
+        (data-ready x d known (st .a) (take 3072 (st .b)) (st .c) (st .d) (st .by .longA) (st .by .longC) (st .by .longD) kept-pieces (columns-placed laid) a (length last)
         (begun-room partData ys b))
 
-    pub data-done : Begun before (partData ++ ys) (l .fileSize) a out last → {r : ℕ} {next : List ℕ}
-        → Wrote a (dataFrom s (x .blockSize) v items f pieces w m 0 columns) r last next → Begun (before ++ partData) ys (l .fileSize) r out next
-    data-done b {r} {next} z = begun-next partData ys b (subst (λ (bs : List Block). Wrote a bs r last next) data-same z)
+    pub data-done : {kept : List ℕ} → kept ≡ take 3072 f → Begun before (partData ++ ys) (l .fileSize) a out last → {r : ℕ} {next : List ℕ}
+        → Wrote a (dataFrom s (x .blockSize) v items kept pieces w m 0 columns) r last next → Begun (before ++ partData) ys (l .fileSize) r out next
+    data-done q b {r} {next} z =
+        begun-next partData ys b (subst (λ (bs : List Block). Wrote a bs r last next) (ap (λ (fs : List ℕ). dataFrom s (x .blockSize) v items fs pieces w m 0 columns) q ∙ data-same) z)
 
   module _ {before : List Block} {a : ℕ} {out last : List ℕ} where
     ended : Begun before partAttached (l .fileSize) a out last → Begun before (partAttached ++ []) (l .fileSize) a out last

@@ -2,7 +2,7 @@
 use Prim.Native.Nat.{ℕ, _+_, _<_}
 use mathlib.Core.List.{List, [], _∷_, _++_}
 use mathlib.Core.Path.{_≡_, refl, ap, _∙_}
-use lib.ListN.{length}
+use lib.ListN.{length, take}
 use Rattle.plan.specs.Layout.{Placed}
 use Rattle.result.specs.Fill.{blockOf, payloadBlocks}
 use Rattle.result.specs.Result.{Args}
@@ -10,7 +10,7 @@ use Rattle.result.specs.Guarantee.{Guaranteed}
 use Rattle.placing.specs.declared.layout.Numbers as numbers
 use Rattle.column_guarantee.specs.Final.{bytesOf, ColumnFinal}
 use Rattle.column_guarantee.specs.FinalLaws.{column-final}
-use Rattle.cells.specs.Blocks.{framedAll}
+use Rattle.data_blocks.specs.Blocks.{framedAll}
 use Rattle.writing.specs.declared.data.Entry.{Entry}
 use Rattle.writing.specs.Data.{entryIn, entryRecords, entryPayloads, entryKind, entryBytes, entryBlocks}
 use Rattle.writing.specs.DataLaws.{bytes-are}
@@ -43,8 +43,8 @@ same-final x w n fs nf e ps f c h =
 -- every column: nothing that comes after its calls changes what they laid
 pub written-final : {x : Args} {items pieces columns omitted : ℕ} {n : numbers.Numbers} {v f w m : List ℕ}
     (st : Stands x items pieces columns omitted n v f w m) (g list : List ℕ) → Guaranteed x (st .by .told) g list → (k : ℕ) → k < columns
-    → EntryFinal (x .image) (x .blockSize) v items f pieces (entryIn w m k) g
+    → EntryFinal (x .image) (x .blockSize) v items (take 3072 f) pieces (entryIn w m k) g
 written-final {x} {items} {pieces} {columns} {omitted} {n} {v} {f} {w} {m} st g list p k h =
     let c = column-same st k h in
-    same-final x v items f pieces (entryIn w m k) (st .by .told .laidOut .placed) g c
+    same-final x v items (take 3072 f) pieces (entryIn w m k) (st .by .told .laidOut .placed) g c
     (column-final x (st .by .told) g list p (c .placed) (c .one))

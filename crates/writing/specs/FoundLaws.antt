@@ -25,7 +25,7 @@ use Rattle.planning.specs.Span.{pastDG}
 use Rattle.writing.specs.declared.own.Own.{Own}
 use Rattle.records.specs.FragmentLaws.{lt-or-le}
 use Rattle.places.specs.Stretch.{numberIn}
-use Rattle.cells.specs.NumberLaws.{number-hit, number-next}
+use Rattle.data_blocks.specs.NumberLaws.{number-hit, number-next}
 use Rattle.writing.specs.Own.{ownPast, ownIn, ownWords, ownGroups}
 
 -- ---- a part of what was laid

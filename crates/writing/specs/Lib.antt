@@ -1,4 +1,5 @@
 pub mod SignalLaws
+pub mod FragmentsLaws
 pub mod Wrote
 pub mod WroteLaws
 pub mod PlacedIn

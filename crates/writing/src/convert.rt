@@ -71,7 +71,7 @@ fn count_up(
     }
 }
 
-// 20, 21; the file, the list, the report.
+// 20, 21; the file, the list, the report. The words of fragments are free afterwards.
 fn finish(
     out: &mut [u8],
     list: &mut [u64],
@@ -83,7 +83,7 @@ fn finish(
     choices: Choices,
     table: &[u8],
     source: &[u64],
-    fragments: &[u64],
+    fragments: &mut [u64],
     columns: &[u64],
     copies: &[u64],
     items: u64,

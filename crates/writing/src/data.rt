@@ -3,10 +3,11 @@ use crate::gap::gap;
 use crate::own::own_of;
 use crate::signal::joined_size;
 use crate::signal::write_signal;
-use cells::column::Column;
-use cells::column::write_blocks;
 use channels::block_count;
 use channels::width_of;
+use data_blocks::column::Column;
+use data_blocks::column::write_blocks;
+use offsets::kept::forget;
 ghost use mathlib.Core.Path.{_≡_};
 ghost use mathlib.Core.List.{[], _∷_};
 ghost use Prim.Native.Nat.{_+_, _*_, _-_, _≤_};
@@ -62,12 +63,13 @@ fn put_blocks(
     fragments: &[u64],
     nf: u64,
     pool: &mut [u64],
+    words: &mut [u64],
     e: Entry,
 )
     requires { ⌜ Tables (now source) (now fragments) nf × EntryReady (now image) (now source) n (now fragments) nf e
         × (length (entryBytes (now image) size (now source) n (now fragments) nf e) ≤ length (now out))
-        × Kept (now image) (now source) n (now fragments) nf (now pool) ⌝ }
-    ensures { λ _. ⌜ Kept (now (image .entry)) (now (source .entry)) n (now (fragments .entry)) nf (now (pool .exit))
+        × Kept (now image) (now source) n (now fragments) nf (now pool) (now words) ⌝ }
+    ensures { λ _. ⌜ Kept (now (image .entry)) (now (source .entry)) n (now (fragments .entry)) nf (now (pool .exit)) (now (words .exit))
         × (now (out .exit) ≡ blit 0 (entryBytes (now (image .entry)) size (now (source .entry)) n (now (fragments .entry)) nf e)
         (now (out .entry))) ⌝ }
 {
@@ -76,13 +78,17 @@ fn put_blocks(
     let q = (3 * o.end) as usize;
     let f = (3072 + o.first) as usize;
     let l = f + o.groups as usize;
+    let g = f + 512;
+    let h = l + 512;
     write_blocks(
         out,
         image,
         size,
         &source[f..l],
+        &source[g..h],
         &fragments[p..q],
         pool,
+        words,
         Column {
             parent: e.parent,
             group: e.group,
@@ -103,12 +109,13 @@ fn write_column(
     fragments: &[u64],
     nf: u64,
     pool: &mut [u64],
+    words: &mut [u64],
     e: Entry,
 ) -> usize
     requires { ⌜ Tables (now source) (now fragments) nf × EntryReady (now image) (now source) n (now fragments) nf e
         × Ordered at (entryBlocks (now image) size (now source) n (now fragments) nf e) (length (now out))
-        × Kept (now image) (now source) n (now fragments) nf (now pool) ⌝ }
-    ensures { λ r. ⌜ Kept (now (image .entry)) (now (source .entry)) n (now (fragments .entry)) nf (now (pool .exit))
+        × Kept (now image) (now source) n (now fragments) nf (now pool) (now words) ⌝ }
+    ensures { λ r. ⌜ Kept (now (image .entry)) (now (source .entry)) n (now (fragments .entry)) nf (now (pool .exit)) (now (words .exit))
         × Wrote at (entryBlocks (now (image .entry)) size (now (source .entry)) n (now (fragments .entry)) nf e) r
         (now (out .entry)) (now (out .exit)) ⌝ }
 {
@@ -118,6 +125,7 @@ fn write_column(
         return at;
     }
     let first = e.first as usize;
+    let past = first + (24 * count + w * e.records) as usize;
     gap(out, at, first);
     put_blocks(
         &mut out[first..],
@@ -128,9 +136,10 @@ fn write_column(
         fragments,
         nf,
         pool,
+        words,
         e,
     );
-    first + (24 * count + w * e.records) as usize
+    past
 }
 
 // Zeros from at up to sd, and an SD there with the data of fragments; the answer is past it.
@@ -159,7 +168,7 @@ fn write_signal_of(out: &mut [u8], at: usize, image: &[u8], fragments: &[u64], e
     write_sd(out, at, e.sd as usize, image, &fragments[a..b])
 }
 
-// Of so many columns, from at on, one after the other; the answer is past them.
+// Of so many columns, from at on, one after the other; the answer is past them. words are free for places of records.
 pub(crate) fn write_data(
     out: &mut [u8],
     at: usize,
@@ -172,17 +181,21 @@ pub(crate) fn write_data(
     columns: &[u64],
     memo: &[u64],
     number: u64,
+    words: &mut [u64],
 ) -> usize
     requires { ⌜ DataReady (now image) size (now source) n (now fragments) nf (now columns) (now memo) number at (length (now out)) ⌝ }
     ensures { λ r. ⌜ Wrote at (dataFrom (now (image .entry)) size (now (source .entry)) n (now (fragments .entry)) nf (now (columns .entry))
         (now (memo .entry)) 0 number) r (now (out .entry)) (now (out .exit)) ⌝ }
 {
     let mut pool = [0u64; 4096];
+    forget(words);
     let mut k = 0;
     let mut p = at;
     while k < number {
         let e = entry_at(columns, memo, k);
-        p = write_column(out, p, image, size, source, n, fragments, nf, &mut pool, e);
+        p = write_column(
+            out, p, image, size, source, n, fragments, nf, &mut pool, words, e,
+        );
         p = write_signal_of(out, p, image, fragments, e);
         k += 1;
     }

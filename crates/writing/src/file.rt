@@ -14,7 +14,7 @@ use placing::memo::new_link;
 use planning::words::word;
 ghost use mathlib.Core.Path.{_≡_};
 ghost use Prim.Native.Nat.{_≤_};
-ghost use lib.ListN.{length, getD};
+ghost use lib.ListN.{length, getD, take};
 ghost use Rattle.base.specs.Blit.{blit};
 ghost use Rattle.base.specs.Choice.{ifEq};
 ghost use Rattle.mdf.specs.Block.{linkAt};
@@ -54,7 +54,21 @@ fn comment_of(image: &[u8], copies: &[u64], used: u64) -> u64
     new_link(copies, used, a)
 }
 
-// All of it, from what was decided.
+// The words of all fragments; others may come to stand in their place while data is written.
+fn first_fragments(fragments: &[u64]) -> [u64; 3072]
+    requires { ⌜ 3072 ≤ length (now fragments) ⌝ }
+    ensures { λ r. ⌜ r ≡ take 3072 (now (fragments .entry)) ⌝ }
+{
+    let mut kept = [0u64; 3072];
+    let mut i: usize = 0;
+    while i < 3072 {
+        kept[i] = fragments[i];
+        i += 1;
+    }
+    kept
+}
+
+// All of it, from what was decided; the words of fragments are free afterwards.
 pub(crate) fn write_file(
     out: &mut [u8],
     image: &[u8],
@@ -65,7 +79,7 @@ pub(crate) fn write_file(
     choices: Choices,
     table: &[u8],
     source: &[u64],
-    fragments: &[u64],
+    fragments: &mut [u64],
     columns: &[u64],
     copies: &[u64],
     items: u64,
@@ -101,6 +115,7 @@ pub(crate) fn write_file(
         numbers.metadata,
     );
     let e = write_structure(out, d, image, table, size, columns, copies, n, used);
+    let kept = first_fragments(fragments);
     let f = write_data(
         out,
         e,
@@ -108,11 +123,12 @@ pub(crate) fn write_file(
         size,
         source,
         items,
-        fragments,
+        &kept,
         pieces,
         columns,
         copies,
         n,
+        fragments,
     );
     let g = write_attachments(
         out,

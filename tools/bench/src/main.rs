@@ -121,6 +121,33 @@ fn times(turns: usize, mut f: impl FnMut()) -> (f64, f64) {
     (t[0], t[turns / 2])
 }
 
+// Words that the port needs of each work slice at least.
+const WORDS: usize = 8192;
+
+fn link(s: &[u8], block: usize, i: usize) -> usize {
+    word(s, block + 24 + 8 * i) as usize
+}
+
+// A word more of the second slice for each record of groups that share a DG, as the command lends it: what cycle counts say.
+fn shared_records(image: &[u8]) -> usize {
+    let data = |block: usize| block + 24 + 8 * word(image, block + 16) as usize;
+    let mut records = 0;
+    let mut dg = link(image, 64, 0);
+    while dg != 0 {
+        let mut cg = if image[data(dg)] == 0 { 0 } else { link(image, dg, 1) };
+        while cg != 0 {
+            records += word(image, data(cg) + 8) as usize;
+            cg = link(image, cg, 0);
+        }
+        dg = link(image, dg, 0);
+    }
+    records
+}
+
+fn lend_work(more: usize) -> [Vec<u64>; 4] {
+    std::array::from_fn(|i| vec![0; WORDS + if i == 1 { more } else { 0 }])
+}
+
 struct Timed {
     decided: (f64, f64),
     port: (f64, f64),
@@ -131,9 +158,9 @@ struct Timed {
     new_rust: f64,
 }
 
-// All three in turn, on one image: outputs were written once before.
-fn time(image: &[u8], turns: usize) -> Timed {
-    let mut work: [Vec<u64>; 4] = std::array::from_fn(|_| vec![0; 8192]);
+// All three in turn, on one image: outputs were written once before. The port is lent so many words more than it needs.
+fn time(image: &[u8], more: usize, turns: usize) -> Timed {
+    let mut work = lend_work(more);
     let mut list = vec![0; 2049];
     let (mut theirs, _) = to_column_oriented_bytes(image, &options()).unwrap();
     let lent = lent_by(&theirs);
@@ -147,9 +174,11 @@ fn time(image: &[u8], turns: usize) -> Timed {
     let port = times(turns, || assert!(call(image, &lent, &mut work, &mut ours, &mut list).accepted));
     let rust = times(turns, || assert!(to_column_oriented_with(&mut Slice(image), &mut Output(&mut theirs), &options()).is_ok()));
     let copy = times(turns, || copied.copy_from_slice(std::hint::black_box(image)));
+    let mut least = lend_work(0);
     let new_port = times(turns, || {
-        let need = call(image, &lent, &mut work, &mut [], &mut list);
+        let need = call(image, &lent, &mut least, &mut [], &mut list);
         let mut out = vec![0u8; need.place as usize];
+        let mut work = lend_work(more);
         assert!(call(image, &lent, &mut work, &mut out, &mut list).accepted);
     });
     let new_rust = times(turns, || assert!(to_column_oriented_bytes(image, &options()).is_ok()));
@@ -158,7 +187,7 @@ fn time(image: &[u8], turns: usize) -> Timed {
 
 // The result of an image.
 fn convert(image: &[u8]) -> Vec<u8> {
-    let mut work: [Vec<u64>; 4] = std::array::from_fn(|_| vec![0; 8192]);
+    let mut work = lend_work(0);
     let lent = Lent { ident: [&b"MDF     4.20    "[..], &[0; 48]].concat(), text: b"convert".to_vec(), time: 0 };
     let mut list = vec![0; 2049];
     let need = call(image, &lent, &mut work, &mut [], &mut list);
@@ -170,7 +199,7 @@ fn convert(image: &[u8]) -> Vec<u8> {
 
 // A line of the table; the ratio of the port's time to that at half the length, where there is one.
 fn line(name: &str, seconds: &str, image: &[u8], turns: usize, before: Option<f64>) -> f64 {
-    let t = time(image, turns);
+    let t = time(image, shared_records(image), turns);
     let grown = before.map_or(String::new(), |b| format!("{:.2}", t.port.0 / b));
     println!(
         "| {name} | {seconds} | {:.1} | {:.1} | {:.1} | {:.1} | {:.1} | {:.1} | {:.1} | {:.2} | {:.2} | {grown} |",
@@ -181,7 +210,7 @@ fn line(name: &str, seconds: &str, image: &[u8], turns: usize, before: Option<f6
 
 // A line of the second table: what comes before the output too, of which counting is nearly all.
 fn framed_line(name: &str, image: &[u8], turns: usize) {
-    let t = time(image, turns);
+    let t = time(image, shared_records(image), turns);
     println!(
         "| {name} | {:.1} | {:.1} | {:.1} | {:.1} | {:.1} | {:.1} | {:.2} | {:.2} |",
         image.len() as f64 / 1e6, t.decided.0, t.port.0, t.port.1, t.rust.0, t.rust.1, t.port.0 / t.rust.0, t.new_port / t.new_rust
@@ -231,6 +260,10 @@ fn further() -> Vec<(&'static str, Load)> {
         ("10 groups of 30 channels in random order", |n| {
             mixed(&ten(), &Order { id_size: 1, turn: shuffled(10, 600_000 * n as usize) }, 1, 4 << 20)
         }),
+        ("250 groups of one channel, then 500", |n| {
+            let groups = 250 * n as usize;
+            mixed(&bus(250 * n, 32, 1), &Order { id_size: 2, turn: (0..groups).collect() }, 4_000, 4 << 20)
+        }),
         ("500 groups of one channel", |n| mixed(&bus(500, 32, 1), &Order { id_size: 2, turn: (0..500).collect() }, 2_000 * n, 4 << 20)),
         ("10 million records of 8 bits", |n| recording(&[Group::of(1, 8, 0)], 10_000_000 * n, 4 << 20)),
         ("300 channels of 32 bits in 1,000 DT", |n| recording(&[Group::of(300, 32, 0)], 60_000 * n, 72_001 * n as usize)),
@@ -246,6 +279,13 @@ fn further() -> Vec<(&'static str, Load)> {
         ("a history of 1,000 FH, then of 2,000", |n| history(1_000 * n as usize)),
         ("a DL of 100,000 links of 0 that 512 DG use, then of 200,000", |n| zero_links(100_000 * n as usize)),
     ]
+}
+
+// Those of all these loads whose records of a group are at no equal distances.
+fn irregular() -> Vec<(&'static str, Vec<u8>)> {
+    let is = |name: &str| name.contains("random") || name.contains("rates 100");
+    let further = further().into_iter().filter(|l| is(l.0)).map(|(name, make)| (name, make(1)));
+    further.chain(framed().into_iter().filter(|l| is(l.0))).collect()
 }
 
 fn main() {
@@ -265,8 +305,10 @@ fn main() {
     println!("| load | s | MB | port best | median | Rust best | median | copy best | median | port / Rust | with new memory | twice the length |");
     println!("|---|---|---|---|---|---|---|---|---|---|---|---|");
     for (name, groups) in loads.iter().filter(|l| l.0.contains(&only)) {
-        let once = line(name, "60", &recording(groups, 60_000, 4 << 20), turns, None);
-        line(name, "120", &recording(groups, 120_000, 4 << 20), turns, Some(once));
+        let mut before = None;
+        for seconds in [60, 120, 240] {
+            before = Some(line(name, &seconds.to_string(), &recording(groups, 1000 * seconds, 4 << 20), turns, before));
+        }
     }
     let name = "a conversion block with many links";
     if name.contains(&only) {
@@ -282,5 +324,15 @@ fn main() {
     println!("|---|---|---|---|---|---|---|---|---|");
     for (name, image) in framed().iter().filter(|l| l.0.contains(&only)) {
         framed_line(name, image, turns);
+    }
+    println!();
+    println!("| load, with no more words than are needed | MB | port best | median | Rust best | median | port / Rust |");
+    println!("|---|---|---|---|---|---|---|");
+    for (name, image) in irregular().iter().filter(|l| l.0.contains(&only)) {
+        let t = time(image, 0, turns.min(3));
+        println!(
+            "| {name} | {:.1} | {:.1} | {:.1} | {:.1} | {:.1} | {:.2} |",
+            image.len() as f64 / 1e6, t.port.0, t.port.1, t.rust.0, t.rust.1, t.port.0 / t.rust.0
+        );
     }
 }

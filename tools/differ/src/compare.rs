@@ -48,6 +48,7 @@ impl Pair {
         };
         let mut call = Call::new(image, size, lent, out);
         call.work[slack % 4] += slack % 3;
+        call.work[1] += [0, 500, 20_000][image.len() % 3];
         let port = self.convert(&mut call);
         let verdict = verdict(image, &rust, port.as_ref());
         Finding { rust, port, verdict }

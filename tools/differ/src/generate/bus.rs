@@ -1,4 +1,4 @@
-//! One DG of 50 to 512 groups, as a bus logger's: short records in no order, ids of each size in no order.
+//! One DG of 50 to 512 groups, or of few groups with many records each, as a bus logger's: short records in no order, ids of each size in no order.
 use super::data::Group;
 use super::Maker;
 use crate::blocks::{Draft, Id, HD};
@@ -8,13 +8,21 @@ impl Maker<'_> {
     pub fn bus(mut self) -> Draft {
         let ids = self.random.pick(&[1, 2, 4, 8]);
         let most = if ids == 1 { 256 } else { 512 };
+        let few = self.random.percent(20);
         let n = match self.random.below(4) {
+            _ if few => self.random.range(2, 12),
             0 => most,
             _ => self.random.range(50, most),
         };
-        self.draft.mark("DG of 50 to 512 groups");
-        self.draft.mark(format!("DG of 50 to 512 groups, id size {ids}"));
-        let shapes: Vec<Group> = self.apart(n, ids).into_iter().map(|id| self.short(id)).collect();
+        let records = match self.random.below(4) {
+            _ if !few => 6,
+            0 => 2000,
+            _ => 600,
+        };
+        let name = if few { "DG of 2 to 12 groups, up to 2,000 records each in no order" } else { "DG of 50 to 512 groups" };
+        self.draft.mark(name);
+        self.draft.mark(format!("{name}, id size {ids}"));
+        let shapes: Vec<Group> = self.apart(n, ids).into_iter().map(|id| self.short(id, records)).collect();
         let groups: Vec<Id> = shapes.iter().map(|g| self.bus_group(g)).collect();
         let data = self.data(ids, &shapes);
         let dg = self.draft.add(*b"DG", vec![None, None, data, None], vec![ids as u8, 0, 0, 0, 0, 0, 0, 0]);
@@ -36,11 +44,11 @@ impl Maker<'_> {
         ids
     }
 
-    fn short(&mut self, id: u64) -> Group {
+    fn short(&mut self, id: u64, records: usize) -> Group {
         let samples = self.random.pick(&[0, 1, 1, 2, 4, 8, 9]);
         let inval = self.random.percent(10) as usize;
         let storage = self.random.percent(5);
-        Group { samples, inval, storage, records: self.random.below(7), id }
+        Group { samples, inval, storage, records: self.random.below(records + 1), id }
     }
 
     /// A CG with one channel, or none.

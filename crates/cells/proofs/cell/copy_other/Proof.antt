@@ -39,14 +39,23 @@ same-length-4 c = search needs
 returns-4 : tie.Need-returns-4
 returns-4 c = cc
 
-copy-requires : tie.Need-copy-requires
-copy-requires c κs = search needs
+copy16-requires : tie.Need-copy16-requires
+copy16-requires c κs = search needs
 
 same-length-5 : tie.Need-same-length-5
 same-length-5 c = search needs
 
 returns-5 : tie.Need-returns-5
-returns-5 c = search needs
+returns-5 c = cc
+
+copy-requires : tie.Need-copy-requires
+copy-requires c κs = search needs
+
+same-length-6 : tie.Need-same-length-6
+same-length-6 c = search needs
+
+returns-6 : tie.Need-returns-6
+returns-6 c = search needs
 
 pub copy-other-spec : {M : Type 1} → statement M
 copy-other-spec =
@@ -64,6 +73,9 @@ copy-other-spec =
     copy7-requires
     same-length-4
     returns-4
-    copy-requires
+    copy16-requires
     same-length-5
-    returns-5)
+    returns-5
+    copy-requires
+    same-length-6
+    returns-6)

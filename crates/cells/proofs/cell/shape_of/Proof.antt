@@ -38,11 +38,11 @@ add-t13 : tie.Need-add-t13
 add-t13 c = search needs
 
 returns : tie.Need-returns
-returns c =
+returns c = λ h.
     let s = c .before .before .before .before .before .before .before .before .args .image .now in
     let g = c .before .before .before .before .before .before .before .before .args .g in
     let n = c .before .before .before .before .before .before .before .before .args .c in
-    let f = fits-within s g n (c .before .before .before .before .before .before .before .before .pre) in
+    let f = fits-within s g n h in
     let a = c .before .before .before .before .before .before .byte-offset .ensures .is in
     let b = c .before .before .before .before .before .channel-bytes .ensures .is in
     let d = c .before .before .before .before .samples-of .ensures .is in
@@ -61,7 +61,7 @@ returns c =
         short = let x = c .before .before .before .before .samples-of .ensures .small in let y =
             c .before .before .before .inval-bytes-of .ensures .small in omega arith;
         wide = c .width-of .ensures .is;
-        fitting = c .before .before .before .before .before .before .before .before .pre;
+        fitting = h;
       };
       group = refl;
       channel = refl;

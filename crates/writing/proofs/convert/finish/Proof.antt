@@ -30,20 +30,20 @@ returns-2 c = let s = c .before .before .before .before .before .before .before 
 -- src/convert.rt:92:5
 write-file-requires : tie.Need-write-file-requires
 write-file-requires c κs =
-    (c .before .before .before .before .before .before .before .before .before .before .before .before .before .pre,
-    c .before .before .if1 .left)
+    (c .before .before .before .before .before .before .before .before .before .before .before .before .before .before .pre,
+    c .before .before .before .if1 .left)
 
 -- src/convert.rt:93:5
 write-list-requires : tie.Need-write-list-requires
-write-list-requires c κs = (c .before .before .before .before .before .if2 .left, omega (arith, stands-long
-    (c .before .before .before .before .before .before .before .before .before .before .before .before .before .before .before .before .before .pre),
+write-list-requires c κs = (c .before .before .before .before .before .before .before .before .if2 .left, omega (arith, stands-long
+    (c .before .before .before .before .before .before .before .before .before .before .before .before .before .before .before .before .before .before .before .before .pre),
     stands-omissions
-    (c .before .before .before .before .before .before .before .before .before .before .before .before .before .before .before .before .before .pre)))
+    (c .before .before .before .before .before .before .before .before .before .before .before .before .before .before .before .before .before .before .before .before .pre)))
 
 -- src/convert.rt:94:9
 count-up-requires : tie.Need-count-up-requires
 count-up-requires c κs = stands-counts
-    (c .before .before .before .before .before .before .before .before .before .before .before .before .before .before .before .before .before .before .before .before .pre)
+    (c .before .before .before .before .before .before .before .before .before .before .before .before .before .before .before .before .before .before .before .before .before .before .before .pre)
 
 -- src/convert.rt:75:1
 same-length : tie.Need-same-length
@@ -53,17 +53,20 @@ same-length c = search needs
 same-length-2 : tie.Need-same-length-2
 same-length-2 c = search needs
 
+same-length-3 : tie.Need-same-length-3
+same-length-3 c = search needs
+
 -- src/convert.rt:75:1
 returns-3 : tie.Need-returns-3
 returns-3 c =
-    let s = c .before .before .before .before .before .before .before .before .before .before .before .before .before .before .before .before .before .before .before .before .before .pre
+    let s = c .before .before .before .before .before .before .before .before .before .before .before .before .before .before .before .before .before .before .before .before .before .before .before .before .pre
         in
     let t = s .by in
     all-done _ (t .told) (t .is) _ _ (t .numbered .fileSize)
-        (c .before .before .before .before .before .before .before .before .before .before .if1 .left) (stands-words s)
-        (c .before .before .before .before .before .before .before .before .before .if2 .left)
+        (c .before .before .before .before .before .before .before .before .before .before .before .before .before .if1 .left) (stands-words s)
+        (c .before .before .before .before .before .before .before .before .before .before .before .before .if2 .left)
     (stands-report s (c .count-up .ensures) (t .numbered .metadataEnd) (t .numbered .fileSize))
-    (c .before .before .before .before .before .before .before .write-file .ensures ∙ rw (t .is))
+    (c .before .before .before .before .before .before .before .before .before .write-file .ensures ∙ rw (t .is))
     (c .before .before .before .write-list .ensures ∙ rw (stands-listed s))
 
 pub finish-spec : {M : Type 1} → statement M
@@ -79,4 +82,5 @@ finish-spec =
     count-up-requires
     same-length
     same-length-2
+    same-length-3
     returns-3)

@@ -21,6 +21,12 @@ add-f c = search needs
 add-l : tie.Need-add-l
 add-l c = search needs
 
+add-g : tie.Need-add-g
+add-g c = search needs
+
+add-h : tie.Need-add-h
+add-h c = search needs
+
 mul-write-blocks : tie.Need-mul-write-blocks
 mul-write-blocks c = search needs
 
@@ -45,6 +51,18 @@ part-write-blocks-start-2 c = search needs
 part-write-blocks-end-2 : tie.Need-part-write-blocks-end-2
 part-write-blocks-end-2 c = search needs
 
+mul-write-blocks-3 : tie.Need-mul-write-blocks-3
+mul-write-blocks-3 c = search needs
+
+sub-write-blocks-3 : tie.Need-sub-write-blocks-3
+sub-write-blocks-3 c = search needs
+
+part-write-blocks-start-3 : tie.Need-part-write-blocks-start-3
+part-write-blocks-start-3 c = search needs
+
+part-write-blocks-end-3 : tie.Need-part-write-blocks-end-3
+part-write-blocks-end-3 c = search needs
+
 write-blocks-requires : tie.Need-write-blocks-requires
 write-blocks-requires c κs = search needs
 
@@ -54,9 +72,12 @@ same-length c = search needs
 same-length-2 : tie.Need-same-length-2
 same-length-2 c = search needs
 
+same-length-3 : tie.Need-same-length-3
+same-length-3 c = search needs
+
 returns : tie.Need-returns
 unfolding ownGroups ownWords part
-returns c = blocks-put _ (c .before .before .before .before .before .before .before .before .before .before .before .before .own-of .ensures) _ _ _ _ (c .before .before .before .before .before .before .before .before .before .before .before .before .before .before .before .before .before .before .pre .1) (c .before .before .before .before .before .before .before .before .before .before .before .before .before .before .before .before .before .before .pre .2) (c .before .before .before .before .before .before .before .before .before .before .before .before .before .before .before .before .before .before .pre .3) (c .before .before .before .before .write-blocks .ensures)
+returns c = blocks-put _ (c .before .before .before .before .before .before .before .before .before .before .before .before .before .before .before .before .own-of .ensures) _ _ _ _ _ _ (c .before .before .before .before .before .before .before .before .before .before .before .before .before .before .before .before .before .before .before .before .before .before .before .pre .1) (c .before .before .before .before .before .before .before .before .before .before .before .before .before .before .before .before .before .before .before .before .before .before .before .pre .2) (c .before .before .before .before .before .before .before .before .before .before .before .before .before .before .before .before .before .before .before .before .before .before .before .pre .3) (c .before .before .before .before .before .before .write-blocks .ensures)
 
 pub put-blocks-spec : {M : Type 1} → statement M
 put-blocks-spec =
@@ -67,6 +88,8 @@ put-blocks-spec =
     mul-q
     add-f
     add-l
+    add-g
+    add-h
     mul-write-blocks
     sub-write-blocks
     part-write-blocks-start
@@ -75,7 +98,12 @@ put-blocks-spec =
     sub-write-blocks-2
     part-write-blocks-start-2
     part-write-blocks-end-2
+    mul-write-blocks-3
+    sub-write-blocks-3
+    part-write-blocks-start-3
+    part-write-blocks-end-3
     write-blocks-requires
     same-length
     same-length-2
+    same-length-3
     returns)

@@ -14,34 +14,34 @@ block-count-requires : tie.Need-block-count-requires
 block-count-requires c κs = search needs
 
 returns : tie.Need-returns
-returns c = (c .before .before .before .before .before .before .before .before .pre .3, entry-none _ _ _ (c .before .before .before .before .before .before .before .before .pre .1) (c .before .before .before .before .before .before .before .before .pre .2) (c .before .before .width-of .ensures .is) (c .before .block-count .ensures) (c .if1 .taken) _)
+returns c = (c .before .before .before .before .before .before .before .before .before .pre .3, entry-none _ _ _ (c .before .before .before .before .before .before .before .before .before .pre .1) (c .before .before .before .before .before .before .before .before .before .pre .2) (c .before .before .width-of .ensures .is) (c .before .block-count .ensures) (c .if1 .taken) _)
+
+mul-past : tie.Need-mul-past
+mul-past c = let h = entry-room _ _ _ (c .before .before .before .before .before .before .before .before .before .pre .1) (c .before .before .before .before .before .before .before .before .before .pre .2) (c .before .before .width-of .ensures .is) (c .before .block-count .ensures) (c .if1 .left) in omega arith
+
+mul-past-2 : tie.Need-mul-past-2
+mul-past-2 c = let h = entry-room _ _ _ (c .before .before .before .before .before .before .before .before .before .before .pre .1) (c .before .before .before .before .before .before .before .before .before .before .pre .2) (c .before .before .before .width-of .ensures .is) (c .before .before .block-count .ensures) (c .before .if1 .left) in omega arith
+
+add-past : tie.Need-add-past
+add-past c = let h = entry-room _ _ _ (c .before .before .before .before .before .before .before .before .before .before .pre .1) (c .before .before .before .before .before .before .before .before .before .before .pre .2) (c .before .before .before .width-of .ensures .is) (c .before .before .block-count .ensures) (c .before .if1 .left) in omega arith
+
+add-past-2 : tie.Need-add-past-2
+add-past-2 c = let h = entry-room _ _ _ (c .before .before .before .before .before .before .before .before .before .before .pre .1) (c .before .before .before .before .before .before .before .before .before .before .pre .2) (c .before .before .before .width-of .ensures .is) (c .before .before .block-count .ensures) (c .before .if1 .left) in omega arith
 
 gap-requires : tie.Need-gap-requires
-gap-requires c κs = let h = entry-room _ _ _ (c .before .before .before .before .before .before .before .before .before .pre .1) (c .before .before .before .before .before .before .before .before .before .pre .2) (c .before .before .before .width-of .ensures .is) (c .before .before .block-count .ensures) (c .before .if1 .left) in (h .0, omega arith)
+gap-requires c κs = let h = entry-room _ _ _ (c .before .before .before .before .before .before .before .before .before .before .before .pre .1) (c .before .before .before .before .before .before .before .before .before .before .before .pre .2) (c .before .before .before .before .width-of .ensures .is) (c .before .before .before .block-count .ensures) (c .before .before .if1 .left) in (h .0, omega arith)
 
 sub-put-blocks : tie.Need-sub-put-blocks
-sub-put-blocks c = let h = entry-room _ _ _ (c .before .before .before .before .before .before .before .before .before .before .before .before .pre .1) (c .before .before .before .before .before .before .before .before .before .before .before .before .pre .2) (c .before .before .before .before .before .before .width-of .ensures .is) (c .before .before .before .before .before .block-count .ensures) (c .before .before .before .before .if1 .left) in omega arith
+sub-put-blocks c = let h = entry-room _ _ _ (c .before .before .before .before .before .before .before .before .before .before .before .before .before .before .pre .1) (c .before .before .before .before .before .before .before .before .before .before .before .before .before .before .pre .2) (c .before .before .before .before .before .before .before .width-of .ensures .is) (c .before .before .before .before .before .before .block-count .ensures) (c .before .before .before .before .before .if1 .left) in omega arith
 
 part-put-blocks-start : tie.Need-part-put-blocks-start
-part-put-blocks-start c = let h = entry-room _ _ _ (c .before .before .before .before .before .before .before .before .before .before .before .before .pre .1) (c .before .before .before .before .before .before .before .before .before .before .before .before .pre .2) (c .before .before .before .before .before .before .width-of .ensures .is) (c .before .before .before .before .before .block-count .ensures) (c .before .before .before .before .if1 .left) in omega arith
+part-put-blocks-start c = let h = entry-room _ _ _ (c .before .before .before .before .before .before .before .before .before .before .before .before .before .before .pre .1) (c .before .before .before .before .before .before .before .before .before .before .before .before .before .before .pre .2) (c .before .before .before .before .before .before .before .width-of .ensures .is) (c .before .before .before .before .before .before .block-count .ensures) (c .before .before .before .before .before .if1 .left) in omega arith
 
 part-put-blocks-end : tie.Need-part-put-blocks-end
 part-put-blocks-end c = search needs
 
 put-blocks-requires : tie.Need-put-blocks-requires
-put-blocks-requires c κs = let h = bytes-room _ _ _ (c .before .before .before .before .before .before .before .before .before .before .before .before .before .before .pre .1) (c .before .before .before .before .before .before .before .before .before .before .before .before .before .before .pre .2) (c .before .before .before .before .before .before .before .before .width-of .ensures .is) (c .before .before .before .before .before .before .before .block-count .ensures) (c .before .before .before .before .before .before .if1 .left) in (c .before .before .before .before .before .before .before .before .before .before .before .before .before .before .pre .0, c .before .before .before .before .before .before .before .before .before .before .before .before .before .before .pre .1, simp (length-take, length-drop) (omega (arith, h)), c .before .before .before .before .before .before .before .before .before .before .before .before .before .before .pre .3)
-
-mul-result : tie.Need-mul-result
-mul-result c = let h = entry-room _ _ _ (c .before .before .before .before .before .before .before .before .before .before .before .before .before .before .before .before .before .before .before .pre .1) (c .before .before .before .before .before .before .before .before .before .before .before .before .before .before .before .before .before .before .before .pre .2) (c .before .before .before .before .before .before .before .before .before .before .before .before .before .width-of .ensures .is) (c .before .before .before .before .before .before .before .before .before .before .before .before .block-count .ensures) (c .before .before .before .before .before .before .before .before .before .before .before .if1 .left) in omega arith
-
-mul-result-2 : tie.Need-mul-result-2
-mul-result-2 c = let h = entry-room _ _ _ (c .before .before .before .before .before .before .before .before .before .before .before .before .before .before .before .before .before .before .before .before .pre .1) (c .before .before .before .before .before .before .before .before .before .before .before .before .before .before .before .before .before .before .before .before .pre .2) (c .before .before .before .before .before .before .before .before .before .before .before .before .before .before .width-of .ensures .is) (c .before .before .before .before .before .before .before .before .before .before .before .before .before .block-count .ensures) (c .before .before .before .before .before .before .before .before .before .before .before .before .if1 .left) in omega arith
-
-add-result : tie.Need-add-result
-add-result c = let h = entry-room _ _ _ (c .before .before .before .before .before .before .before .before .before .before .before .before .before .before .before .before .before .before .before .before .pre .1) (c .before .before .before .before .before .before .before .before .before .before .before .before .before .before .before .before .before .before .before .before .pre .2) (c .before .before .before .before .before .before .before .before .before .before .before .before .before .before .width-of .ensures .is) (c .before .before .before .before .before .before .before .before .before .before .before .before .before .block-count .ensures) (c .before .before .before .before .before .before .before .before .before .before .before .before .if1 .left) in omega arith
-
-add-result-2 : tie.Need-add-result-2
-add-result-2 c = let h = entry-room _ _ _ (c .before .before .before .before .before .before .before .before .before .before .before .before .before .before .before .before .before .before .before .before .pre .1) (c .before .before .before .before .before .before .before .before .before .before .before .before .before .before .before .before .before .before .before .before .pre .2) (c .before .before .before .before .before .before .before .before .before .before .before .before .before .before .width-of .ensures .is) (c .before .before .before .before .before .before .before .before .before .before .before .before .before .block-count .ensures) (c .before .before .before .before .before .before .before .before .before .before .before .before .if1 .left) in omega arith
+put-blocks-requires c κs = let h = bytes-room _ _ _ (c .before .before .before .before .before .before .before .before .before .before .before .before .before .before .before .before .before .pre .1) (c .before .before .before .before .before .before .before .before .before .before .before .before .before .before .before .before .before .pre .2) (c .before .before .before .before .before .before .before .before .before .before .width-of .ensures .is) (c .before .before .before .before .before .before .before .before .before .block-count .ensures) (c .before .before .before .before .before .before .before .before .if1 .left) in (c .before .before .before .before .before .before .before .before .before .before .before .before .before .before .before .before .before .pre .0, c .before .before .before .before .before .before .before .before .before .before .before .before .before .before .before .before .before .pre .1, simp (length-take, length-drop) (omega (arith, h)), c .before .before .before .before .before .before .before .before .before .before .before .before .before .before .before .before .before .pre .3)
 
 same-length : tie.Need-same-length
 same-length c = search needs
@@ -49,8 +49,11 @@ same-length c = search needs
 same-length-2 : tie.Need-same-length-2
 same-length-2 c = search needs
 
+same-length-3 : tie.Need-same-length-3
+same-length-3 c = search needs
+
 returns-2 : tie.Need-returns-2
-returns-2 c = (c .before .before .before .before .before .put-blocks .ensures .0, entry-wrote _ _ _ (c .before .before .before .before .before .before .before .before .before .before .before .before .before .before .before .before .before .before .before .before .pre .1) (c .before .before .before .before .before .before .before .before .before .before .before .before .before .before .before .before .before .before .before .before .pre .2) (c .before .before .before .before .before .before .before .before .before .before .before .before .before .before .width-of .ensures .is) (c .before .before .before .before .before .before .before .before .before .before .before .before .before .block-count .ensures) (c .before .before .before .before .before .before .before .before .before .before .before .before .if1 .left) _ (c .before .before .before .before .before .before .before .before .before .before .gap .ensures) (lent-is _ _ _ _ (c .before .before .before .before .before .put-blocks .ensures .1)))
+returns-2 c = (c .before .before .before .before .before .before .put-blocks .ensures .0, entry-wrote _ _ _ (c .before .before .before .before .before .before .before .before .before .before .before .before .before .before .before .before .before .before .before .before .before .before .before .before .pre .1) (c .before .before .before .before .before .before .before .before .before .before .before .before .before .before .before .before .before .before .before .before .before .before .before .before .pre .2) (c .before .before .before .before .before .before .before .before .before .before .before .before .before .before .before .before .before .width-of .ensures .is) (c .before .before .before .before .before .before .before .before .before .before .before .before .before .before .before .before .block-count .ensures) (c .before .before .before .before .before .before .before .before .before .before .before .before .before .before .before .if1 .left) _ (c .before .before .before .before .before .before .before .before .before .before .before .before .gap .ensures) (lent-is _ _ _ _ (c .before .before .before .before .before .before .put-blocks .ensures .1)))
 
 pub write-column-spec : {M : Type 1} → statement M
 write-column-spec =
@@ -59,15 +62,16 @@ write-column-spec =
     width-of-requires
     block-count-requires
     returns
+    mul-past
+    mul-past-2
+    add-past
+    add-past-2
     gap-requires
     sub-put-blocks
     part-put-blocks-start
     part-put-blocks-end
     put-blocks-requires
-    mul-result
-    mul-result-2
-    add-result
-    add-result-2
     same-length
     same-length-2
+    same-length-3
     returns-2)

@@ -10,20 +10,23 @@ use Rattle.writing.proofs.data.write_data.Statement.{statement}
 use Rattle.writing.proofs.data.write_data.Tie as tie
 
 abbrev Inv-loop : tie.InvT-loop
-Inv-loop out₀ at image size source n fragments nf columns memo number pool₀ k₀ p₀ out pool k p =
-    Writing image size source n fragments nf columns memo number at out₀ k p out × Kept image source n fragments nf pool
-    × (length pool ≡ 4096)
+Inv-loop out₀ at image size source n fragments nf columns memo number words₀ pool₀ k₀ p₀ out words pool k p =
+    Writing image size source n fragments nf columns memo number at out₀ k p out × Kept image source n fragments nf pool words
+    × (length pool ≡ 4096) × (length words ≡ length words₀)
 
 abbrev μ-loop : tie.MeasureT-loop
-μ-loop out₀ at image size source n fragments nf columns memo number pool₀ k₀ p₀ out pool k p = number - k
+μ-loop out₀ at image size source n fragments nf columns memo number words₀ pool₀ k₀ p₀ out words pool k p = number - k
+
+forget-requires : tie.Need-forget-requires Inv-loop μ-loop
+forget-requires c κs = search needs
 
 loop-holds : tie.Need-loop-holds Inv-loop μ-loop
-loop-holds c = (writing-begin _ (c .before .before .before .before .before .before .pre), kept-none _ _ _ _ _, refl)
+loop-holds c = (writing-begin _ (c .before .before .before .before .before .before .before .before .before .before .before .pre), kept-none _ _ _ _ _ (c .before .before .forget .ensures), refl, refl)
 
 entry-at-requires : tie.Need-entry-at-requires Inv-loop μ-loop
 entry-at-requires c κs =
-    let a = c .before .before .before .before .before .before .before .before .pre .columns in
-    let b = c .before .before .before .before .before .before .before .before .pre .places in
+    let a = c .before .before .before .before .before .before .before .before .before .before .before .before .before .pre .columns in
+    let b = c .before .before .before .before .before .before .before .before .before .before .before .before .before .pre .places in
     let h = c .loop-test .taken in
     (omega arith, omega arith)
 
@@ -32,22 +35,22 @@ slice-aggregate-write-column c = sym (c .before .before .before .before .loop .i
 
 write-column-requires : tie.Need-write-column-requires Inv-loop μ-loop
 write-column-requires c κs =
-    let t = c .before .before .before .before .loop .inv in
-    let h = c .before .before .before .loop-test .taken in
-    let e = c .before .before .entry-at .ensures in
-    (c .before .before .before .before .before .before .before .before .before .before .before .pre .tables, entry-ready _ (c .before .before .before .before .before .before .before .before .before .before .before .pre) h e, blocks-ordered (t .0) h e, t .1)
+    let t = c .before .before .before .before .before .loop .inv in
+    let h = c .before .before .before .before .loop-test .taken in
+    let e = c .before .before .before .entry-at .ensures in
+    (c .before .before .before .before .before .before .before .before .before .before .before .before .before .before .before .before .before .pre .tables, entry-ready _ (c .before .before .before .before .before .before .before .before .before .before .before .before .before .before .before .before .before .pre) h e, blocks-ordered (t .0) h e, t .1)
 
 write-signal-of-requires : tie.Need-write-signal-of-requires Inv-loop μ-loop
 write-signal-of-requires c κs =
-    let t = c .before .before .before .before .before .before .before .before .before .loop .inv in
-    let h = c .before .before .before .before .before .before .before .before .loop-test .taken in
-    let e = c .before .before .before .before .before .before .before .entry-at .ensures in
-    (entry-ready _ (c .before .before .before .before .before .before .before .before .before .before .before .before .before .before .before .before .pre) h e .signal, signal-ordered (t .0) h e (c .before .before .before .before .write-column .ensures .1))
+    let t = c .before .before .before .before .before .before .before .before .before .before .before .before .loop .inv in
+    let h = c .before .before .before .before .before .before .before .before .before .before .before .loop-test .taken in
+    let e = c .before .before .before .before .before .before .before .before .before .before .entry-at .ensures in
+    (entry-ready _ (c .before .before .before .before .before .before .before .before .before .before .before .before .before .before .before .before .before .before .before .before .before .before .before .before .pre) h e .signal, signal-ordered (t .0) h e (c .before .before .before .before .before .before .write-column .ensures .1))
 
 add-k : tie.Need-add-k Inv-loop μ-loop
 add-k c =
-    let h = c .before .before .before .before .before .before .before .before .before .before .before .loop-test .taken in
-    let f = c .before .before .before .before .before .before .before .before .before .before .before .before .before .before .before .before .before .before .before .fits .number in
+    let h = c .before .before .before .before .before .before .before .before .before .before .before .before .before .before .loop-test .taken in
+    let f = c .before .before .before .before .before .before .before .before .before .before .before .before .before .before .before .before .before .before .before .before .before .before .before .before .before .before .before .fits .number in
     record { fits = omega arith }
 
 loop-less : tie.Need-loop-less Inv-loop μ-loop
@@ -55,12 +58,15 @@ loop-less c = search needs
 
 loop-again : tie.Need-loop-again Inv-loop μ-loop
 loop-again c =
-    let t = c .before .before .before .before .before .before .before .before .before .before .before .before .loop .inv in
-    let v = c .before .before .before .before .before .before .before .write-column .ensures in
-    (writing-on (t .0) (c .before .before .before .before .before .before .before .before .before .before .before .loop-test .taken) (c .before .before .before .before .before .before .before .before .before .before .entry-at .ensures) (v .1) (c .before .before .write-signal-of .ensures), v .0, c .before .before .before .before .before .before .before .write-column .kept .1 .1 .1 .1 .1 .1 .1 .1 .0 ∙ t .2)
+    let t = c .before .before .before .before .before .before .before .before .before .before .before .before .before .before .before .loop .inv in
+    let v = c .before .before .before .before .before .before .before .before .before .write-column .ensures in
+    (writing-on (t .0) (c .before .before .before .before .before .before .before .before .before .before .before .before .before .before .loop-test .taken) (c .before .before .before .before .before .before .before .before .before .before .before .before .before .entry-at .ensures) (v .1) (c .before .before .write-signal-of .ensures), v .0, c .before .before .before .before .before .before .before .before .before .write-column .kept .1 .1 .1 .1 .1 .1 .1 .1 .0 ∙ t .2, c .before .before .before .before .before .before .before .before .before .write-column .kept .1 .1 .1 .1 .1 .1 .1 .1 .1 .0 ∙ t .3)
 
 same-length : tie.Need-same-length Inv-loop μ-loop
 same-length c = search needs
+
+same-length-2 : tie.Need-same-length-2 Inv-loop μ-loop
+same-length-2 c = search needs
 
 returns : tie.Need-returns Inv-loop μ-loop
 returns c = writing-end (c .before .loop .inv .0) (omega arith)
@@ -71,6 +77,7 @@ write-data-spec =
     (tie.spec
     Inv-loop
     μ-loop
+    forget-requires
     loop-holds
     entry-at-requires
     slice-aggregate-write-column
@@ -80,4 +87,5 @@ write-data-spec =
     loop-less
     loop-again
     same-length
+    same-length-2
     returns)

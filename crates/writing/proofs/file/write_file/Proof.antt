@@ -1,5 +1,5 @@
 -- Each part after the one before.
-use Rattle.writing.specs.FileLaws.{few-attachments, front-is, front-room, front-done, history-asks, history-done, new-asks, new-done, columns-asks, columns-done, structure-asks, structure-done, data-asks, data-done, attached-asks, attached-done, end-room, file-same, file-done}
+use Rattle.writing.specs.FileLaws.{few-attachments, front-is, front-room, front-done, history-asks, history-done, new-asks, new-done, columns-asks, columns-done, structure-asks, structure-done, long-fragments, kept-long, data-asks, data-done, attached-asks, attached-done, end-room, file-same, file-done}
 use borrow.Author.Needs.{needs}
 use Rattle.writing.proofs.file.write_file.Statement.{statement}
 use Rattle.writing.proofs.file.write_file.Tie as tie
@@ -94,32 +94,15 @@ write-structure-requires c κs =
     let b4 = columns-done s _ b3 (c .before .before .before .write-copies2 .ensures) in
     structure-asks s _ b4
 
+first-fragments-requires : tie.Need-first-fragments-requires
+first-fragments-requires c κs = long-fragments (c .before .before .before .before .before .before .before .before .before .before .before .before .before .before .before .before .before .before .before .before .before .before .before .before .before .before .before .before .before .before .before .before .before .before .pre .0)
+
+slice-aggregate-write-data : tie.Need-slice-aggregate-write-data
+slice-aggregate-write-data c = kept-long (c .before .before .before .before .before .before .before .before .before .before .before .before .before .before .before .before .before .before .before .before .before .before .before .before .before .before .before .before .before .before .before .before .before .before .before .before .before .pre .0) (c .before .before .first-fragments .ensures)
+
 -- src/file.rt:75:9
 write-data-requires : tie.Need-write-data-requires
 write-data-requires c κs =
-    let s = c .before .before .before .before .before .before .before .before .before .before .before .before .before .before .before .before .before .before .before .before .before .before .before .before .before .before .before .before .before .before .before .before .before .before .pre .0
-        in
-    let b1 = front-done s
-        (c .before .before .before .before .before .before .before .before .before .before .before .before .before .before .before .before .before .before .before .before .before .before .before .before .before .before .before .before .before .before .before .before .before .before .pre .1)
-        (front-is s
-        (c .before .before .before .before .before .before .before .before .before .before .before .before .before .before .before .before .before .before .before .before .before .before .before .before .first-column .ensures)
-        (c .before .before .before .before .before .before .before .before .before .before .before .before .before .before .before .before .before .before .before .before .before .before .before .first-history .ensures)
-        (c .before .before .before .before .before .before .before .before .before .before .before .before .before .before .before .before .before .before .before .before .before .before .next-place .ensures)
-        (c .before .before .before .before .before .before .before .before .before .before .before .before .before .before .before .before .before .before .before .before .before .comment-of .ensures))
-        (c .before .before .before .before .before .before .before .before .before .before .before .before .before .before .before .before .before .before .before .write-front .ensures .1)
-        in
-    let b2 = history-done s _ b1
-        (c .before .before .before .before .before .before .before .before .before .before .before .before .before .before .before .write-copies .ensures)
-        in
-    let b3 = new-done s _ b2
-        (c .before .before .before .before .before .before .before .before .before .before .before .write-history .ensures) in
-    let b4 = columns-done s _ b3 (c .before .before .before .before .before .before .before .write-copies2 .ensures) in
-    let b5 = structure-done s _ b4 (c .before .before .before .write-structure .ensures) in
-    data-asks s _ b5
-
--- src/file.rt:76:9
-write-attachments-requires : tie.Need-write-attachments-requires
-write-attachments-requires c κs =
     let s = c .before .before .before .before .before .before .before .before .before .before .before .before .before .before .before .before .before .before .before .before .before .before .before .before .before .before .before .before .before .before .before .before .before .before .before .before .before .before .pre .0
         in
     let b1 = front-done s
@@ -135,102 +118,128 @@ write-attachments-requires c κs =
         (c .before .before .before .before .before .before .before .before .before .before .before .before .before .before .before .before .before .before .before .write-copies .ensures)
         in
     let b3 = new-done s _ b2
-        (c .before .before .before .before .before .before .before .before .before .before .before .before .before .before .before .write-history .ensures)
+        (c .before .before .before .before .before .before .before .before .before .before .before .before .before .before .before .write-history .ensures) in
+    let b4 = columns-done s _ b3 (c .before .before .before .before .before .before .before .before .before .before .before .write-copies2 .ensures) in
+    let b5 = structure-done s _ b4 (c .before .before .before .before .before .before .before .write-structure .ensures) in
+    data-asks s _ (c .before .before .before .first-fragments .ensures) b5
+
+-- src/file.rt:76:9
+write-attachments-requires : tie.Need-write-attachments-requires
+write-attachments-requires c κs =
+    let s = c .before .before .before .before .before .before .before .before .before .before .before .before .before .before .before .before .before .before .before .before .before .before .before .before .before .before .before .before .before .before .before .before .before .before .before .before .before .before .before .before .before .before .before .before .pre .0
+        in
+    let b1 = front-done s
+        (c .before .before .before .before .before .before .before .before .before .before .before .before .before .before .before .before .before .before .before .before .before .before .before .before .before .before .before .before .before .before .before .before .before .before .before .before .before .before .before .before .before .before .before .before .pre .1)
+        (front-is s
+        (c .before .before .before .before .before .before .before .before .before .before .before .before .before .before .before .before .before .before .before .before .before .before .before .before .before .before .before .before .before .before .before .before .before .before .first-column .ensures)
+        (c .before .before .before .before .before .before .before .before .before .before .before .before .before .before .before .before .before .before .before .before .before .before .before .before .before .before .before .before .before .before .before .before .before .first-history .ensures)
+        (c .before .before .before .before .before .before .before .before .before .before .before .before .before .before .before .before .before .before .before .before .before .before .before .before .before .before .before .before .before .before .before .before .next-place .ensures)
+        (c .before .before .before .before .before .before .before .before .before .before .before .before .before .before .before .before .before .before .before .before .before .before .before .before .before .before .before .before .before .before .before .comment-of .ensures))
+        (c .before .before .before .before .before .before .before .before .before .before .before .before .before .before .before .before .before .before .before .before .before .before .before .before .before .before .before .before .before .write-front .ensures .1)
+        in
+    let b2 = history-done s _ b1
+        (c .before .before .before .before .before .before .before .before .before .before .before .before .before .before .before .before .before .before .before .before .before .before .before .before .before .write-copies .ensures)
+        in
+    let b3 = new-done s _ b2
+        (c .before .before .before .before .before .before .before .before .before .before .before .before .before .before .before .before .before .before .before .before .before .write-history .ensures)
         in
     let b4 = columns-done s _ b3
-        (c .before .before .before .before .before .before .before .before .before .before .before .write-copies2 .ensures) in
-    let b5 = structure-done s _ b4 (c .before .before .before .before .before .before .before .write-structure .ensures) in
-    let b6 = data-done s _ b5 (c .before .before .before .write-data .ensures) in
+        (c .before .before .before .before .before .before .before .before .before .before .before .before .before .before .before .before .before .write-copies2 .ensures) in
+    let b5 = structure-done s _ b4 (c .before .before .before .before .before .before .before .before .before .before .before .before .before .write-structure .ensures) in
+    let b6 = data-done s _ (c .before .before .before .before .before .before .before .before .before .first-fragments .ensures) b5 (c .before .before .before .before .before .write-data .ensures) in
     attached-asks s b6
 
 -- src/file.rt:77:5
 gap-requires : tie.Need-gap-requires
 gap-requires c κs =
-    let s = c .before .before .before .before .before .before .before .before .before .before .before .before .before .before .before .before .before .before .before .before .before .before .before .before .before .before .before .before .before .before .before .before .before .before .before .before .before .before .before .before .before .before .pre .0
+    let s = c .before .before .before .before .before .before .before .before .before .before .before .before .before .before .before .before .before .before .before .before .before .before .before .before .before .before .before .before .before .before .before .before .before .before .before .before .before .before .before .before .before .before .before .before .before .before .before .before .pre .0
         in
     let b1 = front-done s
-        (c .before .before .before .before .before .before .before .before .before .before .before .before .before .before .before .before .before .before .before .before .before .before .before .before .before .before .before .before .before .before .before .before .before .before .before .before .before .before .before .before .before .before .pre .1)
+        (c .before .before .before .before .before .before .before .before .before .before .before .before .before .before .before .before .before .before .before .before .before .before .before .before .before .before .before .before .before .before .before .before .before .before .before .before .before .before .before .before .before .before .before .before .before .before .before .before .pre .1)
         (front-is s
-        (c .before .before .before .before .before .before .before .before .before .before .before .before .before .before .before .before .before .before .before .before .before .before .before .before .before .before .before .before .before .before .before .before .first-column .ensures)
-        (c .before .before .before .before .before .before .before .before .before .before .before .before .before .before .before .before .before .before .before .before .before .before .before .before .before .before .before .before .before .before .before .first-history .ensures)
-        (c .before .before .before .before .before .before .before .before .before .before .before .before .before .before .before .before .before .before .before .before .before .before .before .before .before .before .before .before .before .before .next-place .ensures)
-        (c .before .before .before .before .before .before .before .before .before .before .before .before .before .before .before .before .before .before .before .before .before .before .before .before .before .before .before .before .before .comment-of .ensures))
-        (c .before .before .before .before .before .before .before .before .before .before .before .before .before .before .before .before .before .before .before .before .before .before .before .before .before .before .before .write-front .ensures .1)
+        (c .before .before .before .before .before .before .before .before .before .before .before .before .before .before .before .before .before .before .before .before .before .before .before .before .before .before .before .before .before .before .before .before .before .before .before .before .before .before .first-column .ensures)
+        (c .before .before .before .before .before .before .before .before .before .before .before .before .before .before .before .before .before .before .before .before .before .before .before .before .before .before .before .before .before .before .before .before .before .before .before .before .before .first-history .ensures)
+        (c .before .before .before .before .before .before .before .before .before .before .before .before .before .before .before .before .before .before .before .before .before .before .before .before .before .before .before .before .before .before .before .before .before .before .before .before .next-place .ensures)
+        (c .before .before .before .before .before .before .before .before .before .before .before .before .before .before .before .before .before .before .before .before .before .before .before .before .before .before .before .before .before .before .before .before .before .before .before .comment-of .ensures))
+        (c .before .before .before .before .before .before .before .before .before .before .before .before .before .before .before .before .before .before .before .before .before .before .before .before .before .before .before .before .before .before .before .before .before .write-front .ensures .1)
         in
     let b2 = history-done s _ b1
-        (c .before .before .before .before .before .before .before .before .before .before .before .before .before .before .before .before .before .before .before .before .before .before .before .write-copies .ensures)
+        (c .before .before .before .before .before .before .before .before .before .before .before .before .before .before .before .before .before .before .before .before .before .before .before .before .before .before .before .before .before .write-copies .ensures)
         in
     let b3 = new-done s _ b2
-        (c .before .before .before .before .before .before .before .before .before .before .before .before .before .before .before .before .before .before .before .write-history .ensures)
+        (c .before .before .before .before .before .before .before .before .before .before .before .before .before .before .before .before .before .before .before .before .before .before .before .before .before .write-history .ensures)
         in
     let b4 = columns-done s _ b3
-        (c .before .before .before .before .before .before .before .before .before .before .before .before .before .before .before .write-copies2 .ensures)
+        (c .before .before .before .before .before .before .before .before .before .before .before .before .before .before .before .before .before .before .before .before .before .write-copies2 .ensures)
         in
     let b5 = structure-done s _ b4
-        (c .before .before .before .before .before .before .before .before .before .before .before .write-structure .ensures) in
-    let b6 = data-done s _ b5 (c .before .before .before .before .before .before .before .write-data .ensures) in
+        (c .before .before .before .before .before .before .before .before .before .before .before .before .before .before .before .before .before .write-structure .ensures) in
+    let b6 = data-done s _ (c .before .before .before .before .before .before .before .before .before .before .before .before .before .first-fragments .ensures) b5 (c .before .before .before .before .before .before .before .before .before .write-data .ensures) in
     let b7 = attached-done s b6 (c .before .before .before .write-attachments .ensures) in
     end-room s b7
 
 -- src/file.rt:54:1
 same-length : tie.Need-same-length
 same-length c =
-    let s = c .before .before .before .before .before .before .before .before .before .before .before .before .before .before .before .before .before .before .before .before .before .before .before .before .before .before .before .before .before .before .before .before .before .before .before .before .before .before .before .before .before .before .before .before .before .pre .0
+    let s = c .before .before .before .before .before .before .before .before .before .before .before .before .before .before .before .before .before .before .before .before .before .before .before .before .before .before .before .before .before .before .before .before .before .before .before .before .before .before .before .before .before .before .before .before .before .before .before .before .before .before .before .pre .0
         in
     let b1 = front-done s
-        (c .before .before .before .before .before .before .before .before .before .before .before .before .before .before .before .before .before .before .before .before .before .before .before .before .before .before .before .before .before .before .before .before .before .before .before .before .before .before .before .before .before .before .before .before .before .pre .1)
+        (c .before .before .before .before .before .before .before .before .before .before .before .before .before .before .before .before .before .before .before .before .before .before .before .before .before .before .before .before .before .before .before .before .before .before .before .before .before .before .before .before .before .before .before .before .before .before .before .before .before .before .before .pre .1)
         (front-is s
-        (c .before .before .before .before .before .before .before .before .before .before .before .before .before .before .before .before .before .before .before .before .before .before .before .before .before .before .before .before .before .before .before .before .before .before .before .first-column .ensures)
-        (c .before .before .before .before .before .before .before .before .before .before .before .before .before .before .before .before .before .before .before .before .before .before .before .before .before .before .before .before .before .before .before .before .before .before .first-history .ensures)
-        (c .before .before .before .before .before .before .before .before .before .before .before .before .before .before .before .before .before .before .before .before .before .before .before .before .before .before .before .before .before .before .before .before .before .next-place .ensures)
-        (c .before .before .before .before .before .before .before .before .before .before .before .before .before .before .before .before .before .before .before .before .before .before .before .before .before .before .before .before .before .before .before .before .comment-of .ensures))
-        (c .before .before .before .before .before .before .before .before .before .before .before .before .before .before .before .before .before .before .before .before .before .before .before .before .before .before .before .before .before .before .write-front .ensures .1)
+        (c .before .before .before .before .before .before .before .before .before .before .before .before .before .before .before .before .before .before .before .before .before .before .before .before .before .before .before .before .before .before .before .before .before .before .before .before .before .before .before .before .before .first-column .ensures)
+        (c .before .before .before .before .before .before .before .before .before .before .before .before .before .before .before .before .before .before .before .before .before .before .before .before .before .before .before .before .before .before .before .before .before .before .before .before .before .before .before .before .first-history .ensures)
+        (c .before .before .before .before .before .before .before .before .before .before .before .before .before .before .before .before .before .before .before .before .before .before .before .before .before .before .before .before .before .before .before .before .before .before .before .before .before .before .before .next-place .ensures)
+        (c .before .before .before .before .before .before .before .before .before .before .before .before .before .before .before .before .before .before .before .before .before .before .before .before .before .before .before .before .before .before .before .before .before .before .before .before .before .before .comment-of .ensures))
+        (c .before .before .before .before .before .before .before .before .before .before .before .before .before .before .before .before .before .before .before .before .before .before .before .before .before .before .before .before .before .before .before .before .before .before .before .before .write-front .ensures .1)
         in
     let b2 = history-done s _ b1
-        (c .before .before .before .before .before .before .before .before .before .before .before .before .before .before .before .before .before .before .before .before .before .before .before .before .before .before .write-copies .ensures)
+        (c .before .before .before .before .before .before .before .before .before .before .before .before .before .before .before .before .before .before .before .before .before .before .before .before .before .before .before .before .before .before .before .before .write-copies .ensures)
         in
     let b3 = new-done s _ b2
-        (c .before .before .before .before .before .before .before .before .before .before .before .before .before .before .before .before .before .before .before .before .before .before .write-history .ensures)
+        (c .before .before .before .before .before .before .before .before .before .before .before .before .before .before .before .before .before .before .before .before .before .before .before .before .before .before .before .before .write-history .ensures)
         in
     let b4 = columns-done s _ b3
-        (c .before .before .before .before .before .before .before .before .before .before .before .before .before .before .before .before .before .before .write-copies2 .ensures)
+        (c .before .before .before .before .before .before .before .before .before .before .before .before .before .before .before .before .before .before .before .before .before .before .before .before .write-copies2 .ensures)
         in
     let b5 = structure-done s _ b4
-        (c .before .before .before .before .before .before .before .before .before .before .before .before .before .before .write-structure .ensures)
+        (c .before .before .before .before .before .before .before .before .before .before .before .before .before .before .before .before .before .before .before .before .write-structure .ensures)
         in
-    let b6 = data-done s _ b5
-        (c .before .before .before .before .before .before .before .before .before .before .write-data .ensures) in
+    let b6 = data-done s _ (c .before .before .before .before .before .before .before .before .before .before .before .before .before .before .before .before .first-fragments .ensures) b5
+        (c .before .before .before .before .before .before .before .before .before .before .before .before .write-data .ensures) in
     let b7 = attached-done s b6 (c .before .before .before .before .before .before .write-attachments .ensures) in
     file-same s _ b7 (c .before .before .gap .ensures)
+
+same-length-2 : tie.Need-same-length-2
+same-length-2 c = search needs
 
 -- src/file.rt:54:1
 returns : tie.Need-returns
 returns c =
-    let s = c .before .before .before .before .before .before .before .before .before .before .before .before .before .before .before .before .before .before .before .before .before .before .before .before .before .before .before .before .before .before .before .before .before .before .before .before .before .before .before .before .before .before .before .before .before .pre .0
+    let s = c .before .before .before .before .before .before .before .before .before .before .before .before .before .before .before .before .before .before .before .before .before .before .before .before .before .before .before .before .before .before .before .before .before .before .before .before .before .before .before .before .before .before .before .before .before .before .before .before .before .before .before .pre .0
         in
     let b1 = front-done s
-        (c .before .before .before .before .before .before .before .before .before .before .before .before .before .before .before .before .before .before .before .before .before .before .before .before .before .before .before .before .before .before .before .before .before .before .before .before .before .before .before .before .before .before .before .before .before .pre .1)
+        (c .before .before .before .before .before .before .before .before .before .before .before .before .before .before .before .before .before .before .before .before .before .before .before .before .before .before .before .before .before .before .before .before .before .before .before .before .before .before .before .before .before .before .before .before .before .before .before .before .before .before .before .pre .1)
         (front-is s
-        (c .before .before .before .before .before .before .before .before .before .before .before .before .before .before .before .before .before .before .before .before .before .before .before .before .before .before .before .before .before .before .before .before .before .before .before .first-column .ensures)
-        (c .before .before .before .before .before .before .before .before .before .before .before .before .before .before .before .before .before .before .before .before .before .before .before .before .before .before .before .before .before .before .before .before .before .before .first-history .ensures)
-        (c .before .before .before .before .before .before .before .before .before .before .before .before .before .before .before .before .before .before .before .before .before .before .before .before .before .before .before .before .before .before .before .before .before .next-place .ensures)
-        (c .before .before .before .before .before .before .before .before .before .before .before .before .before .before .before .before .before .before .before .before .before .before .before .before .before .before .before .before .before .before .before .before .comment-of .ensures))
-        (c .before .before .before .before .before .before .before .before .before .before .before .before .before .before .before .before .before .before .before .before .before .before .before .before .before .before .before .before .before .before .write-front .ensures .1)
+        (c .before .before .before .before .before .before .before .before .before .before .before .before .before .before .before .before .before .before .before .before .before .before .before .before .before .before .before .before .before .before .before .before .before .before .before .before .before .before .before .before .before .first-column .ensures)
+        (c .before .before .before .before .before .before .before .before .before .before .before .before .before .before .before .before .before .before .before .before .before .before .before .before .before .before .before .before .before .before .before .before .before .before .before .before .before .before .before .before .first-history .ensures)
+        (c .before .before .before .before .before .before .before .before .before .before .before .before .before .before .before .before .before .before .before .before .before .before .before .before .before .before .before .before .before .before .before .before .before .before .before .before .before .before .before .next-place .ensures)
+        (c .before .before .before .before .before .before .before .before .before .before .before .before .before .before .before .before .before .before .before .before .before .before .before .before .before .before .before .before .before .before .before .before .before .before .before .before .before .before .comment-of .ensures))
+        (c .before .before .before .before .before .before .before .before .before .before .before .before .before .before .before .before .before .before .before .before .before .before .before .before .before .before .before .before .before .before .before .before .before .before .before .before .write-front .ensures .1)
         in
     let b2 = history-done s _ b1
-        (c .before .before .before .before .before .before .before .before .before .before .before .before .before .before .before .before .before .before .before .before .before .before .before .before .before .before .write-copies .ensures)
+        (c .before .before .before .before .before .before .before .before .before .before .before .before .before .before .before .before .before .before .before .before .before .before .before .before .before .before .before .before .before .before .before .before .write-copies .ensures)
         in
     let b3 = new-done s _ b2
-        (c .before .before .before .before .before .before .before .before .before .before .before .before .before .before .before .before .before .before .before .before .before .before .write-history .ensures)
+        (c .before .before .before .before .before .before .before .before .before .before .before .before .before .before .before .before .before .before .before .before .before .before .before .before .before .before .before .before .write-history .ensures)
         in
     let b4 = columns-done s _ b3
-        (c .before .before .before .before .before .before .before .before .before .before .before .before .before .before .before .before .before .before .write-copies2 .ensures)
+        (c .before .before .before .before .before .before .before .before .before .before .before .before .before .before .before .before .before .before .before .before .before .before .before .before .write-copies2 .ensures)
         in
     let b5 = structure-done s _ b4
-        (c .before .before .before .before .before .before .before .before .before .before .before .before .before .before .write-structure .ensures)
+        (c .before .before .before .before .before .before .before .before .before .before .before .before .before .before .before .before .before .before .before .before .write-structure .ensures)
         in
-    let b6 = data-done s _ b5
-        (c .before .before .before .before .before .before .before .before .before .before .write-data .ensures) in
+    let b6 = data-done s _ (c .before .before .before .before .before .before .before .before .before .before .before .before .before .before .before .before .first-fragments .ensures) b5
+        (c .before .before .before .before .before .before .before .before .before .before .before .before .write-data .ensures) in
     let b7 = attached-done s b6 (c .before .before .before .before .before .before .write-attachments .ensures) in
     file-done s b7 (c .before .before .gap .ensures)
 
@@ -247,8 +256,11 @@ write-file-spec =
     write-history-requires
     write-copies-requires-2
     write-structure-requires
+    first-fragments-requires
+    slice-aggregate-write-data
     write-data-requires
     write-attachments-requires
     gap-requires
     same-length
+    same-length-2
     returns)

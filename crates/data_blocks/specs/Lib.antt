@@ -1,0 +1,10 @@
+pub mod Blocks
+pub mod Region
+pub mod RegionLaws
+pub mod Filled
+pub mod FilledLaws
+pub mod Listed
+pub mod ListedLaws
+pub mod NumberLaws
+pub mod Written
+pub mod WrittenLaws
