@@ -6,3 +6,4 @@ pub mod Lost
 pub mod Units
 pub mod Tables
 pub mod Treated
+pub mod Shared

@@ -1,4 +1,6 @@
 pub mod Payload
+pub mod Sharing
+pub mod SharingLaws
 pub mod Fill
 pub mod FillLaws
 pub mod Result
