@@ -136,7 +136,7 @@ uint64_t shared_records(struct image image)
 {
     struct block header, data_group, group;
     int left = MOST_BLOCKS;
-    uint64_t records = 0, most = image.length / 2;
+    uint64_t records = 0, most = image.length / 8;
     uint64_t dg = kind_at(image, HEADER, "HD", &header) ? link_of(image, &header, 0) : 0;
     for (; --left > 0 && kind_at(image, dg, "DG", &data_group); dg = link_of(image, &data_group, 0)) {
         uint64_t cg = data_u8(image, &data_group, 0) ? link_of(image, &data_group, 1) : 0;

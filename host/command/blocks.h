@@ -46,7 +46,8 @@ struct names names_of(struct image image, uint64_t at);
 /* Names of the next column of a result: *dg is the offset of its DG, 0 for the first one, and becomes that of the next. */
 struct names next_column_names(struct image image, uint64_t *dg);
 
-/* How many records there are in DG with ids, as cycle counts say; at most half the image's bytes, since each has an id and, to be of use, a byte. */
+/* How many records there are in DG with ids, as cycle counts say; at most an eighth of the image's bytes, so that a word for each takes no more memory than
+ * the image has. */
 uint64_t shared_records(struct image image);
 
 /* The written block of a result that holds this byte, or lies before it; false where there is none. */

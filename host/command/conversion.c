@@ -110,12 +110,12 @@ struct sitaungo_outcome measure(const struct recording *r, const struct lent *l)
     return convert_with(r, l, work[1], SITAUNGO_WORK_WORDS, NULL, 0);
 }
 
-/* A word more for each record that shares its DG with other groups: the conversion keeps there where these lie. Without them it finds the
- * same, in more time. */
+/* A word more for each record that shares its DG with other groups: the conversion keeps there where these lie, if they follow each other in no
+ * regular order. Without them it finds the same, in more time; words that it has no use for take no memory. */
 struct sitaungo_outcome convert(const struct recording *r, const struct lent *l, uint8_t *out, size_t length)
 {
     size_t words = SITAUNGO_WORK_WORDS + shared_records((struct image){r->bytes, r->length});
-    uint64_t *fragments = mmap(NULL, words * sizeof *fragments, PROT_READ | PROT_WRITE, MAP_PRIVATE | MAP_ANONYMOUS, -1, 0);
+    uint64_t *fragments = mmap(NULL, words * sizeof *fragments, PROT_READ | PROT_WRITE, MAP_PRIVATE | MAP_ANONYMOUS | MAP_NORESERVE, -1, 0);
     if (fragments == MAP_FAILED)
         return convert_with(r, l, work[1], SITAUNGO_WORK_WORDS, out, length);
     struct sitaungo_outcome outcome = convert_with(r, l, fragments, words, out, length);

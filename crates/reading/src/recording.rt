@@ -17,8 +17,8 @@ use records::group::id_size;
 use records::several::count_groups;
 ghost use mathlib.Core.Path.{_≡_};
 ghost use mathlib.Core.List.{[]};
-ghost use Prim.Native.Nat.{_≤_};
-ghost use lib.ListN.{length, take};
+ghost use Prim.Native.Nat.{_≤_, _<_};
+ghost use lib.ListN.{length, take, set};
 ghost use Rattle.fields.specs.Answer.{verdictOf};
 ghost use Rattle.mdf.specs.Chain.{isIn, fileLimits};
 ghost use Rattle.mdf.specs.Walk.{idSizeIn};
@@ -250,13 +250,24 @@ pub fn walk_file(image: &[u8], source: &mut [u64; 4096]) -> Read
     walk(true, image, source, &mut fragments)
 }
 
+// Word i zero. If it is already, it isn't stored to: memory that nobody has touched stays so.
+fn clear_at(words: &mut [u64], i: usize)
+    requires { ⌜ i < length (now words) ⌝ }
+    ensures { λ _. ⌜ now (words .exit) ≡ set (now (words .entry)) i 0 ⌝ }
+{
+    if words[i] == 0 {
+        return;
+    }
+    words[i] = 0;
+}
+
 // Every word zero.
 pub fn clear(words: &mut [u64])
     ensures { λ _. ⌜ now (words .exit) ≡ zeros (now (words .entry)) ⌝ }
 {
     let mut i: usize = 0;
     while i < words.len() {
-        words[i] = 0;
+        clear_at(words, i);
         i += 1;
     }
 }

@@ -141,7 +141,7 @@ fn shared_records(image: &[u8]) -> usize {
         }
         dg = link(image, dg, 0);
     }
-    records
+    records.min(image.len() / 8)
 }
 
 fn lend_work(more: usize) -> [Vec<u64>; 4] {
