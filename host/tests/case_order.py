@@ -1,10 +1,11 @@
 """The order of stores (document 02, request 4): the result's bytes from the first to the last, one column finished before the next."""
 import os
+import random
 import struct
 import subprocess
 
-from common import EXAMPLE, LIBRARY, ROOT, SAMPLE, cc, expect, place, test, write
-from mdf import block
+from common import EXAMPLE, LIBRARY, ROOT, SAMPLE, cc, converts, expect, place, read, run, test, write
+from mdf import block, columns_of
 
 RECORDS = 20000
 
@@ -72,12 +73,24 @@ def sorted_recording():
     return m.done([m.dg([g], b"".join(rows(50))), m.dg([h], b"".join(rows(21)))])
 
 
+WIDTHS = {1: [8, 4, 4], 2: [8, 1, 1, 1], 3: [8, 8, 3], 4: [2, 2]}
+
+
 def unsorted_recording():
     m = Recording()
-    widths = {1: [8, 4, 4], 2: [8, 1, 1, 1], 3: [8, 8, 3], 4: [2, 2]}
-    groups = [m.group(n, w, n < 4) for n, w in widths.items()]
-    turns = zip(*(rows(sum(w), n) for n, w in widths.items()))
+    groups = [m.group(n, w, n < 4) for n, w in WIDTHS.items()]
+    turns = zip(*(rows(sum(w), n) for n, w in WIDTHS.items()))
     return m.done([m.dg(groups, b"".join(x for turn in turns for x in turn), id_size=1)])
+
+
+def shuffled_recording(pieces=3):
+    """The same records; which group's is next is left to chance."""
+    m = Recording()
+    groups = [m.group(n, w, n < 4) for n, w in WIDTHS.items()]
+    turns = [n for n in WIDTHS for _ in range(RECORDS)]
+    random.Random(4).shuffle(turns)
+    left = {n: iter(rows(sum(w), n)) for n, w in WIDTHS.items()}
+    return m.done([m.dg(groups, b"".join(next(left[n]) for n in turns), id_size=1, pieces=pieces)])
 
 
 def remote_masters():
@@ -105,6 +118,26 @@ def pages_in_ascending_order():
     program = place("pages")
     cc(os.path.join(ROOT, "host", "tests", "pages.c"), LIBRARY, "-o", program)
     pages = [in_order(program, x) for x in (EXAMPLE, SAMPLE)]
-    for name, make in (("sorted", sorted_recording), ("unsorted", unsorted_recording), ("remote-masters", remote_masters)):
+    for name, make in (("sorted", sorted_recording), ("unsorted", unsorted_recording), ("shuffled", shuffled_recording), ("remote-masters", remote_masters)):
         pages.append(in_order(program, place(write(name + ".mf4", make()))))
     return "%d pages" % sum(pages)
+
+
+def due_payloads():
+    """Of each column of these groups, in order: its cells one after the other."""
+    for n, widths in WIDTHS.items():
+        for i, width in enumerate(widths):
+            first = 1 + sum(widths[:i])
+            yield b"".join(row[first : first + width] for row in rows(sum(widths), n))
+
+
+@test
+def records_in_no_order():
+    """Groups of one DG whose records follow each other in no order: what links show of the result are each group's own, in few DT and in many."""
+    due = list(due_payloads())
+    for pieces in (3, 500):
+        write("shuffled.mf4", shuffled_recording(pieces))
+        for size in (64, 4 << 20):
+            converts(run("shuffled.mf4", "columns.mf4", "--force", "--quiet", "--block-size", size))
+            expect([c.payload for c in columns_of(read("columns.mf4"))] == due, "payloads with block size", size, "and", pieces, "DT")
+    return "%d records" % (RECORDS * len(WIDTHS))

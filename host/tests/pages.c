@@ -13,7 +13,10 @@
 
 #include "sitaungo.h"
 
-static uint64_t work[4][SITAUNGO_WORK_WORDS], list[SITAUNGO_LIST_WORDS];
+/* Words for as many records in no regular order as any recording here has. */
+enum { MORE_WORDS = SITAUNGO_WORK_WORDS + 100000 };
+
+static uint64_t work[4][SITAUNGO_WORK_WORDS], fragments[MORE_WORDS], list[SITAUNGO_LIST_WORDS];
 static uint8_t ident[SITAUNGO_IDENT_BYTES] = "MDF     4.20    tests   ", *out;
 static size_t page, pages, next, faults, astray;
 
@@ -60,8 +63,8 @@ static void touched(int number, siginfo_t *told, void *context)
 
 static struct sitaungo_outcome convert(const uint8_t *image, size_t length, uint64_t size, size_t room)
 {
-    return sitaungo_convert(image, length, size, ident, sizeof ident, (const uint8_t *)"", 0, 0, work[0], SITAUNGO_WORK_WORDS, work[1],
-        SITAUNGO_WORK_WORDS, work[2], SITAUNGO_WORK_WORDS, work[3], SITAUNGO_WORK_WORDS, out, room, list, SITAUNGO_LIST_WORDS);
+    return sitaungo_convert(image, length, size, ident, sizeof ident, (const uint8_t *)"", 0, 0, work[0], SITAUNGO_WORK_WORDS, fragments,
+        MORE_WORDS, work[2], SITAUNGO_WORK_WORDS, work[3], SITAUNGO_WORK_WORDS, out, room, list, SITAUNGO_LIST_WORDS);
 }
 
 int main(int argc, char **argv)
