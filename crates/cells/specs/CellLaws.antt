@@ -5,24 +5,24 @@ use mathlib.Core.List.{List, append-nil}
 use mathlib.Core.Path.{_≡_, sym, ap, _∙_}
 use native.Mathlib.Nat.{add-zero}
 use native.Mathlib.Omega.{arith}
-use lib.ListN.{length, take, drop, getD, set, length-drop, List·getD-append}
-use lib.Seq.{take-take, take-add, drop-drop, length-take-le, getD-drop, getD-take}
+use lib.ListN.{length, take, drop, getD, set}
+use lib.Seq.{take-take, take-add, drop-drop, getD-drop, getD-take}
 use lib.Dec.{ltb, eqb}
 use borrow.Author.Tests.{ltb-true}
 use Rattle.base.specs.Blit.{part, blit}
 use Rattle.base.specs.BlitLaws.{blit-append, blit-one}
 use Rattle.base.specs.Checked.{fine}
 use Rattle.mdf.specs.Group.{invalBytes}
-use Rattle.mdf.specs.Records.{rangesIn, joined}
+use Rattle.mdf.specs.Records.{rangesIn, joined, sizeOf}
 use Rattle.plan.specs.Channel.{channelBytes, channelFlags, invalPosition, keepsInval, invalBit, width, bit, both}
 use Rattle.result.specs.Payload.{cell}
 use Rattle.puts.specs.PutLaws.{copy-more}
 use Rattle.payload_laws.specs.Lists.{length-part}
 use Rattle.payload_laws.specs.CellLaws.{both-true}
-use Rattle.cells.specs.declared.cursor.Cursor.{Cursor}
+use Rattle.joined.specs.declared.cursor.Cursor.{Cursor}
+use Rattle.joined.specs.Ahead.{ahead, past}
+use Rattle.joined.specs.AheadLaws.{drop-take, ranges-past, joined-past, size-past}
 use Rattle.cells.specs.declared.cell.Shape.{Shape}
-use Rattle.cells.specs.Ahead.{later, ahead, past, Settled}
-use Rattle.cells.specs.AheadLaws.{drop-take, ranges-here, ranges-past, ranges-settled, joined-past, joined-settled}
 use Rattle.cells.specs.Shape.{Shaped}
 
 -- ---- 1, 2, 4 and 8 bytes copied, one after the other
@@ -112,29 +112,18 @@ pub take-in : (n i m : ℕ) (l : List ℕ) → i + m ≤ n → take m (drop i l)
 unfolding part
 take-in n i m l h = sym (ap (take m) (drop-take i n l) ∙ take-take m (n - i) (drop i l) (omega arith))
 
--- the first byte of what is ahead
-pub byte-ahead : (s ws : List ℕ) (k : Cursor) → rangesIn s (ahead ws k) ≡ fine → 0 < k .left → getD s (k .position) 0 ≡ getD
-    (joined s (ahead ws k)) 0 0
-unfolding ahead joined part
-byte-ahead s ws k r h =
-    let p = ranges-here s ws k r in
-    let n : length (take (k .left) (drop (k .position) s)) ≡ k .left = length-take-le (k .left) (drop (k .position) s)
-    (simp length-drop (omega arith)) in
-    sym (List·getD-append (take (k .left) (drop (k .position) s)) (joined s (later ws (k .at))) 0 0 (omega arith)
-    ∙ getD-take (k .left) (drop (k .position) s) 0 0 h ∙ getD-drop (k .position) s 0 0 ∙ rw add-zero)
-
--- byte i of what is ahead, at the first fragment with bytes past i of them
-pub byte-settled : (s ws : List ℕ) (k a b : Cursor) (i : ℕ) → rangesIn s (ahead ws k) ≡ fine → ahead ws a ≡ past i (ahead ws k) → Settled
-    ws a b
-    → (b .position < length s) × (getD s (b .position) 0 ≡ getD (joined s (ahead ws k)) i 0)
-byte-settled s ws k a b i r e t =
-    let ra : rangesIn s (ahead ws a) ≡ fine = rw e (ranges-past s i (ahead ws k) r) in
-    let rb : rangesIn s (ahead ws b) ≡ fine = rw (t .is) (ranges-settled s (ahead ws a) ra) in
-    let j : joined s (ahead ws b) ≡ drop i (joined s (ahead ws k)) = ap (joined s) (t .is) ∙ joined-settled s (ahead ws a) ∙ ap (joined s)
-    e ∙ joined-past s i (ahead ws k) r in
-    let h = ranges-here s ws b rb in
-    let z = t .some in (
-      omega arith,
-      byte-ahead s ws b rb (t .some) ∙ ap (λ (l : List ℕ). getD l 0 0) j ∙ getD-drop i (joined s (ahead ws k)) 0 0 ∙
-          rw add-zero,
-    )
+-- its bytes, copied from past those before them
+pub bytes-joined : {s : List ℕ} {h : Shape} (w : Shaped s h) (ws : List ℕ) (k a : Cursor) (to : ℕ) (out : List ℕ) {last : List ℕ}
+    → rangesIn s (ahead ws k) ≡ fine → h .length ≤ sizeOf (ahead ws k) → to + h .width ≤ length out
+    → ahead ws a ≡ past (h .first) (ahead ws k)
+    → (rangesIn s (ahead ws a) ≡ fine → h .bytes ≤ sizeOf (ahead ws a) → to + h .bytes ≤ length out
+    → last ≡ blit to (take (h .bytes) (joined s (ahead ws a))) out)
+    → last ≡ blit to (part (h .first) (h .bytes) (take (h .length) (joined s (ahead ws k)))) out
+bytes-joined {s} {h} w ws k a to out r l m e copied =
+    let fs = ahead ws k in
+    let f = w .fit in
+    let n = size-past (h .first) fs (omega arith) in
+    let b = room-bytes w in
+    let v = w .wide in
+    copied (rw e (ranges-past s (h .first) fs r)) (rw e (omega arith)) (omega arith)
+    ∙ rw (e, joined-past s (h .first) fs r, take-in (h .length) (h .first) (h .bytes) (joined s fs) (w .fit))

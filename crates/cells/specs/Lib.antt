@@ -1,7 +1,6 @@
-pub mod Ahead
-pub mod AheadLaws
 pub mod Shape
 pub mod CellLaws
+pub mod ShapeLaws
 pub mod Strided
 pub mod StridedLaws
 pub mod Spot

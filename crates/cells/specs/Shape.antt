@@ -1,6 +1,6 @@
 -- A channel in the records of its group.
 use Prim.Native.Nat.{ℕ, _+_, _/_, _%_, _≤_, _<_}
-use mathlib.Core.Bool.{true}
+use mathlib.Core.Bool.{true, false}
 use mathlib.Core.List.{List}
 use mathlib.Core.Path.{_≡_}
 use Rattle.mdf.specs.Group.{samples, invalBytes}
@@ -19,6 +19,15 @@ pub record Shaped (s : List ℕ) (h : Shape) : Type 0 where
   pub short : h .length < 8589934592
   pub wide : h .width ≡ width s (h .group) (h .channel)
   pub fitting : fits s (h .group) (h .channel) ≡ true
+
+-- its numbers agree, whatever the image is: the bytes and a kept bit lie in the record, and the width is theirs
+pub record Sound (h : Shape) : Type 0 where
+  pub fit : h .first + h .bytes ≤ h .length
+  pub short : h .length < 8589934592
+  pub bit : h .bit < 8
+  pub kept : h .keep ≡ true → h .inval < h .length
+  pub wide : h .keep ≡ true → h .width ≡ h .bytes + 1
+  pub bare : h .keep ≡ false → h .width ≡ h .bytes
 
 pub record ShapeOf (s : List ℕ) (g c : ℕ) (h : Shape) : Type 0 where
   pub shaped : Shaped s h

@@ -1,66 +1,35 @@
--- Laws of places in joined data, and of records at equal distances from one on.
+-- Laws of records at equal distances from a place in joined data on.
 use Prim.Native.Nat.{ℕ, zero, suc, _+_, _*_, _-_, _/_, _≤_, _<_}
+use mathlib.Core.Bool.{true, false, false≢true}
 use mathlib.Core.List.{List, _∷_, _++_, append-nil}
 use mathlib.Core.Path.{_≡_, refl, sym, ap, _∙_}
-use native.Mathlib.Nat.{zero-mul, suc-mul, add-mul, mul-le-mul-right, div-mul-le-self}
+use native.Mathlib.Nat.{zero-mul, mul-zero, suc-mul, add-mul, mul-le-mul-right, div-mul-le-self, div-lt-iff-lt-mul}
 use native.Mathlib.Numerals.{sub-one}
 use native.Mathlib.Omega.{arith}
-use lib.ListN.{length, take, drop, length-append, length-drop}
+use lib.ListN.{length, take, drop, length-append}
 use lib.Seq.{drop-drop}
 use Rattle.base.specs.Blit.{part, blit}
-use Rattle.base.specs.BlitLaws.{length-blit, blit-append}
+use Rattle.base.specs.BlitLaws.{blit-append}
 use Rattle.base.specs.Checked.{fine}
-use Rattle.mdf.specs.Chain.{Fragment}
-use Rattle.mdf.specs.Records.{rangesIn, joined, sizeOf}
+use Rattle.mdf.specs.Records.{most64, rangesIn, joined, sizeOf}
 use Rattle.work_words.specs.Words.{fragmentsOf}
 use Rattle.result.specs.Payload.{cell, cells}
 use Rattle.payload_laws.specs.SortedLaws.{joined-length}
 use Rattle.payload_laws.specs.CellLaws.{cells-append}
 use Rattle.places.specs.Stretch.{recordsAt, spaced}
 use Rattle.places.specs.StretchLaws.{spaced-add, recordsAt-append}
+use Rattle.joined.specs.declared.cursor.Cursor.{Cursor}
+use Rattle.joined.specs.declared.spot.Spot.{Spot}
+use Rattle.joined.specs.Ahead.{ahead}
+use Rattle.joined.specs.AheadLaws.{take-here, drop-take}
+use Rattle.joined.specs.Spot.{SpotOf}
+use Rattle.joined.specs.SpotLaws.{spot-size}
 use Rattle.cells.specs.declared.cell.Shape.{Shape}
-use Rattle.cells.specs.declared.cursor.Cursor.{Cursor}
-use Rattle.cells.specs.declared.spot.Spot.{Spot}
-use Rattle.cells.specs.Ahead.{later, ahead, past, settled, Settled}
-use Rattle.cells.specs.AheadLaws.{ranges-cons, ranges-past, ranges-settled, joined-zero, joined-past, joined-settled, size-past, take-here, drop-take}
 use Rattle.cells.specs.Shape.{Shaped}
 use Rattle.cells.specs.Strided.{Lying}
+use Rattle.cells.specs.ShapeLaws.{shaped-sound}
 use Rattle.cells.specs.StridedLaws.{mul-less, cell-wide}
-use Rattle.cells.specs.Spot.{front, SpotOf, Readable, RunOf}
-
--- ---- the place before all bytes
-pub spot-front : (s ws : List ℕ) → rangesIn s (fragmentsOf ws) ≡ fine → SpotOf s ws front
-unfolding ahead later
-spot-front s ws r =
-    record {
-      ranges = ranges-cons s _ (fragmentsOf ws) (omega arith) r;
-      rest = joined-zero s _ (fragmentsOf ws) refl;
-      within = omega arith;
-    }
-
--- ---- the bytes ahead of a place
-module _ {s ws : List ℕ} {p : Spot} (t : SpotOf s ws p) (r : rangesIn s (fragmentsOf ws) ≡ fine) where
-  pub spot-size : sizeOf (ahead ws (p .cursor)) ≡ sizeOf (fragmentsOf ws) - p .offset
-  spot-size =
-      sym (joined-length s (ahead ws (p .cursor)) (t .ranges)) ∙ ap length (t .rest) ∙ length-drop (p .offset) (joined s (fragmentsOf ws))
-      ∙ ap (λ (n : ℕ). n - p .offset) (joined-length s (fragmentsOf ws) r)
-
-  -- past m of them there are more
-  pub spot-more : (m : ℕ) → p .offset + m < sizeOf (fragmentsOf ws) → 0 < sizeOf (past m (ahead ws (p .cursor)))
-  spot-more m l = let e = spot-size in omega (arith, size-past m (ahead ws (p .cursor)) (omega arith))
-
-  -- so many bytes further on
-  pub spot-on : (m : ℕ) {a b : Cursor} {offset : ℕ} → ahead ws a ≡ past m (ahead ws (p .cursor)) → Settled ws a b → offset ≡ p .offset + m
-      → offset ≤ sizeOf (fragmentsOf ws) → SpotOf s ws (record { cursor = b; offset = offset })
-  spot-on m {a} {b} {offset} e f o l =
-      let fs : List Fragment = ahead ws (p .cursor) in
-      let x : ahead ws b ≡ settled (past m fs) = f .is ∙ ap settled e in
-      record {
-        ranges = rw x (ranges-settled s (past m fs) (ranges-past s m fs (t .ranges)));
-        rest = ap (joined s) x ∙ joined-settled s (past m fs) ∙ joined-past s m fs (t .ranges) ∙ ap (drop m) (t .rest)
-            ∙ drop-drop m (p .offset) (joined s (fragmentsOf ws)) ∙ ap (λ (n : ℕ). drop n (joined s (fragmentsOf ws))) (sym o);
-        within = l;
-      }
+use Rattle.cells.specs.Spot.{Readable, RunOf, Roomy}
 
 -- ---- a run of records
 pub run-one : (room n : ℕ) {stride : ℕ} → 0 < n → stride ≡ 0 → RunOf room stride n 1
@@ -75,6 +44,42 @@ pub run-most : (room stride n : ℕ) → room / stride < n → RunOf room stride
 run-most room stride n l =
     let e : room / stride + 1 - 1 ≡ room / stride = omega arith in
     record { some = omega arith; few = omega arith; within = rw e (div-mul-le-self room stride) }
+
+-- ---- an answer to a question
+pub answer-yes : {A : Type 0} → A → (true ≡ true → A) × (A → true ≡ true)
+answer-yes x = (λ e. x, λ y. refl)
+
+pub answer-no : {A : Type 0} → (A → ⊥) → (false ≡ true → A) × (A → false ≡ true)
+answer-no n = (λ e. absurd (false≢true e), λ x. absurd (n x))
+
+-- ---- products
+pub product-small : (n w most : ℕ) → w ≡ 0 → n * w ≤ most
+product-small n w most e = rw (e, mul-zero) (omega arith)
+
+pub product-below : (n w most : ℕ) → n ≤ most / w → n * w ≤ most
+product-below n w most l =
+    let a : n * w ≤ most / w * w = mul-le-mul-right w l in
+    omega (arith, div-mul-le-self most w)
+
+pub product-over : (n w most : ℕ) → 0 < w → most / w < n → n * w ≤ most → ⊥
+product-over n w most z l h = omega (arith, div-lt-iff-lt-mul {k = w} {x = most} {y = n} z .0 l)
+
+mul-apart : {n : ℕ} (m l w : ℕ) → n ≡ m + l → n * w ≡ m * w + l * w
+mul-apart m l w e = ap (λ (x : ℕ). x * w) e ∙ add-mul m l w
+
+-- ---- the numbers past m of the records
+pub roomy-next : {h : Shape} {size to at stride left : ℕ} → Roomy h size to at stride left → (m : ℕ) → m < left
+    → Roomy h size (to + m * h .width) (at + m * stride) stride (left - m)
+roomy-next {h} {size} {to} {at} {stride} {left} t m l =
+    let a : (left - 1) * stride ≡ m * stride + (left - m - 1) * stride = mul-apart m (left - m - 1) stride (omega arith) in
+    let b : left * h .width ≡ m * h .width + (left - m) * h .width = mul-apart m (left - m) (h .width) (omega arith) in
+    record { sound = t .sound; some = omega arith; room = omega (arith, t .room); last = omega (arith, t .last) }
+
+-- those of records that lie in readable data
+pub readable-roomy : {s ws : List ℕ} {h : Shape} {size to first stride n : ℕ} → Readable s ws h
+    → Lying (sizeOf (fragmentsOf ws)) (h .length) first stride n → to + n * h .width ≤ size → Roomy h size to first stride n
+readable-roomy w y r =
+    record { sound = shaped-sound (w .shaped); some = y .some; room = r; last = omega (arith, y .within, w .small) }
 
 -- ---- records of bytes past some
 pub part-drop : (o p n : ℕ) (l : List ℕ) → part p n (drop o l) ≡ part (o + p) n l
@@ -150,14 +155,13 @@ some-run s ws k h stride m to out r l e =
 pub record Stretching (s ws : List ℕ) (h : Shape) (stride at to left : ℕ) (k : Spot) (out g : List ℕ) : Type 0 where
   pub lying : Lying (sizeOf (fragmentsOf ws)) (h .length) at stride left
   pub spot : SpotOf s ws k
-  pub room : to + left * h .width ≤ length out
   pub bytes : blit to (cells s (h .group) (h .channel) (recordsAt (joined s (fragmentsOf ws)) (h .length) (spaced at stride left))) out ≡ g
 
-pub lying-first : {size bytes first stride n : ℕ} → Lying size bytes first stride n → 0 < bytes → first < size
+lying-first : {size bytes first stride n : ℕ} → Lying size bytes first stride n → 0 < bytes → first < size
 lying-first y h = omega (arith, y .within)
 
 -- from the place on they lie in what is ahead
-pub lying-ahead : {s ws : List ℕ} {k : Spot} {bytes at stride n : ℕ} → SpotOf s ws k → rangesIn s (fragmentsOf ws) ≡ fine → k .offset ≡ at
+lying-ahead : {s ws : List ℕ} {k : Spot} {bytes at stride n : ℕ} → SpotOf s ws k → rangesIn s (fragmentsOf ws) ≡ fine → k .offset ≡ at
     → Lying (sizeOf (fragmentsOf ws)) bytes at stride n → Lying (sizeOf (ahead ws (k .cursor))) bytes 0 stride n
 lying-ahead t r e y = record { some = y .some; within = omega (arith, spot-size t r, y .within) }
 
@@ -171,38 +175,34 @@ some-of {s} {ws} {k} h stride m to out {at} t e f =
 
 module _ {s ws : List ℕ} {h : Shape} {stride at to left : ℕ} {k₀ : Spot} {out g : List ℕ} (t : Stretching s ws h stride at to left k₀ out g)
     (w : Readable s ws h) where
-  -- fewer than all: those that follow begin in the data, and have room
-  pub stretching-next : (m : ℕ) → m < left → (at + m * stride + h .length ≤ sizeOf (fragmentsOf ws)) × (to + m * h .width ≤ length out)
-  stretching-next m l =
-      let a : m * stride ≤ (left - 1) * stride = mul-le-mul-right stride (omega arith) in
-      let b : m * h .width ≤ left * h .width = mul-le-mul-right (h .width) (omega arith) in
-      (omega (arith, t .lying .within), omega (arith, t .room))
-
   stretching-first : (m : ℕ) → m ≤ left → at + (m - 1) * stride + h .length ≤ length (joined s (fragmentsOf ws))
   stretching-first m l =
       let a : (m - 1) * stride ≤ (left - 1) * stride = mul-le-mul-right stride (omega arith) in
       omega (arith, t .lying .within, joined-length s (fragmentsOf ws) (w .ranges))
 
+  -- the place of the first that is left is reached, and m from there on are put
+  pub stretching-some : (m : ℕ) {k : Spot} {last : List ℕ} → length s ≤ most64
+      → ((z : List ℕ) → length z ≤ most64 → SpotOf z ws k₀ → rangesIn z (fragmentsOf ws) ≡ fine → at < sizeOf (fragmentsOf ws)
+      → SpotOf z ws k × (k .offset ≡ at))
+      → (Shaped s h → rangesIn s (ahead ws (k .cursor)) ≡ fine → Lying (sizeOf (ahead ws (k .cursor))) (h .length) 0 stride left
+      → last ≡ blit to (cells s (h .group) (h .channel) (recordsAt (joined s (ahead ws (k .cursor))) (h .length) (spaced 0 stride m))) out)
+      → SpotOf s ws k
+      × (last ≡ blit to (cells s (h .group) (h .channel) (recordsAt (joined s (fragmentsOf ws)) (h .length) (spaced at stride m))) out)
+  stretching-some m l reached put =
+      let r = reached s l (t .spot) (w .ranges) (lying-first (t .lying) (w .some)) in
+      (r .0, some-of h stride m to out (r .0) (r .1) (put (w .shaped) (r .0 .ranges) (lying-ahead (r .0) (w .ranges) (r .1) (t .lying))))
+
   pub stretching-turn : (m : ℕ) {k : Spot} {last : List ℕ} → SpotOf s ws k → m < left
       → last ≡ blit to (cells s (h .group) (h .channel) (recordsAt (joined s (fragmentsOf ws)) (h .length) (spaced at stride m))) out
       → Stretching s ws h stride (at + m * stride) (to + m * h .width) (left - m) k last g
   stretching-turn m {k} {last} p l e =
-      let o : length last ≡ length out = ap length e ∙ length-blit to _ out in
-      let a : (left - 1) * stride ≡ m * stride + (left - m - 1) * stride = ap (λ (x : ℕ). x * stride) (split-one l) ∙ add-mul m (left - m - 1) stride in
-      let b : left * h .width ≡ m * h .width + (left - m) * h .width = ap (λ (x : ℕ). x * h .width) (split-all l) ∙ add-mul m (left - m) (h .width) in
+      let a : (left - 1) * stride ≡ m * stride + (left - m - 1) * stride = mul-apart m (left - m - 1) stride (omega arith) in
       record {
         lying = record { some = omega arith; within = omega (arith, t .lying .within) };
         spot = p;
-        room = omega (arith, t .room);
         bytes = rw e (sym (cells-split (joined s (fragmentsOf ws)) at stride m left to out (w .shaped) (stretching-first m (omega arith)) (omega arith))
             ∙ t .bytes);
       }
-    where
-      split-one : m < left → left - 1 ≡ m + (left - m - 1)
-      split-one l = omega arith
-
-      split-all : m < left → left ≡ m + (left - m)
-      split-all l = omega arith
 
   pub stretching-end : (m : ℕ) {last : List ℕ} → m ≡ left
       → last ≡ blit to (cells s (h .group) (h .channel) (recordsAt (joined s (fragmentsOf ws)) (h .length) (spaced at stride m))) out → last ≡ g

@@ -1,13 +1,13 @@
 -- Laws of the cells of records at equal distances.
 use Prim.Native.Nat.{ℕ, zero, suc, _+_, _*_, _-_, _≤_, _<_}
 use mathlib.Core.List.{List, _∷_}
-use mathlib.Core.Path.{_≡_, refl, sym, ap, _∙_}
+use mathlib.Core.Path.{_≡_, refl, sym, _∙_}
 use native.Mathlib.Nat.{suc-mul}
 use native.Mathlib.Numerals.{sub-one}
 use native.Mathlib.Omega.{arith}
 use lib.ListN.{length}
 use Rattle.base.specs.Blit.{part, blit}
-use Rattle.base.specs.BlitLaws.{length-blit, blit-append, length-part}
+use Rattle.base.specs.BlitLaws.{blit-append, length-part}
 use Rattle.result.specs.Payload.{cell, cells}
 use Rattle.payload_laws.specs.CellLaws.{length-cell}
 use Rattle.places.specs.Stretch.{recordsAt, spaced}
@@ -39,7 +39,7 @@ cell-wide {s} {h} l at w r =
 pub record Striding (s : List ℕ) (h : Shape) (stride at to left : ℕ) (out g : List ℕ) : Type 0 where
   pub inside : at + left * stride + h .length ≤ length s
   pub room : to + h .width + left * h .width ≤ length out
-  pub bytes : blit (to + h .width) (cells s (h .group) (h .channel) (recordsAt s (h .length) (spaced (at + stride) stride left))) out ≡ g
+  pub bytes : Shaped s h → blit (to + h .width) (cells s (h .group) (h .channel) (recordsAt s (h .length) (spaced (at + stride) stride left))) out ≡ g
 
 -- the bytes of all but the first
 abbrev pub others : List ℕ → Shape → ℕ → ℕ → ℕ → List ℕ
@@ -49,7 +49,7 @@ pub striding-begin : {s : List ℕ} {h : Shape} {from stride n : ℕ} (to : ℕ)
     → to + n * h .width ≤ length out → Striding s h stride from to (n - 1) out (blit (to + h .width) (others s h from stride n) out)
 striding-begin {s} {h} {from} {stride} {n} to out y r =
     let z = y .within in
-    record { inside = omega arith; room = omega (arith, mul-less n (h .width) (y .some)); bytes = refl }
+    record { inside = omega arith; room = omega (arith, mul-less n (h .width) (y .some)); bytes = λ w. refl }
 
 -- the first cell, then the others
 pub striding-all : {s : List ℕ} {h : Shape} {from stride n : ℕ} (to : ℕ) (out : List ℕ) {first last : List ℕ} → Shaped s h
@@ -69,22 +69,21 @@ module _ {s : List ℕ} {h : Shape} {stride at to left : ℕ} {out g : List ℕ}
       let b = t .room in
       (omega (arith, mul-less left stride l), omega (arith, mul-less left (h .width) l))
 
-  pub striding-turn : Shaped s h → 0 < left → {last : List ℕ}
-      → last ≡ blit (to + h .width) (cell s (h .group) (h .channel) (part (at + stride) (h .length) s)) out
+  pub striding-turn : 0 < left → {last : List ℕ} → length last ≡ length out
+      → (Shaped s h → last ≡ blit (to + h .width) (cell s (h .group) (h .channel) (part (at + stride) (h .length) s)) out)
       → Striding s h stride (at + stride) (to + h .width) (left - 1) last g
   unfolding cells recordsAt
-  striding-turn w l {last} e =
-      let x : List ℕ = cell s (h .group) (h .channel) (part (at + stride) (h .length) s) in
-      let m = cell-wide s (at + stride) w (striding-room l .0) in
-      let o : length last ≡ length out = ap length e ∙ length-blit (to + h .width) x out in
+  striding-turn l {last} o e =
       let a = t .inside in
       let b = t .room in
       record {
         inside = omega (arith, mul-less left stride l);
         room = omega (arith, mul-less left (h .width) l);
-        bytes = rw e (rw (spaced-first (at + stride) stride left l, blit-append, m) at (t .bytes));
+        bytes = λ w.
+            let m = cell-wide s (at + stride) w (striding-room l .0) in
+            rw (e w) (rw (spaced-first (at + stride) stride left l, blit-append, m) at (t .bytes w));
       }
 
-  pub striding-end : left ≡ 0 → out ≡ g
+  pub striding-end : left ≡ 0 → Shaped s h → out ≡ g
   unfolding cells recordsAt spaced blit
-  striding-end e = rw e at (t .bytes)
+  striding-end e w = rw e at (t .bytes w)

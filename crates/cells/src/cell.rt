@@ -1,8 +1,4 @@
 // The cell of a record: the bytes of a channel, and its invalidation bit as one byte, if that is kept.
-use crate::cursor::Cursor;
-use crate::cursor::copy_joined;
-use crate::cursor::settle;
-use crate::cursor::skip;
 use channels::byte_offset;
 use channels::channel_bytes;
 use channels::inval_bytes_of;
@@ -10,18 +6,22 @@ use channels::inval_position;
 use channels::keeps_inval;
 use channels::samples_of;
 use channels::width_of;
+use joined::cursor::Cursor;
+use joined::cursor::byte_at;
+use joined::cursor::copy_joined;
+use joined::cursor::skip;
 use puts::copy;
 ghost use mathlib.Core.Path.{_≡_};
-ghost use mathlib.Core.Bool.{true};
-ghost use Prim.Native.Nat.{_+_, _≤_, _<_};
-ghost use lib.ListN.{length, getD, take};
+ghost use mathlib.Core.Bool.{true, false};
+ghost use Prim.Native.Nat.{_+_, _≤_};
+ghost use lib.ListN.{length, take};
 ghost use Rattle.base.specs.Blit.{part, blit};
 ghost use Rattle.base.specs.Checked.{fine};
 ghost use Rattle.mdf.specs.Records.{rangesIn, joined, sizeOf};
-ghost use Rattle.plan.specs.Channel.{fits, width};
+ghost use Rattle.plan.specs.Channel.{fits};
 ghost use Rattle.result.specs.Payload.{cell};
-ghost use Rattle.cells.specs.Ahead.{ahead};
-ghost use Rattle.cells.specs.Shape.{Shaped, ShapeOf};
+ghost use Rattle.joined.specs.Ahead.{ahead};
+ghost use Rattle.cells.specs.Shape.{Shaped, Sound, ShapeOf};
 
 // A channel in the records of its group: where its bytes begin, how many there are, the record's length without its id, whether the
 // invalidation bit is kept, and where it is: its byte and its bit in that; the column's width.
@@ -60,6 +60,31 @@ pub fn shape_of(image: &[u8], g: u64, c: u64) -> Shape
         bit,
         width,
     }
+}
+
+// Whether the numbers of a shape agree.
+pub(crate) fn is_sound(h: Shape) -> bool
+    ensures { λ r. ⌜ (r ≡ true → Sound h) × (r ≡ false → Sound h → ⊥) ⌝ }
+{
+    if h.length < h.first {
+        return false;
+    }
+    if h.length - h.first < h.bytes {
+        return false;
+    }
+    if 8589934591 < h.length {
+        return false;
+    }
+    if 7 < h.bit {
+        return false;
+    }
+    if h.keep {
+        if h.length <= h.inval {
+            return false;
+        }
+        return h.width == h.bytes + 1;
+    }
+    h.width == h.bytes
 }
 
 // A byte of s at index from, at index at.
@@ -221,10 +246,10 @@ pub(crate) fn cell_here(
     w: usize,
     keep: bool,
 )
-    requires { ⌜ Shaped (now image) h × (q + h .length ≤ length (now image)) × (to + h .width ≤ length (now out))
+    requires { ⌜ Sound h × (q + h .length ≤ length (now image)) × (to + h .width ≤ length (now out))
         × (h .bytes ≡ w) × (h .keep ≡ keep) ⌝ }
-    ensures { λ _. ⌜ now (out .exit) ≡ blit to
-        (cell (now (image .entry)) (h .group) (h .channel) (part q (h .length) (now (image .entry)))) (now (out .entry)) ⌝ }
+    ensures { λ _. ⌜ (Shaped (now (image .entry)) h → now (out .exit) ≡ blit to
+        (cell (now (image .entry)) (h .group) (h .channel) (part q (h .length) (now (image .entry)))) (now (out .entry))) ⌝ }
 {
     copy_within(out, to, image, q + h.first as usize, w);
     if keep {
@@ -233,17 +258,7 @@ pub(crate) fn cell_here(
     }
 }
 
-// Byte i from the cursor on.
-pub(crate) fn byte_at(image: &[u8], fragments: &[u64], k: Cursor, i: u64) -> u8
-    requires { ⌜ (rangesIn (now image) (ahead (now fragments) k) ≡ fine) × (i < sizeOf (ahead (now fragments) k)) ⌝ }
-    ensures { λ r. ⌜ r ≡ getD (joined (now (image .entry)) (ahead (now (fragments .entry)) k)) i 0 ⌝ }
-{
-    let b = settle(fragments, skip(image, fragments, k, i));
-    let p = b.position as usize;
-    image[p]
-}
-
-// Of a record that begins at the cursor, in several fragments.
+// Of a record that begins at the cursor, in several fragments, if it lies in them and they lie in the image.
 pub(crate) fn cell_joined(
     out: &mut [u8],
     to: usize,
@@ -252,15 +267,14 @@ pub(crate) fn cell_joined(
     k: Cursor,
     h: Shape,
 )
-    requires { ⌜ Shaped (now image) h × (rangesIn (now image) (ahead (now fragments) k) ≡ fine) ×
-        (h .length ≤ sizeOf (ahead (now fragments) k))
-        × (to + width (now image) (h .group) (h .channel) ≤ length (now out)) ⌝ }
-    ensures { λ _. ⌜ now (out .exit) ≡ blit to
-        (cell (now (image .entry)) (h .group) (h .channel)
-        (take (h .length) (joined (now (image .entry)) (ahead (now (fragments .entry)) k)))) (now (out .entry)) ⌝ }
+    requires { ⌜ Sound h × (to + h .width ≤ length (now out)) ⌝ }
+    ensures { λ _. ⌜ (Shaped (now (image .entry)) h → rangesIn (now (image .entry)) (ahead (now (fragments .entry)) k) ≡ fine
+        → h .length ≤ sizeOf (ahead (now (fragments .entry)) k)
+        → now (out .exit) ≡ blit to (cell (now (image .entry)) (h .group) (h .channel)
+        (take (h .length) (joined (now (image .entry)) (ahead (now (fragments .entry)) k)))) (now (out .entry))) ⌝ }
 {
     let w = h.bytes;
-    let a = skip(image, fragments, k, h.first);
+    let a = skip(fragments, k, h.first);
     copy_joined(out, to, image, fragments, a, w);
     if h.keep {
         let x = byte_at(image, fragments, k, h.inval);

@@ -2,19 +2,20 @@
 use crate::cell::Shape;
 use crate::cell::cell_here;
 use crate::cell::cell_joined;
-use crate::spot::Spot;
-use crate::spot::reach;
+use crate::cell::is_sound;
+use joined::cursor::Cursor;
+use joined::spot::Spot;
+use joined::spot::reach;
+ghost use mathlib.Core.Bool.{true, false};
 ghost use mathlib.Core.Path.{_≡_};
 ghost use Prim.Native.Nat.{_+_, _*_, _≤_, _<_};
 ghost use lib.ListN.{length, getD};
-ghost use Rattle.base.specs.Blit.{part, blit};
-ghost use Rattle.mdf.specs.Records.{joined, sizeOf};
+ghost use Rattle.mdf.specs.Records.{sizeOf};
 ghost use Rattle.work_words.specs.Words.{fragmentsOf};
-ghost use Rattle.result.specs.Payload.{cells};
-ghost use Rattle.places.specs.Stretch.{recordsAt};
-ghost use Rattle.cells.specs.Shape.{Shaped};
-ghost use Rattle.cells.specs.Spot.{SpotOf, Readable};
-ghost use Rattle.cells.specs.Gathered.{Near, Some, Gathers};
+ghost use Rattle.joined.specs.Spot.{SpotOf};
+ghost use Rattle.cells.specs.Shape.{Sound};
+ghost use Rattle.cells.specs.Spot.{Readable};
+ghost use Rattle.cells.specs.Gathered.{Near, Some, Gathers, FewOrAll};
 
 // The place of the last run, and how many cells were put.
 pub struct Gathered {
@@ -43,7 +44,7 @@ fn gather(
     w: usize,
     keep: bool,
 ) -> u64
-    requires { ⌜ Shaped (now image) h × Near (now words) (length (now image)) (h .length) v
+    requires { ⌜ Sound h × Near (now words) (length (now image)) (h .length) v
         × (to + v .n * h .width ≤ length (now out)) × (h .bytes ≡ w) × (h .keep ≡ keep) ⌝ }
     ensures { λ r. ⌜ Gathers (now (image .entry)) h (now (words .entry)) v to r (now (out .entry)) (now (out .exit)) ⌝ }
 {
@@ -76,7 +77,7 @@ fn other(
     h: Shape,
     keep: bool,
 ) -> u64
-    requires { ⌜ Shaped (now image) h × Near (now words) (length (now image)) (h .length) v
+    requires { ⌜ Sound h × Near (now words) (length (now image)) (h .length) v
         × (to + v .n * h .width ≤ length (now out)) × (h .keep ≡ keep) ⌝ }
     ensures { λ r. ⌜ Gathers (now (image .entry)) h (now (words .entry)) v to r (now (out .entry)) (now (out .exit)) ⌝ }
 {
@@ -108,7 +109,7 @@ fn usual(
     h: Shape,
     keep: bool,
 ) -> u64
-    requires { ⌜ Shaped (now image) h × Near (now words) (length (now image)) (h .length) v
+    requires { ⌜ Sound h × Near (now words) (length (now image)) (h .length) v
         × (to + v .n * h .width ≤ length (now out)) × (h .keep ≡ keep) ⌝ }
     ensures { λ r. ⌜ Gathers (now (image .entry)) h (now (words .entry)) v to r (now (out .entry)) (now (out .exit)) ⌝ }
 {
@@ -129,7 +130,7 @@ fn usual(
 
 // Of any channel.
 fn put_near(out: &mut [u8], to: usize, image: &[u8], words: &[u64], v: Window, h: Shape) -> u64
-    requires { ⌜ Shaped (now image) h × Near (now words) (length (now image)) (h .length) v
+    requires { ⌜ Sound h × Near (now words) (length (now image)) (h .length) v
         × (to + v .n * h .width ≤ length (now out)) ⌝ }
     ensures { λ r. ⌜ Gathers (now (image .entry)) h (now (words .entry)) v to r (now (out .entry)) (now (out .exit)) ⌝ }
 {
@@ -137,6 +138,19 @@ fn put_near(out: &mut [u8], to: usize, image: &[u8], words: &[u64], v: Window, h
         return usual(out, to, image, words, v, h, true);
     }
     usual(out, to, image, words, v, h, false)
+}
+
+// Whether a record at the cursor lies whole in its fragment, and that in size bytes.
+fn lies(size: u64, c: Cursor, bytes: u64) -> bool
+    ensures { λ r. ⌜ (r ≡ true → (bytes ≤ c .left) × (c .position + c .left ≤ size)) ⌝ }
+{
+    if c.left < bytes {
+        return false;
+    }
+    if size < c.left {
+        return false;
+    }
+    c.position <= size - c.left
 }
 
 // The cells of some of n records, the first at the spot: of those that lie whole in its fragment, else of the first. How many they are.
@@ -151,30 +165,28 @@ fn put_some(
     from: usize,
     n: u64,
 ) -> u64
-    requires { ⌜ Readable (now image) (now fragments) h × SpotOf (now image) (now fragments) k
-        × (0 < n) × (from + n ≤ length (now words)) × (getD (now words) from 0 ≡ k .offset)
-        × (k .offset + h .length ≤ sizeOf (fragmentsOf (now fragments))) × (to + n * h .width ≤ length (now out)) ⌝ }
-    ensures { λ r. ⌜ Some (now (image .entry)) (joined (now (image .entry)) (fragmentsOf (now (fragments .entry)))) h (now (words .entry)) from n to r
-        (now (out .entry)) (now (out .exit)) ⌝ }
+    requires { ⌜ Sound h × (0 < n) × (from + n ≤ length (now words)) × (getD (now words) from 0 ≡ k .offset)
+        × (to + n * h .width ≤ length (now out)) ⌝ }
+    ensures { λ r. ⌜ Some (now (image .entry)) (now (fragments .entry)) h (now (words .entry)) k from n to r (now (out .entry)) (now (out .exit)) ⌝ }
 {
     let c = k.cursor;
-    if c.left < h.length {
-        cell_joined(out, to, image, fragments, c, h);
-        return 1;
+    if lies(image.len() as u64, c, h.length) {
+        let v = Window {
+            from,
+            n,
+            position: c.position as usize,
+            base: k.offset,
+            room: c.left - h.length,
+        };
+        return put_near(out, to, image, words, v, h);
     }
-    let v = Window {
-        from,
-        n,
-        position: c.position as usize,
-        base: k.offset,
-        room: c.left - h.length,
-    };
-    put_near(out, to, image, words, v, h)
+    cell_joined(out, to, image, fragments, c, h);
+    1
 }
 
 // The cells of n records whose offsets in the joined data, of size bytes, are words from index from on, at index to: of all, or up to the first
-// that doesn't lie in the data. Callers show that out has room for the cells.
-pub fn put_gathered(
+// that doesn't lie in the data.
+fn put_words(
     out: &mut [u8],
     to: usize,
     image: &[u8],
@@ -186,13 +198,10 @@ pub fn put_gathered(
     n: u64,
     spot: Spot,
 ) -> Gathered
-    requires { ⌜ Readable (now image) (now fragments) h × SpotOf (now image) (now fragments) spot × (size ≡ sizeOf (fragmentsOf (now fragments)))
-        × (from + n ≤ length (now words)) × (to + n * h .width ≤ length (now out)) ⌝ }
-    ensures { λ r. ⌜ SpotOf (now (image .entry)) (now (fragments .entry)) (r .spot) × (r .count ≤ n)
-        × (now (out .exit) ≡ blit to (cells (now (image .entry)) (h .group) (h .channel)
-        (recordsAt (joined (now (image .entry)) (fragmentsOf (now (fragments .entry)))) (h .length) (part from (r .count) (now (words .entry)))))
-        (now (out .entry)))
-        × (r .count < n → size < getD (now (words .entry)) (from + r .count) 0 + h .length) ⌝ }
+    requires { ⌜ Sound h × (from + n ≤ length (now words)) × (to + n * h .width ≤ length (now out)) ⌝ }
+    ensures { λ r. ⌜ (r .count ≤ n) × (Readable (now (image .entry)) (now (fragments .entry)) h
+        → SpotOf (now (image .entry)) (now (fragments .entry)) spot → size ≡ sizeOf (fragmentsOf (now (fragments .entry)))
+        → FewOrAll (now (image .entry)) (now (fragments .entry)) h (now (words .entry)) size from n to r (now (out .entry)) (now (out .exit))) ⌝ }
 {
     let mut k = spot;
     let mut count: u64 = 0;
@@ -207,10 +216,56 @@ pub fn put_gathered(
         if end < o {
             return Gathered { spot: k, count };
         }
-        k = reach(image, fragments, k, o);
+        let near = reach(fragments, k, o);
+        let cursor = near.cursor;
+        k = Spot { cursor, offset: o };
         let m = put_some(out, index, image, fragments, k, h, words, at, n - count);
         index += (m * h.width) as usize;
         count += m;
     }
     Gathered { spot: k, count }
+}
+
+// Whether n of w each have room from an index on, in size.
+fn has_room(size: usize, at: usize, n: u64, w: u64) -> bool
+    ensures { λ r. ⌜ (r ≡ true → at + n * w ≤ size) × (r ≡ false → at + n * w ≤ size → ⊥) ⌝ }
+{
+    if size < at {
+        return false;
+    }
+    if w == 0 {
+        return true;
+    }
+    n <= (size - at) as u64 / w
+}
+
+// The cells of n records whose offsets in the joined data, of size bytes, are words from index from on, at index to: of all, or up to the first
+// that doesn't lie in the data. None, where the words aren't there, or out has no room for all cells.
+pub fn put_gathered(
+    out: &mut [u8],
+    to: usize,
+    image: &[u8],
+    fragments: &[u64],
+    h: Shape,
+    size: u64,
+    words: &[u64],
+    from: usize,
+    n: u64,
+    spot: Spot,
+) -> Gathered
+    ensures { λ r. ⌜ (r .count ≤ n) × (Readable (now (image .entry)) (now (fragments .entry)) h
+        → SpotOf (now (image .entry)) (now (fragments .entry)) spot → size ≡ sizeOf (fragmentsOf (now (fragments .entry)))
+        → from + n ≤ length (now (words .entry)) → to + n * h .width ≤ length (now (out .entry))
+        → FewOrAll (now (image .entry)) (now (fragments .entry)) h (now (words .entry)) size from n to r (now (out .entry)) (now (out .exit))) ⌝ }
+{
+    if !is_sound(h) {
+        return Gathered { spot, count: 0 };
+    }
+    if !has_room(words.len(), from, n, 1) {
+        return Gathered { spot, count: 0 };
+    }
+    if !has_room(out.len(), to, n, h.width) {
+        return Gathered { spot, count: 0 };
+    }
+    put_words(out, to, image, fragments, h, size, words, from, n, spot)
 }

@@ -8,7 +8,7 @@ ghost use lib.ListN.{length};
 ghost use Rattle.base.specs.Blit.{blit};
 ghost use Rattle.result.specs.Payload.{cells};
 ghost use Rattle.places.specs.Stretch.{recordsAt, spaced};
-ghost use Rattle.cells.specs.Shape.{Shaped};
+ghost use Rattle.cells.specs.Shape.{Shaped, Sound};
 ghost use Rattle.cells.specs.Strided.{Lying};
 
 // Of n records, the first at from, each as far from the one before; w and keep as in the shape.
@@ -23,10 +23,10 @@ fn strided(
     w: usize,
     keep: bool,
 )
-    requires { ⌜ Shaped (now image) h × Lying (length (now image)) (h .length) from stride n × (to + n * h .width ≤ length (now out))
+    requires { ⌜ Sound h × Lying (length (now image)) (h .length) from stride n × (to + n * h .width ≤ length (now out))
         × (h .bytes ≡ w) × (h .keep ≡ keep) ⌝ }
-    ensures { λ _. ⌜ now (out .exit) ≡ blit to (cells (now (image .entry)) (h .group) (h .channel)
-        (recordsAt (now (image .entry)) (h .length) (spaced from stride n))) (now (out .entry)) ⌝ }
+    ensures { λ _. ⌜ (Shaped (now (image .entry)) h → now (out .exit) ≡ blit to (cells (now (image .entry)) (h .group) (h .channel)
+        (recordsAt (now (image .entry)) (h .length) (spaced from stride n))) (now (out .entry))) ⌝ }
 {
     cell_here(out, to, image, from, h, w, keep);
     let width = h.width as usize;
@@ -51,10 +51,10 @@ fn put_bare_other(
     n: u64,
     h: Shape,
 )
-    requires { ⌜ Shaped (now image) h × Lying (length (now image)) (h .length) from stride n × (to + n * h .width ≤ length (now out))
+    requires { ⌜ Sound h × Lying (length (now image)) (h .length) from stride n × (to + n * h .width ≤ length (now out))
         × (h .keep ≡ false) ⌝ }
-    ensures { λ _. ⌜ now (out .exit) ≡ blit to (cells (now (image .entry)) (h .group) (h .channel)
-        (recordsAt (now (image .entry)) (h .length) (spaced from stride n))) (now (out .entry)) ⌝ }
+    ensures { λ _. ⌜ (Shaped (now (image .entry)) h → now (out .exit) ≡ blit to (cells (now (image .entry)) (h .group) (h .channel)
+        (recordsAt (now (image .entry)) (h .length) (spaced from stride n))) (now (out .entry))) ⌝ }
 {
     if h.bytes == 3 {
         strided(out, to, image, from, stride, n, h, 3, false);
@@ -81,10 +81,10 @@ fn put_bare_other(
 
 // The usual widths are given as constants: then no loop asks for the width at each record.
 fn put_bare(out: &mut [u8], to: usize, image: &[u8], from: usize, stride: usize, n: u64, h: Shape)
-    requires { ⌜ Shaped (now image) h × Lying (length (now image)) (h .length) from stride n × (to + n * h .width ≤ length (now out))
+    requires { ⌜ Sound h × Lying (length (now image)) (h .length) from stride n × (to + n * h .width ≤ length (now out))
         × (h .keep ≡ false) ⌝ }
-    ensures { λ _. ⌜ now (out .exit) ≡ blit to (cells (now (image .entry)) (h .group) (h .channel)
-        (recordsAt (now (image .entry)) (h .length) (spaced from stride n))) (now (out .entry)) ⌝ }
+    ensures { λ _. ⌜ (Shaped (now (image .entry)) h → now (out .exit) ≡ blit to (cells (now (image .entry)) (h .group) (h .channel)
+        (recordsAt (now (image .entry)) (h .length) (spaced from stride n))) (now (out .entry))) ⌝ }
 {
     if h.bytes == 8 {
         strided(out, to, image, from, stride, n, h, 8, false);
@@ -115,10 +115,10 @@ fn put_kept_other(
     n: u64,
     h: Shape,
 )
-    requires { ⌜ Shaped (now image) h × Lying (length (now image)) (h .length) from stride n × (to + n * h .width ≤ length (now out))
+    requires { ⌜ Sound h × Lying (length (now image)) (h .length) from stride n × (to + n * h .width ≤ length (now out))
         × (h .keep ≡ true) ⌝ }
-    ensures { λ _. ⌜ now (out .exit) ≡ blit to (cells (now (image .entry)) (h .group) (h .channel)
-        (recordsAt (now (image .entry)) (h .length) (spaced from stride n))) (now (out .entry)) ⌝ }
+    ensures { λ _. ⌜ (Shaped (now (image .entry)) h → now (out .exit) ≡ blit to (cells (now (image .entry)) (h .group) (h .channel)
+        (recordsAt (now (image .entry)) (h .length) (spaced from stride n))) (now (out .entry))) ⌝ }
 {
     if h.bytes == 3 {
         strided(out, to, image, from, stride, n, h, 3, true);
@@ -145,10 +145,10 @@ fn put_kept_other(
 
 // The same with a kept bit.
 fn put_kept(out: &mut [u8], to: usize, image: &[u8], from: usize, stride: usize, n: u64, h: Shape)
-    requires { ⌜ Shaped (now image) h × Lying (length (now image)) (h .length) from stride n × (to + n * h .width ≤ length (now out))
+    requires { ⌜ Sound h × Lying (length (now image)) (h .length) from stride n × (to + n * h .width ≤ length (now out))
         × (h .keep ≡ true) ⌝ }
-    ensures { λ _. ⌜ now (out .exit) ≡ blit to (cells (now (image .entry)) (h .group) (h .channel)
-        (recordsAt (now (image .entry)) (h .length) (spaced from stride n))) (now (out .entry)) ⌝ }
+    ensures { λ _. ⌜ (Shaped (now (image .entry)) h → now (out .exit) ≡ blit to (cells (now (image .entry)) (h .group) (h .channel)
+        (recordsAt (now (image .entry)) (h .length) (spaced from stride n))) (now (out .entry))) ⌝ }
 {
     if h.bytes == 8 {
         strided(out, to, image, from, stride, n, h, 8, true);
@@ -179,9 +179,9 @@ pub(crate) fn put_strided(
     n: u64,
     h: Shape,
 )
-    requires { ⌜ Shaped (now image) h × Lying (length (now image)) (h .length) from stride n × (to + n * h .width ≤ length (now out)) ⌝ }
-    ensures { λ _. ⌜ now (out .exit) ≡ blit to (cells (now (image .entry)) (h .group) (h .channel)
-        (recordsAt (now (image .entry)) (h .length) (spaced from stride n))) (now (out .entry)) ⌝ }
+    requires { ⌜ Sound h × Lying (length (now image)) (h .length) from stride n × (to + n * h .width ≤ length (now out)) ⌝ }
+    ensures { λ _. ⌜ (Shaped (now (image .entry)) h → now (out .exit) ≡ blit to (cells (now (image .entry)) (h .group) (h .channel)
+        (recordsAt (now (image .entry)) (h .length) (spaced from stride n))) (now (out .entry))) ⌝ }
 {
     if h.keep {
         put_kept(out, to, image, from, stride, n, h);

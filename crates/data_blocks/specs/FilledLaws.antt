@@ -25,12 +25,13 @@ use Rattle.places.specs.Scan.{start, ScanOf, NextOf}
 use Rattle.places.specs.ScanLaws.{scan-start, checked-frames}
 use Rattle.places.specs.Pool.{HeldIn}
 use Rattle.places.specs.declared.pool.Held.{Held}
-use Rattle.cells.specs.declared.spot.Spot.{Spot}
-use Rattle.cells.specs.Ahead.{later}
-use Rattle.cells.specs.AheadLaws.{later-more, later-none, ranges-head, ranges-tail, ranges-cons}
+use Rattle.joined.specs.declared.spot.Spot.{Spot}
+use Rattle.joined.specs.Ahead.{later}
+use Rattle.joined.specs.AheadLaws.{later-more, later-none, ranges-head, ranges-tail, ranges-cons}
 use Rattle.cells.specs.Shape.{Shaped}
-use Rattle.cells.specs.Spot.{front, SpotOf, Readable}
-use Rattle.cells.specs.SpotLaws.{spot-front}
+use Rattle.joined.specs.Spot.{front, SpotOf}
+use Rattle.cells.specs.Spot.{Readable}
+use Rattle.joined.specs.SpotLaws.{spot-front}
 use Rattle.data_blocks.specs.declared.piece.Form.{Form}
 use Rattle.data_blocks.specs.declared.total.Total.{Total}
 use Rattle.data_blocks.specs.Region.{reachTo, Due, PieceIn, placesOf, PieceOf, PutPiece}

@@ -15,9 +15,9 @@ use Rattle.result.specs.Payload.{groupRecords}
 use Rattle.payload_laws.specs.SortedLaws.{joined-length}
 use Rattle.places.specs.Stretch.{recordsAt, bodyBytes}
 use Rattle.places.specs.Longer.{OffsetsIn}
-use Rattle.cells.specs.declared.spot.Spot.{Spot}
+use Rattle.joined.specs.declared.spot.Spot.{Spot}
 use Rattle.cells.specs.Shape.{Shaped}
-use Rattle.cells.specs.Spot.{SpotOf}
+use Rattle.joined.specs.Spot.{SpotOf}
 use Rattle.cells.specs.GatheredLaws.{part-add}
 use Rattle.data_blocks.specs.declared.piece.Form.{Form}
 use Rattle.data_blocks.specs.Region.{reachTo, PieceOf, PutPiece}

@@ -11,7 +11,7 @@ use lib.ListN.{length, take, drop, length-append, length-take, length-drop, take
 use lib.Seq.{take-add, take-take, drop-drop, take-all, take-at, drop-at, length-take-le}
 use Rattle.base.specs.ChoiceLaws.{eq-yes, eq-no}
 use Rattle.base.specs.Blit.{part, blit}
-use Rattle.base.specs.BlitLaws.{blit-append}
+use Rattle.base.specs.BlitLaws.{length-blit, blit-append}
 use Rattle.mdf.specs.Group.{samples, invalBytes}
 use Rattle.mdf.specs.Records.{joined, sizeOf}
 use Rattle.work_words.specs.Words.{fragmentsOf}
@@ -25,7 +25,7 @@ use Rattle.payload_laws.specs.CellLaws.{length-cells, cells-append}
 use Rattle.places.specs.declared.stretch.Stretch.{Stretch}
 use Rattle.places.specs.Stretch.{recordsAt, spaced}
 use Rattle.places.specs.StretchLaws.{length-spaced, spaced-add, recordsAt-append, length-recordsAt}
-use Rattle.cells.specs.AheadLaws.{zero-or-more, drop-take}
+use Rattle.joined.specs.AheadLaws.{zero-or-more, drop-take}
 use Rattle.cells.specs.Strided.{Lying}
 use Rattle.data_blocks.specs.declared.piece.Form.{Form}
 use Rattle.data_blocks.specs.Blocks.{framedAll}
@@ -481,6 +481,18 @@ pub piece-of : (m at c left : ℕ) → 0 < m → 0 < left → c ≡ min (m - at 
 piece-of m at c left z l e =
     let r = mod-lt at z in
     record { some = omega arith; within = omega arith; block = omega arith }
+
+-- they lie in the data, and their cells have room past the block's header
+pub piece-ready : {s ws : List ℕ} {f : Form} {t : Stretch} {at offset left : ℕ} {out₀ out : List ℕ} → Piecing s ws f t at offset left out₀ out
+    → PieceIn ws f t → {c body : ℕ} {mid : List ℕ} → Formed s f (length out₀) → Piece (f .per) at c left
+    → body ≡ 0 + (24 * (at / f .per) + at * f .shape .width) + 24
+    → mid ≡ blit (0 + (24 * (at / f .per) + at * f .shape .width)) (startOf (f .kind) (f .per) (f .records) (f .shape .width) at) out
+    → Lying (sizeOf (fragmentsOf ws)) (f .shape .length) offset (t .stride) c × (body + c * f .shape .width ≤ length mid)
+piece-ready {at = at} {out = out} v p {c = c} {mid = mid} d q e m =
+    let l : length mid ≡ length out = ap length m ∙ length-blit _ _ out in (
+      lying-front c (v .lying) (q .some) (q .within),
+      omega (arith, e, l, v .same, piece-room d at c (q .some) (q .block) (omega (arith, piecing-few v p, q .within))),
+    )
 
 -- ---- the header before a block's first cell
 module _ (kind m n w i : ℕ) (place : ℕ) (out : List ℕ) where

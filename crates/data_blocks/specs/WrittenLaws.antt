@@ -1,9 +1,9 @@
 -- Laws of a column's blocks, from its group's records.
-use Prim.Native.Nat.{ℕ, zero, suc, _+_, _*_, _/_, _≤_, _<_}
+use Prim.Native.Nat.{ℕ, zero, suc, _+_, _*_, _≤_, _<_}
 use mathlib.Core.Bool.{Bool, true, false, not}
 use mathlib.Core.List.{List, [], _∷_}
 use mathlib.Core.Path.{_≡_, refl, sym, ap, _∙_, subst}
-use native.Mathlib.Nat.{zero-mul, mul-zero, mul-le-mul-right, div-mul-le-self, div-lt-iff-lt-mul}
+use native.Mathlib.Nat.{zero-mul, mul-zero}
 use native.Mathlib.Omega.{arith}
 use lib.ListN.{length, getD, take}
 use lib.Seq.{take-length}
@@ -49,15 +49,6 @@ room-no n = record { yes = λ e. absurd (false≢true e); no = λ e. n }
 
 pub room-yes : {room : ℕ} {f : Form} → Room room f → IfRoom room f true
 room-yes r = record { yes = λ e. r; no = λ e. absurd (false≢true (sym e)) }
-
--- n widths fit where the quotient is as large
-pub widths-fit : (room w n : ℕ) → n ≤ room / w → n * w ≤ room
-widths-fit room w n h =
-    let a : n * w ≤ room / w * w = mul-le-mul-right w h in
-    omega (arith, div-mul-le-self room w)
-
-pub widths-over : (room w n : ℕ) → 0 < w → room / w < n → room < n * w
-widths-over room w n z h = div-lt-iff-lt-mul {k = w} {x = room} {y = n} z .0 h
 
 -- ---- checked data of groups
 -- each record of a group that is no VLSD storage has samples and invalidation bytes

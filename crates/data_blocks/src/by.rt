@@ -1,8 +1,8 @@
 // The records of a column's group, stretch by stretch.
 use crate::piece::Form;
 use crate::piece::put_piece;
-use cells::spot::Spot;
-use cells::spot::begin;
+use joined::spot::Spot;
+use joined::spot::begin;
 use places::pool::find;
 use places::several::several_next;
 use places::sorted::sorted_next;
@@ -16,7 +16,8 @@ ghost use Prim.Native.Nat.{_+_, _*_, _≤_, _<_};
 ghost use lib.ListN.{length};
 ghost use Rattle.mdf.specs.Records.{sizeOf};
 ghost use Rattle.work_words.specs.Words.{fragmentsOf};
-ghost use Rattle.cells.specs.Spot.{SpotOf, Readable};
+ghost use Rattle.joined.specs.Spot.{SpotOf};
+ghost use Rattle.cells.specs.Spot.{Readable};
 ghost use Rattle.data_blocks.specs.Region.{Formed, PieceIn};
 ghost use Rattle.data_blocks.specs.Filled.{IfUsable, pastOf, PutRest, Filled, PoolFilled};
 

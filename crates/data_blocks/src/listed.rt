@@ -2,7 +2,7 @@
 use crate::piece::Form;
 use crate::piece::begin_block;
 use cells::gathered::put_gathered;
-use cells::spot::begin;
+use joined::spot::begin;
 use puts::least;
 ghost use mathlib.Core.Path.{_≡_};
 ghost use Prim.Native.Nat.{_+_, _≤_};

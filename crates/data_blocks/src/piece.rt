@@ -1,7 +1,7 @@
 // The records of a stretch in the blocks of a column.
 use cells::cell::Shape;
 use cells::run::put_stretch;
-use cells::spot::Spot;
+use joined::spot::Spot;
 use places::stretch::Stretch;
 use puts::header;
 use puts::least;
@@ -9,7 +9,8 @@ ghost use mathlib.Core.Path.{_≡_};
 ghost use Prim.Native.Nat.{_+_, _-_, _*_, _/_, _≤_, _<_, min};
 ghost use lib.ListN.{length};
 ghost use Rattle.base.specs.Blit.{blit};
-ghost use Rattle.cells.specs.Spot.{SpotOf, Readable};
+ghost use Rattle.joined.specs.Spot.{SpotOf};
+ghost use Rattle.cells.specs.Spot.{Readable};
 ghost use Rattle.data_blocks.specs.Region.{startOf, Formed, PieceIn, placesOf, PutPiece};
 
 // A column's blocks: the shape of its cells, the kind of the blocks, the records of one that is not the last, how many blocks and records.

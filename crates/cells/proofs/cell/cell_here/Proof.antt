@@ -2,9 +2,9 @@
 use mathlib.Core.Path.{_∙_}
 use Rattle.base.specs.Blit.{part}
 use Rattle.payload_laws.specs.Lists.{length-part}
-use Rattle.cells.specs.CellLaws.{room-bytes, room-kept, cell-bare, cell-kept, part-in, byte-in}
+use Rattle.cells.specs.CellLaws.{cell-bare, cell-kept, part-in, byte-in}
+use Rattle.cells.specs.ShapeLaws.{sound-room}
 use native.Mathlib.Omega.{arith}
-use lib.ListN.{length}
 use borrow.Author.Needs.{needs}
 use Rattle.cells.proofs.cell.cell_here.Statement.{statement}
 use Rattle.cells.proofs.cell.cell_here.Tie as tie
@@ -15,8 +15,7 @@ add-copy-within c = let f = c .before .before .before .pre .0 .fit in omega arit
 copy-within-requires : tie.Need-copy-within-requires
 copy-within-requires c κs =
     let p = c .before .before .before .pre in
-    let b = room-bytes (p .0) in
-    let e = p .0 .wide in
+    let b = sound-room (p .0) in
     let f = p .0 .fit in
     (omega arith, omega arith)
 
@@ -37,18 +36,16 @@ add-out c = search needs
 
 slice-write-out : tie.Need-slice-write-out
 slice-write-out c =
-    let k = room-kept (c .before .before .before .before .before .before .before .before .before .pre .0) (c .before .before .before .before .before .before .before .before .before .pre .4 ∙ c .before .before .if1 .taken) in
-    let e = c .before .before .before .before .before .before .before .before .before .pre .0 .wide in
+    let k = c .before .before .before .before .before .before .before .before .before .pre .0 .wide (c .before .before .before .before .before .before .before .before .before .pre .4 ∙ c .before .before .if1 .taken) in
     omega arith
 
 same-length : tie.Need-same-length
 same-length c = search needs
 
 returns : tie.Need-returns
-returns c =
+returns c w =
     let a = c .before .before .before .before .before .before .before .before .before .args in
     let p = c .before .before .before .before .before .before .before .before .before .pre in
-    let w = p .0 in
     let s = a .image .now in
     let f = w .fit in
     let n = length-part (a .q) (a .h .length) s (omega arith) in
@@ -61,10 +58,9 @@ same-length-2 : tie.Need-same-length-2
 same-length-2 c = search needs
 
 returns-2 : tie.Need-returns-2
-returns-2 c =
+returns-2 c w =
     let a = c .before .before .before .before .before .before .before .args in
     let p = c .before .before .before .before .before .before .before .pre in
-    let w = p .0 in
     let s = a .image .now in
     cell-bare w (part (a .q) (a .h .length) s) (a .to) _ (p .4 ∙ c .if1 .left)
     (c .before .before .before .copy-within .ensures ∙ rw (← p .3, part-in (a .q) (a .h .length) (a .h .first) (a .h .bytes) s (w .fit)))

@@ -4,9 +4,9 @@ use lib.ListN.{take}
 use lib.Seq.{length-take-le, getD-take}
 use Rattle.mdf.specs.Records.{joined}
 use Rattle.payload_laws.specs.SortedLaws.{joined-length}
-use Rattle.cells.specs.Ahead.{ahead}
-use Rattle.cells.specs.AheadLaws.{size-past, ranges-past, joined-past}
-use Rattle.cells.specs.CellLaws.{room-bytes, room-kept, cell-bare, cell-kept, take-in}
+use Rattle.joined.specs.Ahead.{ahead}
+use Rattle.cells.specs.CellLaws.{cell-bare, cell-kept, bytes-joined}
+use Rattle.cells.specs.ShapeLaws.{sound-room}
 use native.Mathlib.Omega.{arith}
 use lib.ListN.{length}
 use borrow.Author.Needs.{needs}
@@ -17,23 +17,10 @@ skip-requires : tie.Need-skip-requires
 skip-requires c κs = search needs
 
 copy-joined-requires : tie.Need-copy-joined-requires
-copy-joined-requires c κs =
-    let a = c .before .before .before .before .before .args in
-    let w = c .before .before .before .before .before .pre .0 in
-    let f = w .fit in
-    let e = c .before .skip .ensures in
-    let n = size-past (a .h .first) (ahead (a .fragments .now) (a .k)) (omega arith) in
-    let b = room-bytes w in (
-      rw e (ranges-past (a .image .now) (a .h .first) (ahead (a .fragments .now) (a .k))
-          (c .before .before .before .before .before .pre .1)),
-      rw e (omega arith),
-      omega arith,
-    )
+copy-joined-requires c κs = search needs
 
 byte-at-requires : tie.Need-byte-at-requires
-byte-at-requires c κs = let k = c .before .before .before .before .before .before .before .before .before .pre .0 .kept
-    (c .if1 .taken)
-    in (c .before .before .before .before .before .before .before .before .before .pre .1, omega arith)
+byte-at-requires c κs = search needs
 
 cast-out : tie.Need-cast-out
 cast-out c = search needs
@@ -42,56 +29,40 @@ shr-out : tie.Need-shr-out
 shr-out c = search needs
 
 add-out : tie.Need-add-out
-add-out c = search needs
+add-out c = omega (arith, sound-room (c .before .before .before .before .before .before .before .before .before .before .before .pre .0))
 
 slice-write-out : tie.Need-slice-write-out
-slice-write-out c = let k = room-kept
-    (c .before .before .before .before .before .before .before .before .before .before .before .pre .0)
-    (c .before .before .if1 .taken) in omega arith
+slice-write-out c = let k = c .before .before .before .before .before .before .before .before .before .before .before .pre .0 .wide (c .before .before .if1 .taken) in omega arith
 
 same-length : tie.Need-same-length
 same-length c = search needs
 
 returns : tie.Need-returns
-returns c =
+returns c w r l =
     let a = c .before .before .before .before .before .before .before .before .before .before .before .args in
-    let w = c .before .before .before .before .before .before .before .before .before .before .before .pre .0 in
+    let p = c .before .before .before .before .before .before .before .before .before .before .before .pre in
     let s = a .image .now in
     let fs = ahead (a .fragments .now) (a .k) in
-    let n = length-take-le (a .h .length) (joined s fs)
-    (rw (joined-length s fs (c .before .before .before .before .before .before .before .before .before .before .before .pre .1))
-    (c .before .before .before .before .before .before .before .before .before .before .before .pre .2)) in
-    let e = joined-past s (a .h .first) fs
-    (c .before .before .before .before .before .before .before .before .before .before .before .pre .1) in
+    let f = w .fit in
+    let v = w .kept (c .before .before .if1 .taken) in
+    let n = length-take-le (a .h .length) (joined s fs) (rw (joined-length s fs r) l) in
     cell-kept w (take (a .h .length) (joined s fs)) (a .to) _ _ (c .before .before .if1 .taken) (omega arith)
-    (c .before .before .before .before .before .copy-joined .ensures ∙
-    rw (
-      c .before .before .before .before .before .before .before .skip .ensures,
-      e,
-      take-in (a .h .length) (a .h .first)
-          (a .h .bytes) (joined s fs) (w .fit),
-    ))
-    (c .before .byte-at .ensures ∙ sym (getD-take (a .h .length) (joined s fs) (a .h .inval) 0 (w .kept
-    (c .before .before .if1 .taken))))
+    (bytes-joined w (a .fragments .now) (a .k) (c .before .before .before .before .before .before .before .skip .result) (a .to) (a .out .now) r l (p .1)
+    (c .before .before .before .before .before .before .before .skip .ensures s (omega arith) r (omega arith)) (c .before .before .before .before .before .copy-joined .ensures))
+    (c .before .byte-at .ensures r (omega arith) ∙ sym (getD-take (a .h .length) (joined s fs) (a .h .inval) 0 v))
 
 same-length-2 : tie.Need-same-length-2
 same-length-2 c = search needs
 
 returns-2 : tie.Need-returns-2
-returns-2 c =
+returns-2 c w r l =
     let a = c .before .before .before .before .before .before .before .before .before .args in
-    let w = c .before .before .before .before .before .before .before .before .before .pre .0 in
+    let p = c .before .before .before .before .before .before .before .before .before .pre in
     let s = a .image .now in
-    let fs = ahead (a .fragments .now) (a .k) in
-    let e = joined-past s (a .h .first) fs (c .before .before .before .before .before .before .before .before .before .pre .1) in
-    cell-bare w (take (a .h .length) (joined s fs)) (a .to) _ (c .if1 .left)
-    (c .before .before .before .copy-joined .ensures ∙
-    rw (
-      c .before .before .before .before .before .skip .ensures,
-      e,
-      take-in (a .h .length) (a .h .first) (a .h .bytes) (joined s fs)
-          (w .fit),
-    ))
+    let f = w .fit in
+    cell-bare w (take (a .h .length) (joined s (ahead (a .fragments .now) (a .k)))) (a .to) _ (c .if1 .left)
+    (bytes-joined w (a .fragments .now) (a .k) (c .before .before .before .before .before .skip .result) (a .to) (a .out .now) r l (p .1)
+    (c .before .before .before .before .before .skip .ensures s (omega arith) r (omega arith)) (c .before .before .before .copy-joined .ensures))
 
 pub cell-joined-spec : {M : Type 1} → statement M
 cell-joined-spec =

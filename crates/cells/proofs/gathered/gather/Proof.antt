@@ -60,7 +60,7 @@ loop-again : tie.Need-loop-again Inv-loop μ-loop
 loop-again c =
     let p = c .before .before .before .before .before .before .before .before .before .before .before .before .before .before .before .before .before .before .pre in
     let v = c .before .before .before .before .before .before .before .before .before .before .before .before .before .before .loop .inv in
-    (gathering-turn (v .0) (p .1) _ (p .0) (c .before .before .before .before .before .before .before .before .before .before .before .before .if1 .taken) (omega arith) (omega arith) (c .before .before .cell-here .ensures) refl (rw (v .1)), v .1)
+    (gathering-turn (v .0) (p .1) _ (c .before .before .before .before .before .before .before .before .before .before .before .before .if1 .taken) (omega arith) (omega arith) (c .before .before .cell-here .kept .0) (c .before .before .cell-here .ensures) refl (rw (v .1)), v .1)
 
 same-length-3 : tie.Need-same-length-3 Inv-loop μ-loop
 same-length-3 c = search needs

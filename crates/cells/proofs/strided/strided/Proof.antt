@@ -52,15 +52,15 @@ loop-less c = search needs
 loop-again : tie.Need-loop-again Inv-loop μ-loop
 loop-again c =
     let v = c .before .before .before .before .before .loop .inv in
-    (rw (v .1) (striding-turn (v .0) (c .before .before .before .before .before .before .before .before .before .before .before .before .pre .0) (c .before .before .before .before .loop-test .taken) (rw (← v .1) (c .before .before .cell-here2 .ensures))), v .1, search needs)
+    (rw (v .1) (striding-turn (v .0) (c .before .before .before .before .loop-test .taken) (c .before .before .cell-here2 .kept .0) (rw (← v .1) (c .before .before .cell-here2 .ensures))), v .1, search needs)
 
 same-length : tie.Need-same-length Inv-loop μ-loop
 same-length c = search needs
 
 returns : tie.Need-returns Inv-loop μ-loop
-returns c =
+returns c w =
     let a = c .before .before .before .before .before .before .before .before .args in
-    striding-all (a .to) (a .out .now) (c .before .before .before .before .before .before .before .before .pre .0) (c .before .before .before .before .before .before .before .before .pre .1) (c .before .before .before .before .cell-here .ensures) (striding-end (c .before .loop .inv .0) (omega arith))
+    striding-all (a .to) (a .out .now) w (c .before .before .before .before .before .before .before .before .pre .1) (c .before .before .before .before .cell-here .ensures w) (striding-end (c .before .loop .inv .0) (omega arith) w)
 
 pub strided-spec : {M : Type 1} → statement M
 strided-spec =

@@ -1,8 +1,8 @@
 -- Each turn puts the records of a kept stretch.
 use mathlib.Core.Path.{_≡_, refl}
 use Prim.Native.Nat.{_+_, _-_, _≤_}
-use Rattle.cells.specs.Spot.{SpotOf}
-use Rattle.cells.specs.SpotLaws.{spot-front}
+use Rattle.joined.specs.Spot.{SpotOf}
+use Rattle.joined.specs.SpotLaws.{spot-front}
 use Rattle.data_blocks.specs.Filled.{Usable, PoolFilled}
 use Rattle.data_blocks.specs.FilledLaws.{if-usable, usable-in, pool-none, pool-turn}
 use borrow.Author.Needs.{needs}

@@ -1,5 +1,6 @@
 -- The widths of all records, then the headers.
-use Rattle.data_blocks.specs.WrittenLaws.{room-no, room-yes, widths-fit, widths-over}
+use Rattle.data_blocks.specs.WrittenLaws.{room-no, room-yes}
+use Rattle.cells.specs.GatheredLaws.{widths-fit, widths-over}
 use native.Mathlib.Omega.{arith}
 use borrow.Author.Needs.{needs}
 use Rattle.data_blocks.proofs.column.has_room.Statement.{statement}

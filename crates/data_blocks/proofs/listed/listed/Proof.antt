@@ -2,7 +2,8 @@
 use mathlib.Core.Path.{refl}
 use Prim.Native.Nat.{_+_, _-_}
 use native.Mathlib.Nat.{mod-lt}
-use Rattle.cells.specs.SpotLaws.{spot-front}
+use Rattle.joined.specs.SpotLaws.{spot-front}
+use Rattle.cells.specs.Gathered.{FewOrAll}
 use Rattle.data_blocks.specs.RegionLaws.{begin-room, piece-room, Piece, piece-of, piece-block}
 use Rattle.data_blocks.specs.ListedLaws.{Listing, listing-begin, listing-turn, listing-end, listed-stop}
 use borrow.Author.Needs.{needs}
@@ -54,15 +55,22 @@ add-from : tie.Need-add-from Inv-loop μ-loop
 add-from c = omega (arith, c .before .before .before .before .before .before .before .before .before .before .before .before .before .before .before .pre .3, c .before .before .before .before .before .before .before .before .before .before .before .before .before .before .before .good .1)
 
 put-gathered-requires : tie.Need-put-gathered-requires Inv-loop μ-loop
-put-gathered-requires c κs =
-    let p = c .before .before .before .before .before .before .before .before .before .before .before .before .before .before .before .before .pre in
-    let v = c .before .before .before .before .before .before .before .before .before .loop .inv in
-    let q = turn ((c .before)) in
-    let r = piece-room (p .1) (c .before .before .before .before .before .before .before .before .before .loop .at) (c .before .least .result) (q .some) (q .block) (omega (arith, q .within, p .5)) in
-    (p .0, v .spot, p .2, omega (arith, q .within, p .3), omega (arith, r, c .before .before .before .before .before .before .begin-block .ensures .0, v .same, c .before .before .before .before .before .before .begin-block .kept))
+put-gathered-requires c κs = search needs
+
+-- the words are there, and the block has room for the cells
+put : (c : tie.After-put-gathered Inv-loop μ-loop)
+    → FewOrAll (c .before .before .before .before .before .before .before .before .before .before .before .before .before .before .before .before .before .args .image .now) (c .before .before .before .before .before .before .before .before .before .before .before .before .before .before .before .before .before .args .fragments .now) (c .before .before .before .before .before .before .before .before .before .before .before .before .before .before .before .before .before .args .f .shape) (c .before .before .before .before .before .before .before .before .before .before .before .before .before .before .before .before .before .args .words .now) (c .before .before .before .before .before .before .before .before .before .before .before .before .before .before .before .before .before .args .size) (c .before .before .before .before .before .before .before .before .before .before .before .before .before .before .before .before .before .args .first + c .before .before .before .before .before .before .before .before .before .before .loop .at) (c .before .before .least .result)
+    (c .before .before .before .before .before .before .before .begin-block .result) (c .put-gathered .result) (c .before .before .before .before .before .before .before .begin-block .last .0) (c .put-gathered .last .0)
+put c =
+    let p = c .before .before .before .before .before .before .before .before .before .before .before .before .before .before .before .before .before .pre in
+    let v = c .before .before .before .before .before .before .before .before .before .before .loop .inv in
+    let q = turn ((c .before .before)) in
+    let r = piece-room (p .1) (c .before .before .before .before .before .before .before .before .before .before .loop .at) (c .before .before .least .result) (q .some) (q .block) (omega (arith, q .within, p .5)) in
+    c .put-gathered .ensures .1 (p .0) (v .spot) (p .2) (omega (arith, q .within, p .3))
+    (omega (arith, r, c .before .before .before .before .before .before .before .begin-block .ensures .0, v .same, c .before .before .before .before .before .before .before .begin-block .kept))
 
 add-result : tie.Need-add-result Inv-loop μ-loop
-add-result c = let q = turn ((c .before .before .before .before .before .before .before)) in omega (arith, q .within, c .before .before .before .before .before .put-gathered .ensures .1, c .before .before .before .before .before .before .before .before .before .before .before .before .before .before .before .before .before .before .before .before .before .before .fits .n)
+add-result c = let q = turn ((c .before .before .before .before .before .before .before)) in omega (arith, q .within, c .before .before .before .before .before .put-gathered .ensures .0, c .before .before .before .before .before .before .before .before .before .before .before .before .before .before .before .before .before .before .before .before .before .before .fits .n)
 
 same-length : tie.Need-same-length Inv-loop μ-loop
 same-length c = omega (arith, c .before .before .before .before .before .before .before .before .before .before .before .before .begin-block .kept, c .before .before .before .before .before .put-gathered .kept, c .before .before .before .before .before .before .before .before .before .before .before .before .before .before .before .loop .inv .same)
@@ -73,18 +81,18 @@ returns c =
     let a = c .before .before .before .before .before .before .before .before .before .before .before .before .before .before .before .before .before .before .before .before .before .before .args in
     let v = c .before .before .before .before .before .before .before .before .before .before .before .before .before .before .before .loop .inv in
     let q = turn ((c .before .before .before .before .before .before .before)) in
-    let r = c .before .before .before .before .before .put-gathered .ensures in (
+    let r = put ((c .before .before .before .before .before)) in (
       omega (arith, v .number),
       omega (arith, q .within),
       listed-stop _ _ _ (a .words .now) (a .first) (a .n) (a .a) _ (c .before .before .before .before .before .before .before .before .before .before .before .before .before .before .before .loop .at + c .before .before .before .before .before .put-gathered .result .count) (p .0 .shaped) (p .0 .ranges) (p .2)
-          (omega (arith, q .within)) (omega arith) (r .3 (c .before .if1 .taken)),
+          (omega (arith, q .within)) (omega arith) (r .stop (c .before .if1 .taken)),
     )
 
 add-at : tie.Need-add-at Inv-loop μ-loop
-add-at c = let q = turn ((c .before .before .before .before .before .before .before .before)) in omega (arith, q .within, c .before .before .before .before .before .before .put-gathered .ensures .1, c .before .before .before .before .before .before .before .before .before .before .before .before .before .before .before .before .before .before .before .before .before .before .before .fits .n)
+add-at c = let q = turn ((c .before .before .before .before .before .before .before .before)) in omega (arith, q .within, c .before .before .before .before .before .before .put-gathered .ensures .0, c .before .before .before .before .before .before .before .before .before .before .before .before .before .before .before .before .before .before .before .before .before .before .before .fits .n)
 
 loop-less : tie.Need-loop-less Inv-loop μ-loop
-loop-less c = let q = turn ((c .before .before .before .before .before .before .before .before)) in omega (arith, q .some, q .within, c .before .before .before .before .before .before .put-gathered .ensures .1)
+loop-less c = let q = turn ((c .before .before .before .before .before .before .before .before)) in omega (arith, q .some, q .within, c .before .before .before .before .before .before .put-gathered .ensures .0)
 
 loop-again : tie.Need-loop-again Inv-loop μ-loop
 loop-again c =
@@ -92,10 +100,11 @@ loop-again c =
     let v = c .before .before .before .before .before .before .before .before .before .before .before .before .before .before .before .before .loop .inv in
     let q = turn ((c .before .before .before .before .before .before .before .before)) in
     let b = c .before .before .before .before .before .before .before .before .before .before .before .before .before .begin-block .ensures in
-    let r = c .before .before .before .before .before .before .put-gathered .ensures in
-    listing-turn v (p .3) (c .before .before .before .before .before .before .put-gathered .result .count) (omega (arith, q .within, r .1))
-    (piece-block _ _ _ (p .1) _ _ _ _ (omega (arith, q .some)) (omega (arith, q .block, r .1)) (omega (arith, q .within, r .1, p .5)) (b .0) (b .1) (r .2))
-    (r .0) (omega (arith, c .before .before .before .before .before .before .before .before .before .before .before .before .before .begin-block .kept, c .before .before .before .before .before .before .put-gathered .kept)) refl
+    let r = put ((c .before .before .before .before .before .before)) in
+    let n = c .before .before .before .before .before .before .put-gathered .ensures .0 in
+    listing-turn v (p .3) (c .before .before .before .before .before .before .put-gathered .result .count) (omega (arith, q .within, n))
+    (piece-block _ _ _ (p .1) _ _ _ _ (omega (arith, q .some)) (omega (arith, q .block, n)) (omega (arith, q .within, n, p .5)) (b .0) (b .1) (r .bytes))
+    (r .spot) (omega (arith, c .before .before .before .before .before .before .before .before .before .before .before .before .before .begin-block .kept, c .before .before .before .before .before .before .put-gathered .kept)) refl
 
 same-length-2 : tie.Need-same-length-2 Inv-loop μ-loop
 same-length-2 c = search needs

@@ -1,7 +1,7 @@
 -- Each turn puts the records of one block: the header, where the first begins it, then their cells.
 use native.Mathlib.Nat.{mod-lt}
-use Rattle.cells.specs.Spot.{SpotOf}
-use Rattle.data_blocks.specs.RegionLaws.{Piecing, piecing-begin, piecing-few, piecing-turn, piecing-end, piece-block, begin-room, piece-room, lying-front, lying-past, Piece, piece-of}
+use Rattle.joined.specs.Spot.{SpotOf}
+use Rattle.data_blocks.specs.RegionLaws.{Piecing, piecing-begin, piecing-few, piecing-turn, piecing-end, piece-block, begin-room, lying-past, Piece, piece-of, piece-ready}
 use borrow.Author.Needs.{needs}
 use native.Mathlib.Omega.{arith}
 use Rattle.data_blocks.proofs.piece.put_piece.Statement.{statement}
@@ -52,16 +52,7 @@ least-requires : tie.Need-least-requires Inv-loop μ-loop
 least-requires c κs = search needs
 
 put-stretch-requires : tie.Need-put-stretch-requires Inv-loop μ-loop
-put-stretch-requires c κs =
-    let p = c .before .before .before .before .before .before .before .before .before .before .before .before .before .pre in
-    let v = c .before .before .before .before .before .before .before .before .loop .inv .0 in
-    let q = turn ((c .before)) in
-    let r = piece-room (p .1) (c .before .before .before .before .before .before .before .before .loop .at) (c .before .least .result) (q .some) (q .block) (omega (arith, piecing-few v (p .3), q .within)) in (
-      p .0,
-      c .before .before .before .before .before .before .before .before .loop .inv .1,
-      lying-front (c .before .least .result) (v .lying) (q .some) (omega (arith, q .within)),
-      omega (arith, r, c .before .before .before .before .before .before .begin-block .ensures .0, v .same, c .before .before .before .before .before .before .begin-block .kept),
-    )
+put-stretch-requires c κs = search needs
 
 same-length : tie.Need-same-length Inv-loop μ-loop
 same-length c = search needs
@@ -72,7 +63,8 @@ returns c =
     let v = c .before .before .before .before .before .before .before .before .before .before .before .before .loop .inv .0 in
     let q = turn ((c .before .before .before .before .before)) in
     let b = c .before .before .before .before .before .before .before .before .before .before .begin-block .ensures in
-    let r = c .before .before .before .put-stretch .ensures in
+    let g = piece-ready v (p .3) (p .1) q (b .0) (b .1) in
+    let r = c .before .before .before .put-stretch .ensures (p .0) (c .before .before .before .before .before .before .before .before .before .before .before .before .loop .inv .1) (g .0) (g .1) in
     (r .0, piecing-end v (p .3) (c .before .before .before .before .before .least .result) (omega (arith, q .within)) (piece-block _ _ _ (p .1) _ _ _ _ (q .some) (q .block) (omega (arith, piecing-few v (p .3), q .within)) (b .0) (b .1) (r .1)) (c .if1 .taken))
 
 add-at : tie.Need-add-at Inv-loop μ-loop
@@ -107,7 +99,8 @@ loop-again c =
     let v = c .before .before .before .before .before .before .before .before .before .before .before .before .before .loop .inv .0 in
     let q = turn ((c .before .before .before .before .before .before)) in
     let b = c .before .before .before .before .before .before .before .before .before .before .before .begin-block .ensures in
-    let r = c .before .before .before .before .put-stretch .ensures in (
+    let g = piece-ready v (p .3) (p .1) q (b .0) (b .1) in
+    let r = c .before .before .before .before .put-stretch .ensures (p .0) (c .before .before .before .before .before .before .before .before .before .before .before .before .before .loop .inv .1) (g .0) (g .1) in (
       piecing-turn v (p .3) (c .before .before .before .before .before .before .least .result) (omega (arith, q .within)) (piece-block _ _ _ (p .1) _ _ _ _ (q .some) (q .block) (omega (arith, piecing-few v (p .3), q .within)) (b .0) (b .1) (r .1)) (omega (arith, q .within))
           (omega (arith, c .before .before .before .before .before .before .before .before .before .before .before .begin-block .kept, c .before .before .before .before .put-stretch .kept)),
       r .0,

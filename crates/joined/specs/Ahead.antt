@@ -6,7 +6,7 @@ use lib.ListN.{getD, drop}
 use Rattle.base.specs.Choice.{ifLe, ifEq}
 use Rattle.mdf.specs.Chain.{Fragment}
 use Rattle.work_words.specs.Words.{kindOf, fragmentsOf}
-use Rattle.cells.specs.declared.cursor.Cursor.{Cursor}
+use Rattle.joined.specs.declared.cursor.Cursor.{Cursor}
 
 -- the fragments whose words begin at an index or later
 unfoldable pub later : List ℕ → ℕ → List Fragment

@@ -4,12 +4,12 @@ use mathlib.Core.List.{List, [], _∷_, _++_}
 use mathlib.Core.Bool.{Bool, true, false}
 use mathlib.Core.Path.{_≡_, refl, sym, ap, _∙_}
 use mathlib.Core.Logic.{_⊎_, inl, inr, ⊎-elim}
-use native.Mathlib.Nat.{suc-min-suc}
+use native.Mathlib.Nat.{suc-min-suc, add-zero}
 use native.Mathlib.Omega.{arith}
 use lib.Dec.{ltb}
 use borrow.Author.Tests.{ltb-true, ltb-false}
-use lib.ListN.{length, getD, take, drop, length-drop}
-use lib.Seq.{take-nil, take-take, drop-nil, drop-cons, drop-drop, take-add, take-append-le, drop-append-le, drop-append-add, length-take-le}
+use lib.ListN.{length, getD, take, drop, length-drop, List·getD-append}
+use lib.Seq.{take-nil, take-take, drop-nil, drop-cons, drop-drop, take-add, take-append-le, drop-append-le, drop-append-add, length-take-le, getD-drop, getD-take}
 use Rattle.base.specs.ChoiceLaws.{lt-back, lt-no, le-yes, le-no, eq-yes, eq-no}
 use Rattle.base.specs.Blit.{part, blit}
 use Rattle.base.specs.BlitLaws.{blit-append}
@@ -20,8 +20,8 @@ use Rattle.mdf.specs.Records.{rangesIn, joined, sizeOf}
 use Rattle.payload_laws.specs.Answers.{refused≢ok}
 use Rattle.payload_laws.specs.Lists.{length-part}
 use Rattle.payload_laws.specs.SortedLaws.{joined-length}
-use Rattle.cells.specs.declared.cursor.Cursor.{Cursor}
-use Rattle.cells.specs.Ahead.{later, here, ahead, nextOf, moved, shorter, past, settled}
+use Rattle.joined.specs.declared.cursor.Cursor.{Cursor}
+use Rattle.joined.specs.Ahead.{later, here, ahead, nextOf, moved, shorter, past, settled, Settled}
 
 pub lt-or-le : (m n : ℕ) → (m < n) ⊎ (n ≤ m)
 lt-or-le m n = go (ltb m n) refl
@@ -70,9 +70,6 @@ more-words ws c m h l =
 
 pub next-at : (ws : List ℕ) (k : Cursor) {r : Cursor} → r ≡ nextOf ws k → r .at ≡ k .at + 3
 next-at ws k e = rw e
-
-pub moved-at : (k : Cursor) (m : ℕ) {r : Cursor} → r ≡ moved k m → r .at ≡ k .at
-moved-at k m e = rw e
 
 -- ---- ranges and sizes
 pub ranges-head : (s : List ℕ) (f : Fragment) (fs : List Fragment) → rangesIn s (f ∷ fs) ≡ fine → f .offset + f .size ≤ length s
@@ -247,7 +244,6 @@ some-least (suc a) zero p q = absurd (omega arith)
 pub record Copying (s ws : List ℕ) (k : Cursor) (left to : ℕ) (out g : List ℕ) : Type 0 where
   pub ranges : rangesIn s (ahead ws k) ≡ fine
   pub enough : left ≤ sizeOf (ahead ws k)
-  pub room : to + left ≤ length out
   pub bytes : blit to (take left (joined s (ahead ws k))) out ≡ g
 
 pub copying-next : {s ws out g : List ℕ} {k : Cursor} {left to : ℕ} → Copying s ws k left to out g → 0 < left → k .left ≡ 0
@@ -262,14 +258,13 @@ copying-next {s} {ws} {out} {g} {k} {left} {to} t l z =
       record {
         ranges = ranges-tail s (here ws k) fs (rw e at (t .ranges));
         enough = omega arith;
-        room = t .room;
         bytes = rw (e, joined-zero s (here ws k) fs z) at (t .bytes);
       },
     )
 
 pub copying-piece : {s ws out g last : List ℕ} {k : Cursor} {left to : ℕ} (m : ℕ) → Copying s ws k left to out g → m ≤ left → m ≤ k .left
-    → last ≡ blit to (part (k .position) m s) out → length last ≡ length out → Copying s ws (moved k m) (left - m) (to + m) last g
-copying-piece {s} {ws} {out} {g} {last} {k} {left} {to} m t a b e q =
+    → last ≡ blit to (part (k .position) m s) out → Copying s ws (moved k m) (left - m) (to + m) last g
+copying-piece {s} {ws} {out} {g} {last} {k} {left} {to} m t a b e =
     let fs : List Fragment = ahead ws k in
     let all : List ℕ = joined s fs in
     let p : past m fs ≡ ahead ws (moved k m) = past-here ws k m b in
@@ -283,6 +278,33 @@ copying-piece {s} {ws} {out} {g} {last} {k} {left} {to} m t a b e q =
     record {
       ranges = rw (← p) (ranges-past s m fs (t .ranges));
       enough = omega (arith, t .enough);
-      room = omega (arith, t .room);
       bytes = rw (la, j) by;
     }
+
+-- ---- the first byte of what is ahead
+byte-ahead : (s ws : List ℕ) (k : Cursor) → rangesIn s (ahead ws k) ≡ fine → 0 < k .left
+    → getD s (k .position) 0 ≡ getD (joined s (ahead ws k)) 0 0
+unfolding ahead joined part
+byte-ahead s ws k r h =
+    let p = ranges-here s ws k r in
+    let n : length (take (k .left) (drop (k .position) s)) ≡ k .left = length-take-le (k .left) (drop (k .position) s)
+    (simp length-drop (omega arith)) in
+    sym (List·getD-append (take (k .left) (drop (k .position) s)) (joined s (later ws (k .at))) 0 0 (omega arith)
+    ∙ getD-take (k .left) (drop (k .position) s) 0 0 h ∙ getD-drop (k .position) s 0 0 ∙ rw add-zero)
+
+-- byte i of what is ahead, at the first fragment with bytes past i of them
+pub byte-settled : (s ws : List ℕ) (k a b : Cursor) (i : ℕ) → rangesIn s (ahead ws k) ≡ fine → i < sizeOf (ahead ws k)
+    → ahead ws a ≡ past i (ahead ws k) → (0 < sizeOf (ahead ws a) → Settled ws a b)
+    → (b .position < length s) × (getD s (b .position) 0 ≡ getD (joined s (ahead ws k)) i 0)
+byte-settled s ws k a b i r l e f =
+    let n = size-past i (ahead ws k) (omega arith) in
+    let t : Settled ws a b = f (rw e (omega arith)) in
+    let ra : rangesIn s (ahead ws a) ≡ fine = rw e (ranges-past s i (ahead ws k) r) in
+    let rb : rangesIn s (ahead ws b) ≡ fine = rw (t .is) (ranges-settled s (ahead ws a) ra) in
+    let j : joined s (ahead ws b) ≡ drop i (joined s (ahead ws k)) =
+    ap (joined s) (t .is) ∙ joined-settled s (ahead ws a) ∙ ap (joined s) e ∙ joined-past s i (ahead ws k) r in
+    let h = ranges-here s ws b rb in
+    let z = t .some in (
+      omega arith,
+      byte-ahead s ws b rb (t .some) ∙ ap (λ (l : List ℕ). getD l 0 0) j ∙ getD-drop i (joined s (ahead ws k)) 0 0 ∙ rw add-zero,
+    )

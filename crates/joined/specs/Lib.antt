@@ -1,0 +1,4 @@
+pub mod Ahead
+pub mod AheadLaws
+pub mod Spot
+pub mod SpotLaws
