@@ -60,6 +60,7 @@ struct text text_at(struct image image, uint64_t at)
     return (struct text){bytes, strnlen((const char *)bytes, block.length - front)};
 }
 
+/* A recording's history may hold blocks of other kinds, which are copied as they are; the conversion's own entry is the chain's last. */
 bool last_history(struct image image, struct block *entry)
 {
     struct block header, next;
@@ -67,12 +68,12 @@ bool last_history(struct image image, struct block *entry)
     if (!kind_at(image, HEADER, "HD", &header))
         return false;
     uint64_t at = link_of(image, &header, 1);
-    for (int n = 0; n < MOST_BLOCKS && kind_at(image, at, "FH", &next); n++) {
+    for (int n = 0; n < MOST_BLOCKS && block_at(image, at, &next); n++) {
         *entry = next;
         found = true;
         at = link_of(image, entry, 0);
     }
-    return found;
+    return found && is(entry, "FH");
 }
 
 /* ---- names */

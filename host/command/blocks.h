@@ -37,7 +37,7 @@ uint64_t data_u64(struct image image, const struct block *block, uint64_t byte);
 /* The text of the TX or MD at an offset, up to its first zero byte. */
 struct text text_at(struct image image, uint64_t at);
 
-/* The last FH of the history chain; false where there is none. */
+/* The last block of the history chain; false where there is none, or it is no FH. */
 bool last_history(struct image image, struct block *entry);
 
 /* Names of the channel (CN) at this offset; or of the group, for one of a CG. */

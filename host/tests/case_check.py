@@ -2,13 +2,14 @@
 import hashlib
 import os
 import shutil
+import struct
 import subprocess
 
 from common import (
     DIFFERENT, EXAMPLE, INCOMPLETE, NAMED, REFUSED, SAMPLE, any_user, as_nobody, converts, ends, expect, fails, folder, holds, mounted, open_folder, place,
     read, report_of, run, test, with_fault, write,
 )
-from mdf import File, blocks_of
+from mdf import File, block, blocks_of
 
 
 @any_user
@@ -129,6 +130,25 @@ def storage_that_loses_bytes():
             ends(run("--check", SAMPLE, "r.mf4", cwd=here), DIFFERENT, "first differs at 1000,")
             converts(run(SAMPLE, "s.mf4", "--verify", cwd=here))
             converts(run("--check", SAMPLE, "s.mf4", cwd=here))
+
+
+def with_history(kind):
+    """A recording without data whose history is an FH and a block of another kind."""
+    image = bytearray(b"MDF     4.10    tests   " + bytes(40) + block(b"HD", [0] * 6, bytes(32)))
+    at = len(image)
+    image += block(b"FH", [at + 56, 0], bytes(16)) + block(kind, [0, 0], bytes(16))
+    struct.pack_into("<Q", image, 64 + 24 + 8, at)
+    return bytes(image)
+
+
+@any_user
+def check_with_other_kinds_in_the_history():
+    with folder() as here:
+        for kind in (b"FH", b"CC", b"SI", b"MD", b"TX"):
+            recording = write(os.path.join(here, "a.mf4"), with_history(kind))
+            converts(run(recording, "r.mf4", "--force", cwd=here))
+            converts(run("--check", recording, "r.mf4", cwd=here))
+            converts(run(recording, "r.mf4", "--resume", cwd=here))
 
 
 @test
