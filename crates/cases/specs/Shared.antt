@@ -79,11 +79,12 @@ Units =
     × (shared (units 920 (text 84 88 26 ++ text 77 68 26)) ≡ ok (0 ∷ 0 ∷ []))
     × (shared (units 0 (text 83 73 26)) ≡ ok (0 ∷ 232 ∷ []))
 
--- "Planning starts with the unit texts the Rust reads (4)", with the option; "then, DG by DG, the compared groups' data": a part record (15), which isn't read of
--- a group with a key of its own
+-- "Planning starts with the unit texts the Rust reads (4)", with the option, of equal groups with part records too; "then, DG by DG, the compared groups'
+-- data": a part record (15), which isn't read of a group with a key of its own
 abbrev pub Refusals : Type 0
 Refusals =
-    (shared (set (set (units 920 (text 84 88 26 ++ text 84 88 23)) 328 2) 688 2) ≡ refused 4 920)
+    (shared (set (set (units 888 (text 84 88 23)) 328 2) 688 2) ≡ refused 4 888)
+    × (shared (units 920 (text 84 88 26 ++ text 84 88 23)) ≡ refused 4 920)
     × (times false (units 920 (text 84 88 26 ++ text 84 88 23)) ≡ ok (0 ∷ 0 ∷ []))
     × (shared (set (set (two clock []) 328 2) 688 2) ≡ refused 15 522)
     × (shared (set (set (set (two clock []) 328 2) 688 2) 785 1) ≡ ok (0 ∷ 0 ∷ []))
@@ -109,4 +110,4 @@ by-units = (refl, refl, refl)
 
 pub refusals : Refusals
 unfolding shares
-refusals = (refl, refl, refl, refl)
+refusals = (refl, refl, refl, refl, refl)
