@@ -1,7 +1,8 @@
 -- Laws of the items past a DG: what is left of them gives what all of them give.
-use Prim.Native.Nat.{ℕ, zero, suc, _+_, _-_, _≤_, _<_}
+use Prim.Native.Nat.{ℕ, zero, suc, _+_, _-_, _≤_, _<_, min}
 use mathlib.Core.List.{List, [], _∷_}
 use mathlib.Core.Path.{_≡_, refl, sym, _∙_}
+use native.Mathlib.Nat.{min-eq-left}
 use native.Mathlib.Omega.{arith}
 use lib.ListN.{length, getD}
 use Rattle.base.specs.ChoiceLaws.{eq-yes, eq-no}
@@ -178,45 +179,69 @@ module _ {w : List ℕ} {n d k : ℕ} (t : Passing w n d k) where
         go (suc zero) q l = pass-cg q
         go (suc (suc x)) q l = absurd (omega arith)
 
--- ---- the CG among the first items
-pub record Tallying (w : List ℕ) (n k groups : ℕ) : Type 0 where
+-- ---- with the CG before it
+pub record Going (w : List ℕ) (n d k groups : ℕ) : Type 0 where
+  pub past : Passing w n d k
   pub few : groups ≤ k
-  pub rest : groups + tally (levelCG .own) (itemsFrom w k (n - k)) ≡ tally (levelCG .own) (itemsFrom w 0 n)
+  pub rest : (j : ℕ) → k ≤ j → groups + tally (levelCG .own) (itemsFrom w k (j - k)) ≡ tally (levelCG .own) (itemsFrom w 0 j)
 
-pub tally-begin : {w : List ℕ} {n : ℕ} → Tallying w n 0 0
-tally-begin {n = n} = let e : n - 0 ≡ n = omega arith in record { few = omega arith; rest = rw e (omega arith) }
+pub go-begin : {w : List ℕ} {n d : ℕ} → Going w n d 0 0
+go-begin = record { past = pass-begin; few = omega arith; rest = λ j h. let e : j - 0 ≡ j = omega arith in rw e (omega arith) }
 
-module _ {w : List ℕ} {n k groups : ℕ} (t : Tallying w n k groups) where
-  pub tally-end : n ≤ k → {l : ℕ} → n ≡ l → groups ≡ tally (levelCG .own) (itemsFrom w 0 l)
+module _ {w : List ℕ} {n d k groups : ℕ} (t : Going w n d k groups) where
+  before : groups ≡ tally (levelCG .own) (itemsFrom w 0 k)
   unfolding tally
-  tally-end h q = rw (← q) (let e = rw (no-items w n k h) at (t .rest) in omega arith)
+  before = let e = rw (no-items w k k (omega arith)) at (t .rest k (omega arith)) in omega arith
 
-  module _ (h : k < n) {m : ℕ} (e : m ≡ getD w (1536 + k) 0) where
-    pub tally-cg : m ≡ 1 → Tallying w n (k + 1) (groups + 1)
+  pub go-end : n ≤ k → {l : ℕ} → n ≡ l → (n ≡ pastDG d 0 (itemsFrom w 0 l)) × (groups ≡ tally (levelCG .own) (itemsFrom w 0 (min n l)))
+  go-end h {l} q =
+      let r = t .past .room in
+      let z : min n l ≡ k = min-eq-left {n = n} {m = l} (omega arith) ∙ (let y : n ≡ k = omega arith in y) in
+      (pass-end (t .past) h q, rw z before)
+
+  module _ (h : k < n) {m a : ℕ} (e : m ≡ getD w (1536 + k) 0) (i : a ≡ getD w k 0) where
+    pub go-other : 1 < m → (a ≡ d → ⊥) → Going w n d (k + 1) groups
     unfolding tally
-    tally-cg q =
+    go-other l j =
         let f = t .few in
-        let r = rw (next-cg w n k h e q) at (t .rest) in
-        record { few = omega arith; rest = omega arith }
+        record {
+          past = pass-other (t .past) h e i l j;
+          few = omega arith;
+          rest = λ x y. let r = rw (next-dg w x k (omega arith) e l) at (t .rest x (omega arith)) in omega arith;
+        }
 
-    tally-cn : m ≡ 0 → Tallying w n (k + 1) groups
+    go-cn : m ≡ 0 → Going w n d (k + 1) (groups + m)
     unfolding tally
-    tally-cn q =
+    go-cn q =
         let f = t .few in
-        let r = rw (next-cn w n k h e q) at (t .rest) in
-        record { few = omega arith; rest = omega arith }
+        record {
+          past = pass-on (t .past) h e i (omega arith);
+          few = omega arith;
+          rest = λ x y. let r = rw (next-cn w x k (omega arith) e q) at (t .rest x (omega arith)) in omega arith;
+        }
 
-    tally-dg : 1 < m → Tallying w n (k + 1) groups
+    go-cg : m ≡ 1 → Going w n d (k + 1) (groups + m)
     unfolding tally
-    tally-dg q =
+    go-cg q =
         let f = t .few in
-        let r = rw (next-dg w n k h e q) at (t .rest) in
-        record { few = omega arith; rest = omega arith }
+        record {
+          past = pass-on (t .past) h e i (omega arith);
+          few = omega arith;
+          rest = λ x y. let r = rw (next-cg w x k (omega arith) e q) at (t .rest x (omega arith)) in omega arith;
+        }
 
-    pub tally-on : (m ≡ 1 → ⊥) → Tallying w n (k + 1) groups
-    tally-on l = go m refl
+    pub go-on : m ≤ 1 → Going w n d (k + 1) (groups + m)
+    go-on l = go m refl l
       where
-        go : (x : ℕ) → m ≡ x → Tallying w n (k + 1) groups
-        go zero q = tally-cn q
-        go (suc zero) q = absurd (l q)
-        go (suc (suc x)) q = tally-dg (omega arith)
+        go : (x : ℕ) → m ≡ x → x ≤ 1 → Going w n d (k + 1) (groups + m)
+        go zero q l = go-cn q
+        go (suc zero) q l = go-cg q
+        go (suc (suc x)) q l = absurd (omega arith)
+
+    pub go-hit : 1 < m → a ≡ d → {l : ℕ} → n ≡ l
+        → (k + 1 ≡ pastDG d 0 (itemsFrom w 0 l)) × (groups ≡ tally (levelCG .own) (itemsFrom w 0 (min (k + 1) l)))
+    unfolding tally
+    go-hit p j {l} q =
+        let z : min (k + 1) l ≡ k + 1 = min-eq-left {n = k + 1} {m = l} (omega arith) in
+        let r = rw (next-dg w (k + 1) k (omega arith) e p, no-items w (k + 1) (k + 1) (omega arith)) at (t .rest (k + 1) (omega arith)) in
+        (pass-hit (t .past) h e i p j q, rw z (omega arith))

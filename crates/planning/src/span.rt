@@ -71,39 +71,59 @@ pub fn end_of(source: &[u64], n: u64, i: u64, all: u64) -> u64
     all
 }
 
-// The number of the item past the first DG at d, or the number of items.
-pub fn dg_past(source: &[u64], n: u64, d: u64) -> u64
-    ensures { λ r. ⌜ r ≡ pastDG d 0 (itemsFrom (now (source .entry)) 0 (min n 1536)) ⌝ }
+// Where a DG stands: the number of the item past it, and how many of the items before that are CG.
+pub struct Past {
+    pub item: u64,
+    pub groups: u64,
+}
+
+// Of the first DG at d; of all items where there is none.
+pub fn past_dg(source: &[u64], n: u64, d: u64) -> Past
+    ensures { λ r. ⌜ (r .item ≡ pastDG d 0 (itemsFrom (now (source .entry)) 0 (min n 1536)))
+        × (r .groups ≡ tally (levelCG .own) (itemsFrom (now (source .entry)) 0 (min (r .item) (min n 1536)))) ⌝ }
 {
     let m = least(n, 1536);
     let mut k: u64 = 0;
+    let mut groups: u64 = 0;
     while k < m {
         let mark = word(source, 1536 + k);
         let a = word(source, k);
         k += 1;
         if 1 < mark {
             if a == d {
-                return k;
+                return Past { item: k, groups };
             }
+        } else {
+            groups += mark;
         }
     }
-    m
+    Past { item: m, groups }
 }
 
-// How many of the first i items are CG.
-pub fn groups_before(source: &[u64], n: u64, i: u64) -> u64
-    ensures { λ r. ⌜ r ≡ tally (levelCG .own) (itemsFrom (now (source .entry)) 0 (min i (min n 1536))) ⌝ }
+// What follows a DG: the number of its groups, and of the fragments before the next DG's own.
+pub struct Rest {
+    pub groups: u64,
+    pub end: u64,
+}
+
+// From item i on, of n items; the fragments are all where no DG follows.
+pub fn rest_of(source: &[u64], n: u64, i: u64, all: u64) -> Rest
+    ensures { λ r. ⌜ (r .groups ≡ length (groupsOf (itemsFrom (now (source .entry)) i (min n 1536 - i))))
+        × (r .end ≡ upTo all (itemsFrom (now (source .entry)) i (min n 1536 - i))) ⌝ }
 {
-    let all = least(n, 1536);
-    let m = least(i, all);
-    let mut k: u64 = 0;
+    let m = least(n, 1536);
+    let mut k = i;
     let mut groups: u64 = 0;
     while k < m {
         let mark = word(source, 1536 + k);
-        k += 1;
-        if mark == 1 {
-            groups += 1;
+        if 1 < mark {
+            return Rest {
+                groups,
+                end: mark - 2,
+            };
         }
+        groups += mark;
+        k += 1;
     }
-    groups
+    Rest { groups, end: all }
 }

@@ -3,7 +3,6 @@ pub mod Walked
 pub mod Spans
 pub mod Reading
 pub mod WordsLaws
-pub mod SearchLaws
 pub mod VisitLaws
 pub mod DataLaws
 pub mod CheckedLaws

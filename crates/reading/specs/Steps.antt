@@ -1,4 +1,5 @@
 -- One block of the walk, over the words in which the walk keeps what it met.
+use Prim.{Unit}
 use Prim.Native.Nat.{ℕ, _+_, _*_}
 use mathlib.Core.List.{List}
 use lib.ListN.{length, take, set}
@@ -12,12 +13,18 @@ use Rattle.mdf.specs.Block.{Wanted, CG, CN, linkAt, blockAt}
 use Rattle.mdf.specs.Name.{nameAt}
 use Rattle.mdf.specs.Chain.{isIn, Chain.records, Found, found, stopped, Limits, chain}
 use Rattle.mdf.specs.Walk.{mostItems, idSizeIn}
+use Rattle.index.specs.Index.{Indexed}
 use Rattle.work_words.specs.Words.{marksAt, groupsAt, fragmentWords}
 
 -- the words that a check leaves
 abbrev pub after : Check → List ℕ → Checked (List ℕ)
 after Fine w = ok w
 after (Refused number place) w = refused number place
+
+-- the index that a check leaves: it has one word more
+abbrev pub indexedAfter : Check → List ℕ → ℕ → List ℕ → Type 0
+indexedAfter Fine w n x = Indexed 1 w (n + 1) x
+indexedAfter (Refused number place) w n x = Unit {0}
 
 -- a block at a, with n blocks met before and m of its kind: "11 before it is read", its checks, the limit (19); then its address and mark stand in the words
 unfoldable pub visited : Wanted → List ℕ → List ℕ → ℕ → ℕ → ℕ → ℕ → Checked (List ℕ)

@@ -14,9 +14,13 @@ use Rattle.mdf.specs.Block.{Wanted, CG, CN, linkAt, blockAt}
 use Rattle.mdf.specs.Name.{nameAt}
 use Rattle.mdf.specs.Chain.{isIn}
 use Rattle.mdf.specs.Walk.{mostItems}
+use Rattle.index.specs.Index.{Indexed}
 use Rattle.work_words.specs.Words.{marksAt, groupsAt}
-use Rattle.reading.specs.Steps.{after, visited, metCG, metCN}
+use Rattle.reading.specs.Steps.{after, indexedAfter, visited, metCG, metCN}
 use Rattle.reading.specs.CheckedLaws.{refused≢ok}
+
+pub index-fine : (v : Check) (w : List ℕ) (n : ℕ) (x : List ℕ) → indexedAfter v w n x → v ≡ Fine → Indexed 1 w (n + 1) x
+index-fine v w n x t q = rw q at t
 
 -- what was taken was within the limit
 pub visited-room : (k : Wanted) (s w : List ℕ) (n m y a : ℕ) {w' : List ℕ} → visited k s w n m y a ≡ ok w' → m < mostItems

@@ -1,4 +1,4 @@
-// Reading: what is met is kept in lent words, blocks in `source` and fragments in `fragments`.
+// Reading: what is met is kept in lent words, blocks in `source` and fragments in `fragments`; an index of the blocks tells whether one is met again.
 use crate::answer::Read;
 use crate::answer::Span;
 use crate::answer::Taken;
@@ -13,6 +13,8 @@ use chains::chain::Chained;
 use chains::chain::chain;
 use fields::Check;
 use identification::identify;
+use index::enter;
+use index::is_met;
 use records::group::id_size;
 use records::several::count_groups;
 ghost use mathlib.Core.Path.{_≡_};
@@ -20,38 +22,24 @@ ghost use mathlib.Core.List.{[]};
 ghost use Prim.Native.Nat.{_≤_, _<_};
 ghost use lib.ListN.{length, take, set};
 ghost use Rattle.fields.specs.Answer.{verdictOf};
-ghost use Rattle.mdf.specs.Chain.{isIn, fileLimits};
+ghost use Rattle.mdf.specs.Chain.{fileLimits};
 ghost use Rattle.mdf.specs.Walk.{idSizeIn};
 ghost use Rattle.chains.specs.Node.{limitsFor};
 ghost use Rattle.work_words.specs.Words.{sourceWords, countsAt};
 ghost use Rattle.base.specs.Blit.{blit};
-ghost use Rattle.reading.specs.Steps.{after, visited, metCG, metCN, afterData, dataIn};
+ghost use Rattle.index.specs.Index.{Indexed};
+ghost use Rattle.reading.specs.Steps.{after, indexedAfter, visited, metCG, metCN, afterData, dataIn};
 ghost use Rattle.reading.specs.Walked.{given, walkedFrom, walked};
 ghost use Rattle.reading.specs.Spans.{spanAt};
 ghost use Rattle.reading.specs.Reading.{zeros, fragmentRoom, readOver, Left, readInto};
 ghost use Rattle.reading.specs.Holding.{Holding};
 ghost use Rattle.reading.specs.Counting.{Ready, countedDG, endAt, Counted, CountedIn};
 
-// Whether a stands among the first n words.
-fn seen(source: &[u64], n: u64, a: u64) -> bool
-    requires { ⌜ n ≤ length (now source) ⌝ }
-    ensures { λ r. ⌜ r ≡ isIn a (take n (now (source .entry))) ⌝ }
-{
-    let mut i: u64 = 0;
-    while i < n {
-        let k = i as usize;
-        if source[k] == a {
-            return true;
-        }
-        i += 1;
-    }
-    false
-}
-
-// A block met: 11 before it is read, its checks, then 19. Its address and mark go into the words.
+// A block met: 11 before it is read, its checks, then 19. Its address and mark go into the words, its number into the index.
 fn visit(
     image: &[u8],
     source: &mut [u64],
+    index: &mut [u16; 4096],
     n: u64,
     m: u64,
     mark: u64,
@@ -60,11 +48,12 @@ fn visit(
     links: u64,
     bytes: u64,
 ) -> Check
-    requires { ⌜ (n ≤ 1536) × (sourceWords ≤ length (now source)) ⌝ }
-    ensures { λ r. ⌜ after r (now (source .exit))
+    requires { ⌜ (n ≤ 1536) × (sourceWords ≤ length (now source)) × Indexed 1 (now source) n (now index) ⌝ }
+    ensures met { λ r. ⌜ after r (now (source .exit))
         ≡ visited (record { kind = kind; links = links; bytes = bytes }) (now (image .entry)) (now (source .entry)) n m mark a ⌝ }
+    ensures indexed { λ r. ⌜ indexedAfter r (now (source .exit)) n (now (index .exit)) ⌝ }
 {
-    if seen(source, n, a) {
+    if is_met(source, index, n, a) {
         return Check::Refused {
             number: 11,
             place: a,
@@ -78,6 +67,7 @@ fn visit(
         let i = n as usize;
         source[i] = a;
         source[1536 + i] = mark;
+        enter(index, n, a);
         return Check::Fine;
     }
     Check::Refused {
@@ -87,11 +77,19 @@ fn visit(
 }
 
 // A CG, its name, and its address among the groups.
-fn met_cg(image: &[u8], source: &mut [u64], n: u64, m: u64, a: u64) -> Check
-    requires { ⌜ (n ≤ 1536) × (sourceWords ≤ length (now source)) ⌝ }
-    ensures { λ r. ⌜ after r (now (source .exit)) ≡ metCG (now (image .entry)) (now (source .entry)) n m a ⌝ }
+fn met_cg(
+    image: &[u8],
+    source: &mut [u64],
+    index: &mut [u16; 4096],
+    n: u64,
+    m: u64,
+    a: u64,
+) -> Check
+    requires { ⌜ (n ≤ 1536) × (sourceWords ≤ length (now source)) × Indexed 1 (now source) n (now index) ⌝ }
+    ensures met { λ r. ⌜ after r (now (source .exit)) ≡ metCG (now (image .entry)) (now (source .entry)) n m a ⌝ }
+    ensures indexed { λ r. ⌜ indexedAfter r (now (source .exit)) n (now (index .exit)) ⌝ }
 {
-    let met = visit(image, source, n, m, 1, a, CG, 6, 32);
+    let met = visit(image, source, index, n, m, 1, a, CG, 6, 32);
     if let Check::Refused { number, place } = met {
         return Check::Refused { number, place };
     }
@@ -105,11 +103,19 @@ fn met_cg(image: &[u8], source: &mut [u64], n: u64, m: u64, a: u64) -> Check
 }
 
 // A CN and its name.
-fn met_cn(image: &[u8], source: &mut [u64], n: u64, m: u64, a: u64) -> Check
-    requires { ⌜ (n ≤ 1536) × (sourceWords ≤ length (now source)) ⌝ }
-    ensures { λ r. ⌜ after r (now (source .exit)) ≡ metCN (now (image .entry)) (now (source .entry)) n m a ⌝ }
+fn met_cn(
+    image: &[u8],
+    source: &mut [u64],
+    index: &mut [u16; 4096],
+    n: u64,
+    m: u64,
+    a: u64,
+) -> Check
+    requires { ⌜ (n ≤ 1536) × (sourceWords ≤ length (now source)) × Indexed 1 (now source) n (now index) ⌝ }
+    ensures met { λ r. ⌜ after r (now (source .exit)) ≡ metCN (now (image .entry)) (now (source .entry)) n m a ⌝ }
+    ensures indexed { λ r. ⌜ indexedAfter r (now (source .exit)) n (now (index .exit)) ⌝ }
 {
-    let met = visit(image, source, n, m, 0, a, CN, 8, 72);
+    let met = visit(image, source, index, n, m, 0, a, CN, 8, 72);
     if let Check::Refused { number, place } = met {
         return Check::Refused { number, place };
     }
@@ -167,10 +173,11 @@ fn walk_from(
     file: bool,
     image: &[u8],
     source: &mut [u64],
+    index: &mut [u16; 4096],
     fragments: &mut [u64],
     first: u64,
 ) -> Read
-    requires { ⌜ sourceWords ≤ length (now source) ⌝ }
+    requires { ⌜ (sourceWords ≤ length (now source)) × Indexed 1 (now source) 0 (now index) ⌝ }
     ensures { λ r. ⌜ given r (now (source .exit)) (now (fragments .exit))
         ≡ walkedFrom (limitsFor file) (now (image .entry)) first (now (source .entry)) (now (fragments .entry)) ⌝ }
 {
@@ -188,7 +195,7 @@ fn walk_from(
                 fragments: nf,
             };
         }
-        let met = visit(image, source, n, ndg, 2 + nf, dg, DG, 4, 1);
+        let met = visit(image, source, index, n, ndg, 2 + nf, dg, DG, 4, 1);
         if let Check::Refused { number, place } = met {
             break 'walk Read::Refused { number, place };
         }
@@ -206,7 +213,7 @@ fn walk_from(
         let mut cg = link_at(image, dg, 1);
         dg = link_at(image, dg, 0);
         'groups: while cg != 0 {
-            let met = met_cg(image, source, n, ncg, cg);
+            let met = met_cg(image, source, index, n, ncg, cg);
             if let Check::Refused { number, place } = met {
                 break 'walk Read::Refused { number, place };
             }
@@ -215,7 +222,7 @@ fn walk_from(
             let mut cn = link_at(image, cg, 1);
             cg = link_at(image, cg, 0);
             'channels: while cn != 0 {
-                let met = met_cn(image, source, n, ncn, cn);
+                let met = met_cn(image, source, index, n, ncn, cn);
                 if let Check::Refused { number, place } = met {
                     break 'walk Read::Refused { number, place };
                 }
@@ -239,7 +246,8 @@ fn walk(file: bool, image: &[u8], source: &mut [u64], fragments: &mut [u64]) -> 
         return Read::Refused { number, place };
     }
     let first = link_at(image, 64, 0);
-    walk_from(file, image, source, fragments, first)
+    let mut index = [0u16; 4096];
+    walk_from(file, image, source, &mut index, fragments, first)
 }
 
 // The walk of a file whose columns are read: its blocks are kept, its fragments counted only.

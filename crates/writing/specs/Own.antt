@@ -9,6 +9,7 @@ use Rattle.mdf.specs.Group.{groupsOf, upTo}
 use Rattle.planning.specs.Items.{itemsFrom}
 use Rattle.planning.specs.Span.{pastDG}
 use Rattle.writing.specs.declared.own.Own.{Own}
+use Rattle.writing.specs.declared.own.Known.{Known}
 
 -- of the DG that item i follows, among n items; nf fragments are kept. The mark of item i - 1 is word 1535 + i
 unfoldable pub ownPast : List ℕ → ℕ → ℕ → ℕ → Own
@@ -30,6 +31,11 @@ pub record OwnOf (w : List ℕ) (n nf d : ℕ) (r : Own) : Type 0 where
   pub within : r .end ≤ nf
   pub before : r .first ≤ 1536
   pub few : r .groups ≤ 1536
+
+-- what is known of two DG is right
+pub record Knows (w : List ℕ) (n nf : ℕ) (k : Known) : Type 0 where
+  pub last : OwnOf w n nf (k .parent) (k .own)
+  pub earlier : OwnOf w n nf (k .before) (k .other)
 
 -- the words of its fragments
 unfoldable pub ownWords : List ℕ → Own → List ℕ

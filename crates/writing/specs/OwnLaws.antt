@@ -12,7 +12,9 @@ use Rattle.mdf.specs.Walk.{Item, dg, cg, cn, levelCG, tally}
 use Rattle.mdf.specs.Group.{groupsOf, upTo}
 use Rattle.planning.specs.Items.{itemsFrom}
 use Rattle.planning.specs.Span.{pastDG}
-use Rattle.writing.specs.Own.{ownPast, ownIn, OwnOf}
+use Rattle.writing.specs.declared.own.Own.{Own}
+use Rattle.writing.specs.declared.own.Known.{Known}
+use Rattle.writing.specs.Own.{ownPast, ownIn, OwnOf, Knows}
 
 -- ---- few
 pub length-from : (w : List ℕ) (i n : ℕ) → length (itemsFrom w i n) ≡ n
@@ -78,3 +80,16 @@ own-is w n nf d {i} {u} {e} {m} {t} {b} {f} {g} p q x y z v k l =
       before = omega arith;
       few = omega arith;
     }
+
+-- ---- what is known of two DG
+module _ {w : List ℕ} {n nf : ℕ} {k : Known} {d : ℕ} (t : Knows w n nf k) where
+  pub know-again : k .parent ≡ d → Knows w n nf k × OwnOf w n nf d (k .own)
+  know-again e = (t, rw e at (t .last))
+
+  pub know-other : k .before ≡ d
+      → Knows w n nf (record { parent = d; own = k .other; before = k .parent; other = k .own }) × OwnOf w n nf d (k .other)
+  know-other e = let o : OwnOf w n nf d (k .other) = rw e at (t .earlier) in (record { last = o; earlier = t .last }, o)
+
+  pub know-new : {o : Own} → OwnOf w n nf d o
+      → Knows w n nf (record { parent = d; own = o; before = k .parent; other = k .own }) × OwnOf w n nf d o
+  know-new q = (record { last = q; earlier = t .last }, q)

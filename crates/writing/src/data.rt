@@ -1,6 +1,8 @@
 // The data blocks and signal data of columns, in address order: of each column zeros and its data blocks, zeros and its SD.
 use crate::gap::gap;
-use crate::own::own_of;
+use crate::own::Own;
+use crate::own::known_first;
+use crate::own::known_of;
 use crate::signal::joined_size;
 use crate::signal::write_signal;
 use channels::block_count;
@@ -19,6 +21,7 @@ ghost use Rattle.mdf.specs.Records.{joined};
 ghost use Rattle.result.specs.Fill.{block, blockOf};
 ghost use Rattle.result.specs.Ordered.{Ordered};
 ghost use Rattle.writing.specs.Wrote.{Wrote};
+ghost use Rattle.writing.specs.Own.{OwnOf};
 ghost use Rattle.writing.specs.Data.{entryIn, entryBytes, entryBlocks, entrySignal, dataFrom, Tables, EntryReady, DataReady, Kept};
 
 // A column: its CN, CG and DG, its number of records; the number of fragments before its signal data's and 1, or 0 for none, and how many
@@ -53,7 +56,7 @@ pub(crate) fn entry_at(columns: &[u64], memo: &[u64], k: u64) -> Entry
     }
 }
 
-// The data blocks of column e, at the front of out.
+// The data blocks of column e, at the front of out; o is what is held of its DG.
 fn put_blocks(
     out: &mut [u8],
     image: &[u8],
@@ -65,15 +68,15 @@ fn put_blocks(
     pool: &mut [u64],
     words: &mut [u64],
     e: Entry,
+    o: Own,
 )
     requires { ⌜ Tables (now source) (now fragments) nf × EntryReady (now image) (now source) n (now fragments) nf e
         × (length (entryBytes (now image) size (now source) n (now fragments) nf e) ≤ length (now out))
-        × Kept (now image) (now source) n (now fragments) nf (now pool) (now words) ⌝ }
+        × Kept (now image) (now source) n (now fragments) nf (now pool) (now words) × OwnOf (now source) n nf (e .parent) o ⌝ }
     ensures { λ _. ⌜ Kept (now (image .entry)) (now (source .entry)) n (now (fragments .entry)) nf (now (pool .exit)) (now (words .exit))
         × (now (out .exit) ≡ blit 0 (entryBytes (now (image .entry)) size (now (source .entry)) n (now (fragments .entry)) nf e)
         (now (out .entry))) ⌝ }
 {
-    let o = own_of(source, n, nf, e.parent);
     let p = (3 * o.begin) as usize;
     let q = (3 * o.end) as usize;
     let f = (3072 + o.first) as usize;
@@ -111,10 +114,11 @@ fn write_column(
     pool: &mut [u64],
     words: &mut [u64],
     e: Entry,
+    o: Own,
 ) -> usize
     requires { ⌜ Tables (now source) (now fragments) nf × EntryReady (now image) (now source) n (now fragments) nf e
         × Ordered at (entryBlocks (now image) size (now source) n (now fragments) nf e) (length (now out))
-        × Kept (now image) (now source) n (now fragments) nf (now pool) (now words) ⌝ }
+        × Kept (now image) (now source) n (now fragments) nf (now pool) (now words) × OwnOf (now source) n nf (e .parent) o ⌝ }
     ensures { λ r. ⌜ Kept (now (image .entry)) (now (source .entry)) n (now (fragments .entry)) nf (now (pool .exit)) (now (words .exit))
         × Wrote at (entryBlocks (now (image .entry)) size (now (source .entry)) n (now (fragments .entry)) nf e) r
         (now (out .entry)) (now (out .exit)) ⌝ }
@@ -138,6 +142,7 @@ fn write_column(
         pool,
         words,
         e,
+        o,
     );
     past
 }
@@ -189,12 +194,15 @@ pub(crate) fn write_data(
 {
     let mut pool = [0u64; 4096];
     forget(words);
+    let mut known = known_first(source, n, nf);
     let mut k = 0;
     let mut p = at;
     while k < number {
         let e = entry_at(columns, memo, k);
+        known = known_of(source, n, nf, known, e.parent);
+        let own = known.own;
         p = write_column(
-            out, p, image, size, source, n, fragments, nf, &mut pool, words, e,
+            out, p, image, size, source, n, fragments, nf, &mut pool, words, e, own,
         );
         p = write_signal_of(out, p, image, fragments, e);
         k += 1;

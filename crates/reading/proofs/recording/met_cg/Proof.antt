@@ -1,6 +1,7 @@
 -- Each way out is one case of the definition; a CG that was taken has room among the groups.
 use native.Mathlib.Omega.{arith}
-use Rattle.reading.specs.VisitLaws.{cg-room, cg-refused, cg-unnamed, cg-named}
+use Rattle.index.specs.MetLaws.{indexed-set}
+use Rattle.reading.specs.VisitLaws.{index-fine, cg-room, cg-refused, cg-unnamed, cg-named}
 use borrow.Author.Needs.{needs}
 use Rattle.reading.proofs.recording.met_cg.Statement.{statement}
 use Rattle.reading.proofs.recording.met_cg.Tie as tie
@@ -15,7 +16,7 @@ same-length : tie.Need-same-length
 same-length c = search needs
 
 returns : tie.Need-returns
-returns c = cg-refused _ _ _ _ _ _ (c .before .before .before .before .before .visit .ensures) (c .before .met .given .1)
+returns c = (cg-refused _ _ _ _ _ _ (c .before .before .before .before .before .visit .ensures .0) (c .before .met .given .1), tt)
 
 enum-told : tie.Need-enum-told
 enum-told c = search needs
@@ -33,42 +34,34 @@ same-length-2 : tie.Need-same-length-2
 same-length-2 c = search needs
 
 returns-2 : tie.Need-returns-2
-returns-2 c =
-    let n = c .before .before .before in
-    let v = n .before .before .before .before .before .before in
-    cg-unnamed _ _ _ _ _ _ (v .visit .ensures) (n .before .before .enum-told .given .1) (n .before .link-at .ensures)
-    (n .name-at .ensures) (c .before .named .given .1)
+returns-2 c = (
+  cg-unnamed _ _ _ _ _ _ (c .before .before .before .before .before .before .before .before .before .visit .ensures .0) (c .before .before .before .before .before .enum-told .given .1) (c .before .before .before .before .link-at .ensures) (c .before .before .before .name-at .ensures) (c .before .named .given .1),
+  tt,
+)
 
 enum-told-2 : tie.Need-enum-told-2
 enum-told-2 c = search needs
 
 add-source : tie.Need-add-source
 add-source c =
-    let e = c .before .before .before .before in
-    let v = e .before .before .before .before in
-    let l = cg-room _ _ _ _ _ _ (v .visit .ensures) (e .enum-told .given .1) in omega arith
+    let l = cg-room _ _ _ _ _ _ (c .before .before .before .before .before .before .before .before .visit .ensures .0) (c .before .before .before .before .enum-told .given .1) in omega arith
 
 mul-source : tie.Need-mul-source
 mul-source c =
-    let e = c .before .before .before .before in
-    let v = e .before .before .before .before in
-    let l = cg-room _ _ _ _ _ _ (v .visit .ensures) (e .enum-told .given .1) in omega arith
+    let l = cg-room _ _ _ _ _ _ (c .before .before .before .before .before .before .before .before .visit .ensures .0) (c .before .before .before .before .enum-told .given .1) in omega arith
 
 slice-write-source : tie.Need-slice-write-source
 slice-write-source c =
-    let e = c .before .before .before .before in
-    let v = e .before .before .before .before in
-    let l = cg-room _ _ _ _ _ _ (v .visit .ensures) (e .enum-told .given .1) in omega arith
+    let l = cg-room _ _ _ _ _ _ (c .before .before .before .before .before .before .before .before .visit .ensures .0) (c .before .before .before .before .enum-told .given .1) in omega arith
 
 same-length-3 : tie.Need-same-length-3
 same-length-3 c = search needs
 
 returns-3 : tie.Need-returns-3
-returns-3 c =
-    let l = c .before .before .before in
-    let v = l .before .before .before .before .before in
-    cg-named _ _ _ _ _ _ (v .visit .ensures) (l .before .enum-told .given .1) (l .link-at .ensures)
-    (c .before .before .name-at .ensures) (c .enum-told2 .given .1)
+returns-3 c = (
+  cg-named _ _ _ _ _ _ (c .before .before .before .before .before .before .before .before .visit .ensures .0) (c .before .before .before .before .enum-told .given .1) (c .before .before .before .link-at .ensures) (c .before .before .name-at .ensures) (c .enum-told2 .given .1),
+  indexed-set _ _ _ _ _ (omega arith) (index-fine _ _ _ _ (c .before .before .before .before .before .before .before .before .visit .ensures .1) (c .before .before .before .before .enum-told .given .1)),
+)
 
 pub met-cg-spec : {M : Type 1} → statement M
 met-cg-spec =

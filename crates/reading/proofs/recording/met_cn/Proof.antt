@@ -1,5 +1,5 @@
 -- Each way out is one case of the definition.
-use Rattle.reading.specs.VisitLaws.{cn-refused, cn-unnamed, cn-named}
+use Rattle.reading.specs.VisitLaws.{index-fine, cn-refused, cn-unnamed, cn-named}
 use borrow.Author.Needs.{needs}
 use Rattle.reading.proofs.recording.met_cn.Statement.{statement}
 use Rattle.reading.proofs.recording.met_cn.Tie as tie
@@ -14,7 +14,7 @@ same-length : tie.Need-same-length
 same-length c = search needs
 
 returns : tie.Need-returns
-returns c = cn-refused _ _ _ _ _ _ (c .before .before .before .before .before .visit .ensures) (c .before .met .given .1)
+returns c = (cn-refused _ _ _ _ _ _ (c .before .before .before .before .before .visit .ensures .0) (c .before .met .given .1), tt)
 
 enum-told : tie.Need-enum-told
 enum-told c = search needs
@@ -32,11 +32,10 @@ same-length-2 : tie.Need-same-length-2
 same-length-2 c = search needs
 
 returns-2 : tie.Need-returns-2
-returns-2 c =
-    let n = c .before .before .before in
-    let v = n .before .before .before .before .before .before in
-    cn-unnamed _ _ _ _ _ _ (v .visit .ensures) (n .before .before .enum-told .given .1) (n .before .link-at .ensures)
-    (n .name-at .ensures) (c .before .named .given .1)
+returns-2 c = (
+  cn-unnamed _ _ _ _ _ _ (c .before .before .before .before .before .before .before .before .before .visit .ensures .0) (c .before .before .before .before .before .enum-told .given .1) (c .before .before .before .before .link-at .ensures) (c .before .before .before .name-at .ensures) (c .before .named .given .1),
+  tt,
+)
 
 enum-told-2 : tie.Need-enum-told-2
 enum-told-2 c = search needs
@@ -45,11 +44,10 @@ same-length-3 : tie.Need-same-length-3
 same-length-3 c = search needs
 
 returns-3 : tie.Need-returns-3
-returns-3 c =
-    let l = c .before .before .before in
-    let v = l .before .before .before .before .before in
-    cn-named _ _ _ _ _ _ (v .visit .ensures) (l .before .enum-told .given .1) (l .link-at .ensures)
-    (c .before .before .name-at .ensures) (c .enum-told2 .given .1)
+returns-3 c = (
+  cn-named _ _ _ _ _ _ (c .before .before .before .before .before .before .before .before .visit .ensures .0) (c .before .before .before .before .enum-told .given .1) (c .before .before .before .link-at .ensures) (c .before .before .name-at .ensures) (c .enum-told2 .given .1),
+  index-fine _ _ _ _ (c .before .before .before .before .before .before .before .before .visit .ensures .1) (c .before .before .before .before .enum-told .given .1),
+)
 
 pub met-cn-spec : {M : Type 1} → statement M
 met-cn-spec =

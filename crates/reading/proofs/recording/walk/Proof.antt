@@ -1,4 +1,5 @@
 -- HD's check, then what the walk from its first DG gives.
+use Rattle.index.specs.IndexLaws.{index-begin}
 use Rattle.reading.specs.WalkedLaws.{head-refused, head-fine}
 use borrow.Author.Needs.{needs}
 use Rattle.reading.proofs.recording.walk.Statement.{statement}
@@ -20,7 +21,7 @@ link-at-requires : tie.Need-link-at-requires
 link-at-requires c κs = search needs
 
 walk-from-requires : tie.Need-walk-from-requires
-walk-from-requires c κs = search needs
+walk-from-requires c κs = (c .before .before .before .before .before .before .before .before .before .before .pre, index-begin _ _)
 
 same-length : tie.Need-same-length
 same-length c = search needs
@@ -29,11 +30,7 @@ same-length-2 : tie.Need-same-length-2
 same-length-2 c = search needs
 
 returns-2 : tie.Need-returns-2
-returns-2 c =
-    let w = c .before .before .before .before in
-    let l = w .before .before .before in
-    let b = l .before .before .before in
-    head-fine _ _ _ _ (b .block-at .ensures) (l .before .enum-told .given .1) (l .link-at .ensures) (w .walk-from .ensures)
+returns-2 c = head-fine _ _ _ _ (c .before .before .before .before .before .before .before .before .before .before .before .block-at .ensures) (c .before .before .before .before .before .before .before .before .before .enum-told .given .1) (c .before .before .before .before .before .before .before .before .link-at .ensures) (c .before .before .before .before .walk-from .ensures)
 
 pub walk-spec : {M : Type 1} → statement M
 walk-spec =

@@ -6,7 +6,9 @@ use mathlib.Core.Path.{refl}
 use Rattle.mdf.specs.Walk.{levelDG, levelCG, levelCN, belowDG, belowCG, belowCN, mostItems}
 use Rattle.chains.specs.Node.{limitsFor}
 use Rattle.chains.specs.TurnLaws.{fragments-for}
+use Rattle.index.specs.Index.{Indexed}
 use Rattle.reading.specs.Held.{state}
+use Rattle.reading.specs.VisitLaws.{index-fine}
 use Rattle.reading.specs.HeldLaws.{after-fine, after-refused, after-done, after-stopped, dg-stops, dg-gives, dg-within, cg-stops, cg-gives, cg-within}
 use Rattle.reading.specs.HeldLaws.{cn-stops, cn-gives, cn-within, data-stops, data-gives, data-within}
 use Rattle.reading.specs.LevelLaws.{Turn, begin, turn-end, turn-stop, turn-on, cn-block, cn-block-stops, cg-block, cg-below-stops, cg-block-stops}
@@ -16,37 +18,37 @@ use Rattle.reading.proofs.recording.walk_from.Statement.{statement}
 use Rattle.reading.proofs.recording.walk_from.Tie as tie
 
 abbrev Inv-channels : tie.InvT-channels
-Inv-channels file image source₀ fragments first n₀ ndg ncg ncn₀ nf dg cg cn₀ source n ncn cn =
+Inv-channels file image source₀ index₀ fragments first n₀ ndg ncg ncn₀ nf dg cg cn₀ source index n ncn cn =
     Turn levelCN (belowCN image) image cn₀ (state source₀ fragments n₀ ndg ncg ncn₀ nf) cn ncn (state source fragments n ndg ncg
-        ncn nf)
+        ncn nf) × Indexed 1 source n index
 
 abbrev μ-channels : tie.MeasureT-channels
-μ-channels file image source₀ fragments first n₀ ndg ncg ncn₀ nf dg cg cn₀ source n ncn cn = mostItems - ncn
+μ-channels file image source₀ index₀ fragments first n₀ ndg ncg ncn₀ nf dg cg cn₀ source index n ncn cn = mostItems - ncn
 
 abbrev Inv-groups : tie.InvT-groups
-Inv-groups file image source₀ fragments first n₀ ndg ncg₀ ncn₀ nf dg cg₀ source n ncg ncn cg =
+Inv-groups file image source₀ index₀ fragments first n₀ ndg ncg₀ ncn₀ nf dg cg₀ source index n ncg ncn cg =
     Turn levelCG (belowCG image) image cg₀ (state source₀ fragments n₀ ndg ncg₀ ncn₀ nf) cg ncg (state source fragments n ndg ncg
-        ncn nf)
+        ncn nf) × Indexed 1 source n index
 
 abbrev μ-groups : tie.MeasureT-groups
-μ-groups file image source₀ fragments first n₀ ndg ncg₀ ncn₀ nf dg cg₀ source n ncg ncn cg = mostItems - ncg
+μ-groups file image source₀ index₀ fragments first n₀ ndg ncg₀ ncn₀ nf dg cg₀ source index n ncg ncn cg = mostItems - ncg
 
 abbrev Inv-walk : tie.InvT-walk
-Inv-walk file image source₀ fragments₀ first n₀ ndg₀ ncg₀ ncn₀ nf₀ dg₀ source fragments n ndg ncg ncn nf dg =
+Inv-walk file image source₀ index₀ fragments₀ first n₀ ndg₀ ncg₀ ncn₀ nf₀ dg₀ source index fragments n ndg ncg ncn nf dg =
     Turn levelDG (belowDG (limitsFor file) image) image dg₀ (state source₀ fragments₀ n₀ ndg₀ ncg₀ ncn₀ nf₀) dg ndg (state source fragments n ndg
-        ncg ncn nf)
+        ncg ncn nf) × Indexed 1 source n index
 
 abbrev μ-walk : tie.MeasureT-walk
-μ-walk file image source₀ fragments₀ first n₀ ndg₀ ncg₀ ncn₀ nf₀ dg₀ source fragments n ndg ncg ncn nf dg = mostItems - ndg
+μ-walk file image source₀ index₀ fragments₀ first n₀ ndg₀ ncg₀ ncn₀ nf₀ dg₀ source index fragments n ndg ncg ncn nf dg = mostItems - ndg
 
 walk-holds : tie.Need-walk-holds Inv-channels μ-channels Inv-groups μ-groups Inv-walk μ-walk
-walk-holds c = begin _ _ _ _ _ (within-none _ _ (c .before .before .before .pre))
+walk-holds c = (begin _ _ _ _ _ (within-none _ _ (c .before .before .before .pre .0)), c .before .before .before .pre .1)
 
 add-visit : tie.Need-add-visit Inv-channels μ-channels Inv-groups μ-groups Inv-walk μ-walk
 add-visit c = search needs
 
 visit-requires : tie.Need-visit-requires Inv-channels μ-channels Inv-groups μ-groups Inv-walk μ-walk
-visit-requires c κs = search needs
+visit-requires c κs = let r = c .before .before .before .walk .inv .0 .within in (omega (arith, r), r .long, c .before .before .before .walk .inv .1)
 
 enum-known-met : tie.Need-enum-known-met Inv-channels μ-channels Inv-groups μ-groups Inv-walk μ-walk
 enum-known-met c = search needs
@@ -76,39 +78,32 @@ link-at-requires-2 : tie.Need-link-at-requires-2 Inv-channels μ-channels Inv-gr
 link-at-requires-2 c κs = search needs
 
 groups-holds : tie.Need-groups-holds Inv-channels μ-channels Inv-groups μ-groups Inv-walk μ-walk
-groups-holds c =
-    let f = c .before .before .before .before .before .before .before in
-    let v = f .before .before .before .before .before .before in
-    let w = v .before .before .before in
-    begin _ _ _ _ _ (data-within _ _ _ _ (f .take-data .ensures) (after-done _ _ (c .before .before .before .taken2 .given .1))
-    (fragments-for (c .before .before .before .before .before .before .before .before .before .before .before .before .before .before .before .before .before .before .before .before .args .file)) (dg-within _ _ _ (w .walk .inv .within) (v .visit .ensures) (after-fine _ _ (f .before .before .enum-told .given .1)) (omega
-        arith)))
+groups-holds c = (
+  begin _ _ _ _ _ (data-within _ _ _ _ (c .before .before .before .before .before .before .before .take-data .ensures) (after-done _ _ (c .before .before .before .taken2 .given .1))
+      (fragments-for (c .before .before .before .before .before .before .before .before .before .before .before .before .before .before .before .before .before .before .before .before .before .args .file)) (dg-within _ _ _ (c .before .before .before .before .before .before .before .before .before .before .before .before .before .before .before .before .before .walk .inv .0 .within) (c .before .before .before .before .before .before .before .before .before .before .before .before .before .visit .ensures .0) (after-fine _ _ (c .before .before .before .before .before .before .before .before .before .enum-told .given .1)) (omega
+          arith))),
+  index-fine _ _ _ _ (c .before .before .before .before .before .before .before .before .before .before .before .before .before .visit .ensures .1) (c .before .before .before .before .before .before .before .before .before .enum-told .given .1),
+)
 
 walk-less : tie.Need-walk-less Inv-channels μ-channels Inv-groups μ-groups Inv-walk μ-walk
 walk-less c =
-    let g = c .before in
-    let f = g .before .before .before .before .before .before .before .before in
-    let v = f .before .before .before .before .before .before in
-    let w = v .before .before .before in
-    let r = dg-within _ _ _ (w .walk .inv .within) (v .visit .ensures) (after-fine _ _ (f .before .before .enum-told .given .1))
+    let r = dg-within _ _ _ (c .before .before .before .before .before .before .before .before .before .before .before .before .before .before .before .before .before .before .before .walk .inv .0 .within) (c .before .before .before .before .before .before .before .before .before .before .before .before .before .before .before .visit .ensures .0) (after-fine _ _ (c .before .before .before .before .before .before .before .before .before .before .before .enum-told .given .1))
         (omega arith) in
     omega arith
 
 walk-again : tie.Need-walk-again Inv-channels μ-channels Inv-groups μ-groups Inv-walk μ-walk
-walk-again c =
-    let g = c .before in
-    let f = g .before .before .before .before .before .before .before .before in
-    let v = f .before .before .before .before .before .before in
-    let w = v .before .before .before in
-    turn-on (w .walk .inv) (v .before .before .if1 .left) (w .walk .inv .within .dg-room)
-    (dg-block _ _ _ _ (g .before .before .link-at .ensures)
-    (dg-gives _ _ _ (w .walk .inv .within) (v .visit .ensures) (after-fine _ _ (f .before .before .enum-told .given .1)))
-    (data-gives _ _ _ _ (f .take-data .ensures) (after-done _ _ (g .before .before .before .before .taken2 .given .1)))
-    (turn-end (g .groups .inv) (c .groups-test .left) (g .groups .inv .within .cg-room)))
-    (g .before .link-at2 .ensures) (omega arith) (g .groups .inv .within) (omega arith) (omega arith)
+walk-again c = (
+  turn-on (c .before .before .before .before .before .before .before .before .before .before .before .before .before .before .before .before .before .before .before .walk .inv .0) (c .before .before .before .before .before .before .before .before .before .before .before .before .before .before .before .before .before .before .if1 .left) (c .before .before .before .before .before .before .before .before .before .before .before .before .before .before .before .before .before .before .before .walk .inv .0 .within .dg-room)
+      (dg-block _ _ _ _ (c .before .before .before .link-at .ensures)
+      (dg-gives _ _ _ (c .before .before .before .before .before .before .before .before .before .before .before .before .before .before .before .before .before .before .before .walk .inv .0 .within) (c .before .before .before .before .before .before .before .before .before .before .before .before .before .before .before .visit .ensures .0) (after-fine _ _ (c .before .before .before .before .before .before .before .before .before .before .before .enum-told .given .1)))
+      (data-gives _ _ _ _ (c .before .before .before .before .before .before .before .before .before .take-data .ensures) (after-done _ _ (c .before .before .before .before .before .taken2 .given .1)))
+      (turn-end (c .before .groups .inv .0) (c .groups-test .left) (c .before .groups .inv .0 .within .cg-room)))
+      (c .before .before .link-at2 .ensures) (omega arith) (c .before .groups .inv .0 .within) (omega arith) (omega arith),
+  c .before .groups .inv .1,
+)
 
 met-cg-requires : tie.Need-met-cg-requires Inv-channels μ-channels Inv-groups μ-groups Inv-walk μ-walk
-met-cg-requires c κs = search needs
+met-cg-requires c κs = let r = c .before .before .before .groups .inv .0 .within in (omega (arith, r), r .long, c .before .before .before .groups .inv .1)
 
 enum-known-met-2 : tie.Need-enum-known-met-2 Inv-channels μ-channels Inv-groups μ-groups Inv-walk μ-walk
 enum-known-met-2 c = search needs
@@ -129,34 +124,33 @@ link-at-requires-4 : tie.Need-link-at-requires-4 Inv-channels μ-channels Inv-gr
 link-at-requires-4 c κs = search needs
 
 channels-holds : tie.Need-channels-holds Inv-channels μ-channels Inv-groups μ-groups Inv-walk μ-walk
-channels-holds c =
-    let g = c .before .before .before .before .before .before .before .before .before in
-    begin _ _ _ _ _ (cg-within _ _ _ (g .groups .inv .within)
-        (c .before .before .before .before .before .before .met-cg .ensures) (after-fine _ _
-        (c .before .before .enum-told2 .given .1)) (omega arith))
+channels-holds c = (
+  begin _ _ _ _ _ (cg-within _ _ _ (c .before .before .before .before .before .before .before .before .before .before .groups .inv .0 .within)
+          (c .before .before .before .before .before .before .met-cg .ensures .0) (after-fine _ _
+          (c .before .before .enum-told2 .given .1)) (omega arith)),
+  index-fine _ _ _ _ (c .before .before .before .before .before .before .met-cg .ensures .1) (c .before .before .enum-told2 .given .1),
+)
 
 groups-less : tie.Need-groups-less Inv-channels μ-channels Inv-groups μ-groups Inv-walk μ-walk
 groups-less c =
-    let n = c .before in
-    let g = n .before .before .before .before .before .before .before .before .before .before in
-    let r = cg-within _ _ _ (g .groups .inv .within) (n .before .before .before .before .before .before .before .met-cg .ensures)
-        (after-fine _ _ (n .before .before .before .enum-told2 .given .1)) (omega arith) in
+    let r = cg-within _ _ _ (c .before .before .before .before .before .before .before .before .before .before .before .before .groups .inv .0 .within) (c .before .before .before .before .before .before .before .before .met-cg .ensures .0)
+        (after-fine _ _ (c .before .before .before .before .enum-told2 .given .1)) (omega arith) in
     omega arith
 
 groups-again : tie.Need-groups-again Inv-channels μ-channels Inv-groups μ-groups Inv-walk μ-walk
-groups-again c =
-    let n = c .before in
-    let g = n .before .before .before .before .before .before .before .before .before .before in
-    turn-on (g .groups .inv) (n .before .before .before .before .before .before .before .before .before .groups-test .taken)
-        (g .groups .inv .within .cg-room)
-    (cg-block _ _ _ (n .before .before .link-at3 .ensures)
-    (cg-gives _ _ _ (g .groups .inv .within) (n .before .before .before .before .before .before .before .met-cg .ensures)
-        (after-fine _ _ (n .before .before .before .enum-told2 .given .1)))
-    (turn-end (n .channels .inv) (c .channels-test .left) (n .channels .inv .within .cn-room)))
-    (n .before .link-at4 .ensures) (omega arith) (n .channels .inv .within) (omega arith) refl
+groups-again c = (
+  turn-on (c .before .before .before .before .before .before .before .before .before .before .before .before .groups .inv .0) (c .before .before .before .before .before .before .before .before .before .before .before .groups-test .taken)
+          (c .before .before .before .before .before .before .before .before .before .before .before .before .groups .inv .0 .within .cg-room)
+      (cg-block _ _ _ (c .before .before .before .link-at3 .ensures)
+      (cg-gives _ _ _ (c .before .before .before .before .before .before .before .before .before .before .before .before .groups .inv .0 .within) (c .before .before .before .before .before .before .before .before .met-cg .ensures .0)
+          (after-fine _ _ (c .before .before .before .before .enum-told2 .given .1)))
+      (turn-end (c .before .channels .inv .0) (c .channels-test .left) (c .before .channels .inv .0 .within .cn-room)))
+      (c .before .before .link-at4 .ensures) (omega arith) (c .before .channels .inv .0 .within) (omega arith) refl,
+  c .before .channels .inv .1,
+)
 
 met-cn-requires : tie.Need-met-cn-requires Inv-channels μ-channels Inv-groups μ-groups Inv-walk μ-walk
-met-cn-requires c κs = search needs
+met-cn-requires c κs = let r = c .before .before .before .channels .inv .0 .within in (omega (arith, r), r .long, c .before .before .before .channels .inv .1)
 
 enum-known-met-3 : tie.Need-enum-known-met-3 Inv-channels μ-channels Inv-groups μ-groups Inv-walk μ-walk
 enum-known-met-3 c = search needs
@@ -175,22 +169,22 @@ link-at-requires-5 c κs = search needs
 
 channels-less : tie.Need-channels-less Inv-channels μ-channels Inv-groups μ-groups Inv-walk μ-walk
 channels-less c =
-    let n = c .before .before .before .before .before .before .before .before in
-    let r = cn-within _ _ _ (n .channels .inv .within) (c .before .before .before .before .before .met-cn .ensures) (after-fine _
+    let r = cn-within _ _ _ (c .before .before .before .before .before .before .before .before .before .channels .inv .0 .within) (c .before .before .before .before .before .met-cn .ensures .0) (after-fine _
         _ (c .before .enum-told3 .given .1)) (omega arith) in
     omega arith
 
 channels-again : tie.Need-channels-again Inv-channels μ-channels Inv-groups μ-groups Inv-walk μ-walk
-channels-again c =
-    let n = c .before .before .before .before .before .before .before .before in
-    turn-on (n .channels .inv) (c .before .before .before .before .before .before .before .channels-test .taken)
-        (n .channels .inv .within .cn-room)
-    (cn-block _ _ (cn-gives _ _ _ (n .channels .inv .within) (c .before .before .before .before .before .met-cn .ensures)
-        (after-fine _ _ (c .before .enum-told3 .given .1))))
-    (c .link-at5 .ensures) (omega arith)
-    (cn-within _ _ _ (n .channels .inv .within) (c .before .before .before .before .before .met-cn .ensures) (after-fine _ _
-        (c .before .enum-told3 .given .1)) (omega arith))
-    (omega arith) refl
+channels-again c = (
+  turn-on (c .before .before .before .before .before .before .before .before .before .channels .inv .0) (c .before .before .before .before .before .before .before .before .channels-test .taken)
+          (c .before .before .before .before .before .before .before .before .before .channels .inv .0 .within .cn-room)
+      (cn-block _ _ (cn-gives _ _ _ (c .before .before .before .before .before .before .before .before .before .channels .inv .0 .within) (c .before .before .before .before .before .met-cn .ensures .0)
+          (after-fine _ _ (c .before .enum-told3 .given .1))))
+      (c .link-at5 .ensures) (omega arith)
+      (cn-within _ _ _ (c .before .before .before .before .before .before .before .before .before .channels .inv .0 .within) (c .before .before .before .before .before .met-cn .ensures .0) (after-fine _ _
+          (c .before .enum-told3 .given .1)) (omega arith))
+      (omega arith) refl,
+  index-fine _ _ _ _ (c .before .before .before .before .before .met-cn .ensures .1) (c .before .enum-told3 .given .1),
+)
 
 same-length : tie.Need-same-length Inv-channels μ-channels Inv-groups μ-groups Inv-walk μ-walk
 same-length c = search needs
@@ -199,7 +193,7 @@ same-length-2 : tie.Need-same-length-2 Inv-channels μ-channels Inv-groups μ-gr
 same-length-2 c = search needs
 
 returns : tie.Need-returns Inv-channels μ-channels Inv-groups μ-groups Inv-walk μ-walk
-returns c = walk-gives _ _ _ _ _ (turn-end (c .before .walk .inv) (c .if1 .taken) (c .before .walk .inv .within .dg-room))
+returns c = walk-gives _ _ _ _ _ (turn-end (c .before .walk .inv .0) (c .if1 .taken) (c .before .walk .inv .0 .within .dg-room))
 
 same-length-3 : tie.Need-same-length-3 Inv-channels μ-channels Inv-groups μ-groups Inv-walk μ-walk
 same-length-3 c = search needs
@@ -209,10 +203,8 @@ same-length-4 c = search needs
 
 returns-2 : tie.Need-returns-2 Inv-channels μ-channels Inv-groups μ-groups Inv-walk μ-walk
 returns-2 c =
-    let v = c .before .before .before .before .before in
-    let w = v .before .before .before in
-    walk-stops _ _ _ _ _ (turn-stop (w .walk .inv) (v .before .before .if1 .left) (w .walk .inv .within .dg-room)
-    (dg-block-stops _ _ _ (dg-stops _ _ _ (w .walk .inv .within) (v .visit .ensures) (after-refused _ _
+    walk-stops _ _ _ _ _ (turn-stop (c .before .before .before .before .before .before .before .before .before .walk .inv .0) (c .before .before .before .before .before .before .before .before .if1 .left) (c .before .before .before .before .before .before .before .before .before .walk .inv .0 .within .dg-room)
+    (dg-block-stops _ _ _ (dg-stops _ _ _ (c .before .before .before .before .before .before .before .before .before .walk .inv .0 .within) (c .before .before .before .before .before .visit .ensures .0) (after-refused _ _
         (c .before .met .given .1)))))
 
 same-length-5 : tie.Need-same-length-5 Inv-channels μ-channels Inv-groups μ-groups Inv-walk μ-walk
@@ -223,44 +215,37 @@ same-length-6 c = search needs
 
 returns-3 : tie.Need-returns-3 Inv-channels μ-channels Inv-groups μ-groups Inv-walk μ-walk
 returns-3 c =
-    let f = c .before .before .before .before .before in
-    let v = f .before .before .before .before .before .before in
-    let w = v .before .before .before in
-    walk-stops _ _ _ _ _ (turn-stop (w .walk .inv) (v .before .before .if1 .left) (w .walk .inv .within .dg-room)
+    walk-stops _ _ _ _ _ (turn-stop (c .before .before .before .before .before .before .before .before .before .before .before .before .before .before .before .walk .inv .0) (c .before .before .before .before .before .before .before .before .before .before .before .before .before .before .if1 .left) (c .before .before .before .before .before .before .before .before .before .before .before .before .before .before .before .walk .inv .0 .within .dg-room)
     (dg-data-stops _ _ _
-    (dg-gives _ _ _ (w .walk .inv .within) (v .visit .ensures) (after-fine _ _ (f .before .before .enum-told .given .1)))
-    (data-stops _ _ _ _ (f .take-data .ensures) (after-stopped _ _ (c .before .taken .given .1)))))
+    (dg-gives _ _ _ (c .before .before .before .before .before .before .before .before .before .before .before .before .before .before .before .walk .inv .0 .within) (c .before .before .before .before .before .before .before .before .before .before .before .visit .ensures .0) (after-fine _ _ (c .before .before .before .before .before .before .before .enum-told .given .1)))
+    (data-stops _ _ _ _ (c .before .before .before .before .before .take-data .ensures) (after-stopped _ _ (c .before .taken .given .1)))))
 
 same-length-7 : tie.Need-same-length-7 Inv-channels μ-channels Inv-groups μ-groups Inv-walk μ-walk
-same-length-7 c = search needs
+same-length-7 c = omega (arith, c .before .before .before .before .before .before .before .before .before .before .before .before .before .before .before .before .before .before .before .before .before .before .before .before .before .before .before .walk .inv .0 .words-same, c .before .before .before .before .before .before .before .before .before .before .before .before .before .before .before .before .before .before .before .before .before .before .before .visit .kept, c .before .before .before .before .before .before .before .before .before .groups .inv .0 .words-same, c .before .before .before .before .before .met-cg .kept)
 
 same-length-8 : tie.Need-same-length-8 Inv-channels μ-channels Inv-groups μ-groups Inv-walk μ-walk
-same-length-8 c = search needs
+same-length-8 c = omega (arith, c .before .before .before .before .before .before .before .before .before .before .before .before .before .before .before .before .before .before .before .before .before .before .before .before .before .before .before .walk .inv .0 .frags-same, c .before .before .before .before .before .before .before .before .before .before .before .before .before .before .before .before .before .take-data .kept, c .before .before .before .before .before .before .before .before .before .groups .inv .0 .frags-same)
 
 returns-4 : tie.Need-returns-4 Inv-channels μ-channels Inv-groups μ-groups Inv-walk μ-walk
 returns-4 c =
-    let g = c .before .before .before .before .before .before .before .before in
-    let f = g .before .before .before .before .before .before .before .before in
-    let v = f .before .before .before .before .before .before in
-    let w = v .before .before .before in
-    walk-stops _ _ _ _ _ (turn-stop (w .walk .inv) (v .before .before .if1 .left) (w .walk .inv .within .dg-room)
-    (dg-below-stops _ _ _ _ (g .before .before .link-at .ensures)
-    (dg-gives _ _ _ (w .walk .inv .within) (v .visit .ensures) (after-fine _ _ (f .before .before .enum-told .given .1)))
-    (data-gives _ _ _ _ (f .take-data .ensures) (after-done _ _ (g .before .before .before .before .taken2 .given .1)))
-    (turn-stop (g .groups .inv) (c .before .before .before .before .before .before .before .groups-test .taken)
-        (g .groups .inv .within .cg-room)
-    (cg-block-stops _ _ (cg-stops _ _ _ (g .groups .inv .within) (c .before .before .before .before .before .met-cg .ensures)
+    walk-stops _ _ _ _ _ (turn-stop (c .before .before .before .before .before .before .before .before .before .before .before .before .before .before .before .before .before .before .before .before .before .before .before .before .before .before .before .walk .inv .0) (c .before .before .before .before .before .before .before .before .before .before .before .before .before .before .before .before .before .before .before .before .before .before .before .before .before .before .if1 .left) (c .before .before .before .before .before .before .before .before .before .before .before .before .before .before .before .before .before .before .before .before .before .before .before .before .before .before .before .walk .inv .0 .within .dg-room)
+    (dg-below-stops _ _ _ _ (c .before .before .before .before .before .before .before .before .before .before .before .link-at .ensures)
+    (dg-gives _ _ _ (c .before .before .before .before .before .before .before .before .before .before .before .before .before .before .before .before .before .before .before .before .before .before .before .before .before .before .before .walk .inv .0 .within) (c .before .before .before .before .before .before .before .before .before .before .before .before .before .before .before .before .before .before .before .before .before .before .before .visit .ensures .0) (after-fine _ _ (c .before .before .before .before .before .before .before .before .before .before .before .before .before .before .before .before .before .before .before .enum-told .given .1)))
+    (data-gives _ _ _ _ (c .before .before .before .before .before .before .before .before .before .before .before .before .before .before .before .before .before .take-data .ensures) (after-done _ _ (c .before .before .before .before .before .before .before .before .before .before .before .before .before .taken2 .given .1)))
+    (turn-stop (c .before .before .before .before .before .before .before .before .before .groups .inv .0) (c .before .before .before .before .before .before .before .before .groups-test .taken)
+        (c .before .before .before .before .before .before .before .before .before .groups .inv .0 .within .cg-room)
+    (cg-block-stops _ _ (cg-stops _ _ _ (c .before .before .before .before .before .before .before .before .before .groups .inv .0 .within) (c .before .before .before .before .before .met-cg .ensures .0)
         (after-refused _ _ (c .before .met2 .given .1)))))))
 
 same-length-9 : tie.Need-same-length-9 Inv-channels μ-channels Inv-groups μ-groups Inv-walk μ-walk
 same-length-9 c =
     omega (
       arith,
-      c .before .before .before .before .before .before .before .before .before .before .before .before .before .before .before .before .before .before .before .before .before .before .before .before .before .before .before .before .before .before .before .before .before .before .before .walk .inv .words-same,
-      c .before .before .before .before .before .before .before .before .before .before .before .before .before .before .before .before .before .before .before .before .before .before .before .before .before .before .before .before .before .before .before .before .visit .kept,
-      c .before .before .before .before .before .before .before .before .before .before .before .before .before .before .before .before .before .before .groups .inv .words-same,
-      c .before .before .before .before .before .before .before .before .before .before .before .before .before .before .before .met-cg .kept,
-      c .before .before .before .before .before .before .before .before .channels .inv .words-same,
+      c .before .before .before .before .before .before .before .before .before .before .before .before .before .before .before .before .before .before .before .before .before .before .before .before .before .before .before .before .before .before .before .before .before .before .before .before .before .before .walk .inv .0 .words-same,
+      c .before .before .before .before .before .before .before .before .before .before .before .before .before .before .before .before .before .before .before .before .before .before .before .before .before .before .before .before .before .before .before .before .before .before .visit .kept,
+      c .before .before .before .before .before .before .before .before .before .before .before .before .before .before .before .before .before .before .before .before .groups .inv .0 .words-same,
+      c .before .before .before .before .before .before .before .before .before .before .before .before .before .before .before .before .met-cg .kept,
+      c .before .before .before .before .before .before .before .before .before .channels .inv .0 .words-same,
       c .before .before .before .before .before .met-cn .kept,
     )
 
@@ -268,31 +253,26 @@ same-length-10 : tie.Need-same-length-10 Inv-channels μ-channels Inv-groups μ-
 same-length-10 c =
     omega (
       arith,
-      c .before .before .before .before .before .before .before .before .before .before .before .before .before .before .before .before .before .before .before .before .before .before .before .before .before .before .before .before .before .before .before .before .before .before .before .walk .inv .frags-same,
-      c .before .before .before .before .before .before .before .before .before .before .before .before .before .before .before .before .before .before .before .before .before .before .before .before .before .before .take-data .kept,
-      c .before .before .before .before .before .before .before .before .before .before .before .before .before .before .before .before .before .before .groups .inv .frags-same,
-      c .before .before .before .before .before .before .before .before .channels .inv .frags-same,
+      c .before .before .before .before .before .before .before .before .before .before .before .before .before .before .before .before .before .before .before .before .before .before .before .before .before .before .before .before .before .before .before .before .before .before .before .before .before .before .walk .inv .0 .frags-same,
+      c .before .before .before .before .before .before .before .before .before .before .before .before .before .before .before .before .before .before .before .before .before .before .before .before .before .before .before .before .take-data .kept,
+      c .before .before .before .before .before .before .before .before .before .before .before .before .before .before .before .before .before .before .before .before .groups .inv .0 .frags-same,
+      c .before .before .before .before .before .before .before .before .before .channels .inv .0 .frags-same,
     )
 
 returns-5 : tie.Need-returns-5 Inv-channels μ-channels Inv-groups μ-groups Inv-walk μ-walk
 returns-5 c =
-    let n = c .before .before .before .before .before .before .before .before in
-    let g = n .before .before .before .before .before .before .before .before .before .before in
-    let f = g .before .before .before .before .before .before .before .before in
-    let v = f .before .before .before .before .before .before in
-    let w = v .before .before .before in
-    walk-stops _ _ _ _ _ (turn-stop (w .walk .inv) (v .before .before .if1 .left) (w .walk .inv .within .dg-room)
-    (dg-below-stops _ _ _ _ (g .before .before .link-at .ensures)
-    (dg-gives _ _ _ (w .walk .inv .within) (v .visit .ensures) (after-fine _ _ (f .before .before .enum-told .given .1)))
-    (data-gives _ _ _ _ (f .take-data .ensures) (after-done _ _ (g .before .before .before .before .taken2 .given .1)))
-    (turn-stop (g .groups .inv) (n .before .before .before .before .before .before .before .before .before .groups-test .taken)
-        (g .groups .inv .within .cg-room)
-    (cg-below-stops _ _ _ (n .before .before .link-at3 .ensures)
-    (cg-gives _ _ _ (g .groups .inv .within) (n .before .before .before .before .before .before .before .met-cg .ensures)
-        (after-fine _ _ (n .before .before .before .enum-told2 .given .1)))
-    (turn-stop (n .channels .inv) (c .before .before .before .before .before .before .before .channels-test .taken)
-        (n .channels .inv .within .cn-room)
-    (cn-block-stops _ _ (cn-stops _ _ _ (n .channels .inv .within) (c .before .before .before .before .before .met-cn .ensures)
+    walk-stops _ _ _ _ _ (turn-stop (c .before .before .before .before .before .before .before .before .before .before .before .before .before .before .before .before .before .before .before .before .before .before .before .before .before .before .before .before .before .before .before .before .before .before .before .before .before .before .walk .inv .0) (c .before .before .before .before .before .before .before .before .before .before .before .before .before .before .before .before .before .before .before .before .before .before .before .before .before .before .before .before .before .before .before .before .before .before .before .before .before .if1 .left) (c .before .before .before .before .before .before .before .before .before .before .before .before .before .before .before .before .before .before .before .before .before .before .before .before .before .before .before .before .before .before .before .before .before .before .before .before .before .before .walk .inv .0 .within .dg-room)
+    (dg-below-stops _ _ _ _ (c .before .before .before .before .before .before .before .before .before .before .before .before .before .before .before .before .before .before .before .before .before .before .link-at .ensures)
+    (dg-gives _ _ _ (c .before .before .before .before .before .before .before .before .before .before .before .before .before .before .before .before .before .before .before .before .before .before .before .before .before .before .before .before .before .before .before .before .before .before .before .before .before .before .walk .inv .0 .within) (c .before .before .before .before .before .before .before .before .before .before .before .before .before .before .before .before .before .before .before .before .before .before .before .before .before .before .before .before .before .before .before .before .before .before .visit .ensures .0) (after-fine _ _ (c .before .before .before .before .before .before .before .before .before .before .before .before .before .before .before .before .before .before .before .before .before .before .before .before .before .before .before .before .before .before .enum-told .given .1)))
+    (data-gives _ _ _ _ (c .before .before .before .before .before .before .before .before .before .before .before .before .before .before .before .before .before .before .before .before .before .before .before .before .before .before .before .before .take-data .ensures) (after-done _ _ (c .before .before .before .before .before .before .before .before .before .before .before .before .before .before .before .before .before .before .before .before .before .before .before .before .taken2 .given .1)))
+    (turn-stop (c .before .before .before .before .before .before .before .before .before .before .before .before .before .before .before .before .before .before .before .before .groups .inv .0) (c .before .before .before .before .before .before .before .before .before .before .before .before .before .before .before .before .before .before .before .groups-test .taken)
+        (c .before .before .before .before .before .before .before .before .before .before .before .before .before .before .before .before .before .before .before .before .groups .inv .0 .within .cg-room)
+    (cg-below-stops _ _ _ (c .before .before .before .before .before .before .before .before .before .before .before .link-at3 .ensures)
+    (cg-gives _ _ _ (c .before .before .before .before .before .before .before .before .before .before .before .before .before .before .before .before .before .before .before .before .groups .inv .0 .within) (c .before .before .before .before .before .before .before .before .before .before .before .before .before .before .before .before .met-cg .ensures .0)
+        (after-fine _ _ (c .before .before .before .before .before .before .before .before .before .before .before .before .enum-told2 .given .1)))
+    (turn-stop (c .before .before .before .before .before .before .before .before .before .channels .inv .0) (c .before .before .before .before .before .before .before .before .channels-test .taken)
+        (c .before .before .before .before .before .before .before .before .before .channels .inv .0 .within .cn-room)
+    (cn-block-stops _ _ (cn-stops _ _ _ (c .before .before .before .before .before .before .before .before .before .channels .inv .0 .within) (c .before .before .before .before .before .met-cn .ensures .0)
         (after-refused _ _ (c .before .met3 .given .1)))))))))
 
 pub walk-from-spec : {M : Type 1} → statement M

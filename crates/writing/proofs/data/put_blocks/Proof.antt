@@ -6,9 +6,6 @@ use borrow.Author.Needs.{needs}
 use Rattle.writing.proofs.data.put_blocks.Statement.{statement}
 use Rattle.writing.proofs.data.put_blocks.Tie as tie
 
-own-of-requires : tie.Need-own-of-requires
-own-of-requires c κs = search needs
-
 mul-p : tie.Need-mul-p
 mul-p c = search needs
 
@@ -77,13 +74,12 @@ same-length-3 c = search needs
 
 returns : tie.Need-returns
 unfolding ownGroups ownWords part
-returns c = blocks-put _ (c .before .before .before .before .before .before .before .before .before .before .before .before .before .before .before .before .own-of .ensures) _ _ _ _ _ _ (c .before .before .before .before .before .before .before .before .before .before .before .before .before .before .before .before .before .before .before .before .before .before .before .pre .1) (c .before .before .before .before .before .before .before .before .before .before .before .before .before .before .before .before .before .before .before .before .before .before .before .pre .2) (c .before .before .before .before .before .before .before .before .before .before .before .before .before .before .before .before .before .before .before .before .before .before .before .pre .3) (c .before .before .before .before .before .before .write-blocks .ensures)
+returns c = blocks-put _ (c .before .before .before .before .before .before .before .before .before .before .before .before .before .before .before .before .before .before .before .before .before .before .pre .4) _ _ _ _ _ _ (c .before .before .before .before .before .before .before .before .before .before .before .before .before .before .before .before .before .before .before .before .before .before .pre .1) (c .before .before .before .before .before .before .before .before .before .before .before .before .before .before .before .before .before .before .before .before .before .before .pre .2) (c .before .before .before .before .before .before .before .before .before .before .before .before .before .before .before .before .before .before .before .before .before .before .pre .3) (c .before .before .before .before .before .before .write-blocks .ensures)
 
 pub put-blocks-spec : {M : Type 1} → statement M
 put-blocks-spec =
     tie.close
     (tie.spec
-    own-of-requires
     mul-p
     mul-q
     add-f
