@@ -10,7 +10,7 @@
  * - Nobody else changes a slice during the call, a mapped file included.
  * - What a work slice, out, list or lines holds at entry doesn't matter: anything may stand there.
  * - Length times element size is below 2^63.
- * - The calling thread has 256 KiB of stack left: 115,224 bytes were measured, for metadata linked 64 deep; reading takes 40,440, a plot hardly more.
+ * - The calling thread has 256 KiB of stack left: 105,160 bytes were measured, whatever the recording; reading takes 48,312, a plot hardly more.
  */
 #ifndef SITAUNGO_H
 #define SITAUNGO_H
@@ -24,7 +24,7 @@ extern "C" {
 #endif
 
 /* Of library and command. The command writes it into the history entry of each result. */
-#define SITAUNGO_VERSION "1.2.0"
+#define SITAUNGO_VERSION "1.3.0"
 
 /* ---- lengths of the slices */
 
@@ -131,7 +131,7 @@ struct sitaungo_outcome {
     uint64_t source_groups;      /* groups of the recording, those of VLSD storage not counted */
     uint64_t time_groups;        /* time columns */
     uint64_t signal_groups;      /* signal columns */
-    uint64_t shared_time_groups; /* 0 */
+    uint64_t shared_time_groups; /* groups whose time column is an earlier group's, an equal one; 0 unless that is chosen */
     uint64_t data_blocks;        /* DT, DV and SD blocks written */
     uint64_t metadata_size;      /* where the metadata ends */
     uint64_t file_size;          /* bytes of the result */
@@ -157,6 +157,7 @@ struct sitaungo_outcome sitaungo_convert(
 /* What a call chooses. */
 struct sitaungo_options {
     uint64_t unit; /* each column's first data block and each SD start on the next multiple of it: a power of two from 8 to 4096 (26); built in is 8 */
+    bool share;    /* equal time columns of several groups become one; built in is false */
 };
 
 /* What a table of treatments says of a channel type. */
@@ -166,11 +167,17 @@ enum {
     SITAUNGO_STORE_AS_0 = 2 /* they become columns of type 0 with the same records, those of type 1 without their signal data */
 };
 
-/* The same by what is chosen: sitaungo_convert is this call with unit 8 and no table.
+/* The same by what is chosen: sitaungo_convert is this call with unit 8, nothing shared and no table.
  *
  * Payloads, signal data, omissions and the report but for `file_size` don't depend on the unit. Blocks of one column stay 24 bytes plus payload apart,
  * metadata and what follows the last block stay at multiples of 8, a column without blocks and SD moves nothing; gaps have under `unit` bytes and are
  * zero.
+ *
+ * With `share` the first group in the recording's order stands for every later one whose own master has the same count of records, type, sync type, data
+ * type, bit offset, bits, flags and conversion block, also keeps its invalidation bit or doesn't, has an equal unit (kind and bytes of the TX or MD; none is
+ * equal to none) and the same bytes in every record. The later ones get no time column: signals that have or use their time name the first one's, and what is linked
+ * only to their masters isn't copied. `shared_time_groups` counts them. Then the units of all such masters are read before anything is planned (4 for one past
+ * the recording's end or under 24 bytes), and the data of groups with equal keys is checked (4, 14, 15) also where no column needs it.
  *
  * `types` is the table of treatments: a count n from 1 to 7, then n channel types, then n treatments, a byte each. Types that it doesn't list are treated
  * as built in, and with a length of 0 all are: type 4 is omitted (reason 4), type 5 stored as type 0, any other kept. Types 2 and 3 can only be kept, type 5
@@ -195,7 +202,7 @@ size_t sitaungo_list(
     uint64_t *columns, size_t columns_length, uint64_t *copies, size_t copies_length,
     uint8_t *lines, size_t lines_length);
 
-/* The same of the conversion by what is chosen: sitaungo_list is this call with unit 8 and no table. */
+/* The same of the conversion by what is chosen: sitaungo_list is this call with unit 8, nothing shared and no table. */
 size_t sitaungo_list_with(
     const uint8_t *image, size_t image_length, uint64_t size,
     const uint8_t *ident, size_t ident_length, const uint8_t *text, size_t text_length, struct sitaungo_options options,

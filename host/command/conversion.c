@@ -91,7 +91,7 @@ uint8_t *map_output(int file, uint64_t size)
 
 static struct sitaungo_options options_of(const struct choices *c)
 {
-    return (struct sitaungo_options){.unit = c->unit};
+    return (struct sitaungo_options){.unit = c->unit, .share = c->share_time};
 }
 
 static struct sitaungo_outcome convert_with(

@@ -4,6 +4,7 @@
 #include <errno.h>
 #include <fcntl.h>
 #include <inttypes.h>
+#include <stdio.h>
 #include <stdlib.h>
 #include <string.h>
 #include <sys/mman.h>
@@ -28,20 +29,26 @@ static struct job {
 
 /* ---- the end of it */
 
+enum { SHARED = 48 };
+
 static bool listing_wanted(const struct job *j)
 {
     return j->o->listing || j->sink->wanted || j->o->complete;
 }
 
+/* With --share-time the line of success has how many groups' time columns became an earlier group's. */
 static void print_done(const struct job *j)
 {
     const struct done *d = &j->done;
     bool success = d->status == STATUS_DONE && !j->o->quiet && !j->sink->standard_output;
+    char shared[SHARED] = "";
+    if (j->o->choices.share_time)
+        snprintf(shared, sizeof shared, ", shared time columns %" PRIu64, d->answer.shared_time_groups);
     if (success && strcmp(d->outcome, "converted") == 0)
-        print_line("%s: columns %" PRIu64 ", omissions %" PRIu64 ", bytes %" PRIu64, d->result,
-            d->answer.time_groups + d->answer.signal_groups, omission_count(), d->answer.file_size);
+        print_line("%s: columns %" PRIu64 ", omissions %" PRIu64 ", bytes %" PRIu64 "%s", d->result,
+            d->answer.time_groups + d->answer.signal_groups, omission_count(), d->answer.file_size, shared);
     else if (success)
-        print_line("%s: is the conversion of %s, bytes %" PRIu64, d->result, d->recording->path, d->answer.file_size);
+        print_line("%s: is the conversion of %s, bytes %" PRIu64 "%s", d->result, d->recording->path, d->answer.file_size, shared);
     if (d->status == STATUS_DONE && *d->digest && !j->sink->standard_output)
         print_digest(d->digest, d->result);
     if (d->status == STATUS_DONE && j->o->listing)

@@ -33,6 +33,7 @@ static const char usage[] =
     "  --quiet             print neither phases nor the line of success\n"
     "  --resume            pass over a RESULT that is there and is the conversion of RECORDING\n"
     "  --sha256            print the digest of the stored bytes, read back, as sha256sum does\n"
+    "  --share-time        groups with equal time channels get one time column\n"
     "  --types FILE        treat channel types as the table in FILE says: a count from 1 to 7, as many types, as many treatments,\n"
     "                      a byte each: 0 keep, 1 omit, 2 store as type 0; else type 4 is omitted, 5 stored as 0, any other kept\n"
     "  --unit BYTES        columns and signal data start on multiples of it, a power of two from 8 to 4096; 8 if not given\n"
@@ -78,14 +79,15 @@ static void read_types(struct choices *c, const char *path)
     fclose(file);
 }
 
-enum { WORD = 1, BLOCK_SIZE = 256, CHECK, COMPLETE, FORCE, JSON, LISTING, QUIET, RESUME, SHA256, TYPES, UNIT, VERIFY, HELP, VERSION };
+enum { WORD = 1, BLOCK_SIZE = 256, CHECK, COMPLETE, FORCE, JSON, LISTING, QUIET, RESUME, SHA256, SHARE_TIME, TYPES, UNIT, VERIFY, HELP, VERSION };
 
 static const struct option known[] = {
     {"block-size", required_argument, NULL, BLOCK_SIZE}, {"check", no_argument, NULL, CHECK}, {"complete", no_argument, NULL, COMPLETE},
     {"folder", required_argument, NULL, 'd'}, {"force", no_argument, NULL, FORCE}, {"json", required_argument, NULL, JSON},
     {"listing", no_argument, NULL, LISTING}, {"quiet", no_argument, NULL, QUIET}, {"resume", no_argument, NULL, RESUME},
-    {"sha256", no_argument, NULL, SHA256}, {"types", required_argument, NULL, TYPES}, {"unit", required_argument, NULL, UNIT},
-    {"verify", no_argument, NULL, VERIFY}, {"help", no_argument, NULL, HELP}, {"version", no_argument, NULL, VERSION}, {NULL, 0, NULL, 0},
+    {"sha256", no_argument, NULL, SHA256}, {"share-time", no_argument, NULL, SHARE_TIME}, {"types", required_argument, NULL, TYPES},
+    {"unit", required_argument, NULL, UNIT}, {"verify", no_argument, NULL, VERIFY}, {"help", no_argument, NULL, HELP},
+    {"version", no_argument, NULL, VERSION}, {NULL, 0, NULL, 0},
 };
 
 static void take(struct options *o, int option)
@@ -102,6 +104,7 @@ static void take(struct options *o, int option)
     case QUIET: o->quiet = true; break;
     case RESUME: o->resume = true; break;
     case SHA256: o->digest = true; break;
+    case SHARE_TIME: o->choices.share_time = true; break;
     case TYPES: o->types = optarg; break;
     case UNIT: o->choices.unit = parse_bytes("--unit", optarg); break;
     case VERIFY: o->verify = true; break;

@@ -2,6 +2,7 @@
  * include/sitaungo.h from both sides, and what a call leaves alone. Prints what is wrong, and at the end the number of checks. */
 #include <inttypes.h>
 #include <stdbool.h>
+#include <stddef.h>
 #include <stdio.h>
 #include <stdlib.h>
 #include <string.h>
@@ -9,7 +10,7 @@
 #include "sitaungo.h"
 
 _Static_assert(sizeof(struct sitaungo_outcome) == 80, "the struct's size");
-_Static_assert(sizeof(struct sitaungo_options) == 8, "the choices' size");
+_Static_assert(sizeof(struct sitaungo_options) == 16 && offsetof(struct sitaungo_options, share) == 8, "the choices' size");
 _Static_assert(sizeof(struct sitaungo_request) == 32 && sizeof(struct sitaungo_plotting) == 32, "a plot's structs");
 
 enum { ROOM = 4096, WIDE = 16384, GUARD = 0xA5 };
@@ -22,7 +23,7 @@ static int checks, wrong;
 struct call {
     size_t image, ident, text, work[4], out, list;
     uint64_t size, unit;
-    bool chooses;
+    bool chooses, share;
     const uint8_t *types;
     size_t types_length;
 };
@@ -61,7 +62,7 @@ static struct sitaungo_outcome run(struct call c)
     memset(list, GUARD, sizeof list);
     memset(work, GUARD, sizeof work);
     if (c.chooses)
-        return sitaungo_convert_with(image, c.image, c.size, ident, c.ident, text, c.text, 0, (struct sitaungo_options){c.unit}, c.types, c.types_length,
+        return sitaungo_convert_with(image, c.image, c.size, ident, c.ident, text, c.text, 0, (struct sitaungo_options){c.unit, c.share}, c.types, c.types_length,
             work[0], c.work[0], work[1], c.work[1], work[2], c.work[2], work[3], c.work[3], out, c.out, list, c.list);
     return sitaungo_convert(image, c.image, c.size, ident, c.ident, text, c.text, 0, work[0], c.work[0], work[1], c.work[1], work[2], c.work[2],
         work[3], c.work[3], out, c.out, list, c.list);
@@ -288,13 +289,33 @@ static void try_bad_tables(void)
     }
 }
 
+/* ---- shared times */
+
+/* The worked example has one group: nothing is shared, every byte is as without. */
+static void try_shared(void)
+{
+    static uint8_t usual_bytes[WIDE];
+    struct call c = with_unit(8);
+    check(run(usual()).accepted, "the worked example without a choice");
+    memcpy(usual_bytes, out, sizeof out);
+    c.share = true;
+    struct sitaungo_outcome a = run(c);
+    check(a.accepted && a.shared_time_groups == 0 && memcmp(out, usual_bytes, sizeof out) == 0 && list[0] == 0, "shared times of one group");
+    for (int i = 0; i < 4; i++)
+        check(all(work[i], 8 * SITAUNGO_WORK_WORDS, 0), "work words after a conversion");
+    c.out = 1287;
+    refuses(c, SITAUNGO_REFUSED_OUTPUT, 1288, "an output one byte short");
+    c.unit = 12;
+    refuses(c, SITAUNGO_REFUSED_UNIT, 0, "a bad unit with shared times");
+}
+
 /* ---- listings by what is chosen */
 
-static void lists_with(uint64_t unit, const struct table *t, uint64_t room, const char *expected)
+static void lists_with(uint64_t unit, bool share, const struct table *t, uint64_t room, const char *expected)
 {
     size_t n = strlen(expected);
     memset(lines, GUARD, sizeof lines);
-    size_t length = sitaungo_list_with(image, image_length, 64, ident, SITAUNGO_IDENT_BYTES, text, 7, (struct sitaungo_options){unit}, t->bytes, t->length,
+    size_t length = sitaungo_list_with(image, image_length, 64, ident, SITAUNGO_IDENT_BYTES, text, 7, (struct sitaungo_options){unit, share}, t->bytes, t->length,
         room, 2049, work[0], SITAUNGO_WORK_WORDS, work[1], SITAUNGO_WORK_WORDS, work[2], SITAUNGO_WORK_WORDS, work[3], SITAUNGO_WORK_WORDS, lines,
         sizeof lines);
     check(length == n && memcmp(lines, expected, n) == 0 && all(lines + n, sizeof lines - n, GUARD), expected);
@@ -306,15 +327,18 @@ static void try_listed(const char *listing)
 {
     const struct table omitting = {3, {1, 0, 1}}, bad = {1, {0}};
     char due[100];
-    lists_with(8, &none, 1288, listing);
-    lists_with(4096, &none, 8304, listing);
-    lists_with(4096, &none, 8303, "refused 20 place 8304\n");
-    lists_with(12, &none, 8304, "refused 26 place 0\n");
-    lists_with(0, &bad, 0, "refused 26 place 0\n");
-    lists_with(8, &bad, 0, "refused 27 place 0\n");
+    lists_with(8, false, &none, 1288, listing);
+    lists_with(8, true, &none, 1288, listing);
+    lists_with(4096, true, &none, 8304, listing);
+    lists_with(4096, false, &none, 8304, listing);
+    lists_with(4096, false, &none, 8303, "refused 20 place 8304\n");
+    lists_with(12, true, &none, 8304, "refused 26 place 0\n");
+    lists_with(0, true, &bad, 0, "refused 26 place 0\n");
+    lists_with(8, true, &bad, 0, "refused 27 place 0\n");
     check(run(with_table(&omitting)).accepted, "the omission's address");
     snprintf(due, sizeof due, "columns 1\n0 t 4 0 20 2 80 -\nomitted 1\n%" PRIu64 " 8\n", list[1]);
-    lists_with(8, &omitting, 1288, due);
+    lists_with(8, false, &omitting, 1288, due);
+    lists_with(8, true, &omitting, 1288, due);
 }
 
 /* ---- plots */
@@ -401,6 +425,7 @@ int main(int count, char **arguments)
     try_bad_units();
     try_tables();
     try_bad_tables();
+    try_shared();
     try_listed(listing);
     try_plot();
     printf("%d checks, %d wrong\n", checks, wrong);

@@ -46,7 +46,7 @@ class File:
         return self.data[at + 24 + 8 * self.u64(at + 16) : at + self.size(at)]
 
     def text(self, at):
-        return self.body(at).rstrip(b"\0").decode() if at else None
+        return self.body(at).rstrip(b"\0").decode(errors="replace") if at else None
 
     def blocks(self, at):
         """The blocks behind a data link."""

@@ -22,6 +22,7 @@ use Rattle.plan.specs.Layout as planLayout
 use Rattle.result.specs.Fill as resultFill
 use Rattle.result.specs.Listing as resultListing
 use Rattle.result.specs.Payload as resultPayload
+use Rattle.result.specs.Sharing as resultSharing
 use Rattle.result.specs.Result as resultResult
 use Rattle.result.specs.Links as resultLinks
 use Rattle.result.specs.Due as resultDue
@@ -46,7 +47,7 @@ unfolding
     planChannel.invalPosition planChannel.channelBytes planChannel.fits planChannel.isMasterType planChannel.keepsInval planChannel.width
     planChannel.invalBit planTable.countIn planTable.typeAt planTable.treatedAt planTable.entryOf planTable.isSized planTable.isAllowed planTable.isEntry
     planTable.areEntries planTable.tableIn planTable.builtInFor planTable.chosenBy planTable.treatment planColumns.withCounts planColumns.srcGroups planColumns.firstMaster planColumns.masterOf
-    planColumns.remoteLink planColumns.groupAt planColumns.remoteTime planColumns.timeOf planColumns.timeColumn planColumns.withTime
+    planColumns.remoteLink planColumns.groupAt planColumns.standIn planColumns.standing planColumns.remoteTime planColumns.timeOf planColumns.timeColumn planColumns.withTime
     planColumns.unfit planColumns.furtherMaster planColumns.omittedType planColumns.composed planColumns.signalLink planColumns.storedAt
     planColumns.decideChain planColumns.unless planColumns.decide planColumns.planChannels planColumns.planGroup planColumns.planGroups
     planColumns.plan planColumns.omissionAddresses planColumns.omissionReasons planColumns.omissionWords planCopies.copyOf planCopies.withCopy
@@ -64,7 +65,7 @@ unfolding
     resultListing.digitsOf resultListing.decimal resultListing.columnLine resultListing.columnLines resultListing.omissionLines
     resultListing.planLines resultPayload.recordsOf resultPayload.cell resultPayload.cells resultPayload.payloads resultPayload.columnPayloads
     resultResult.hdBlock resultResult.blocksOf resultResult.flat resultResult.fileOf resultResult.sourceGroupsOf resultResult.timeColumns
-    resultResult.blocksWritten resultResult.report resultResult.lentIn resultResult.decided resultResult.answer resultResult.workIn resultResult.zeros
+    resultSharing.sharing resultResult.sharedGroups resultResult.blocksWritten resultResult.report resultResult.lentIn resultResult.decided resultResult.answer resultResult.workIn resultResult.zeros
     resultResult.convert resultLinks.headAt resultLinks.groupFields resultLinks.channelFields resultLinks.listAt resultLinks.listShown
     resultLinks.shownAt resultLinks.shownFrom resultLinks.shown resultDue.duePayload resultDue.evenBlocks resultDue.blocksDue resultDue.equalDue
     resultDue.fragmentsDue resultDue.listDue resultDue.placedCGs resultDue.groupFlagsDue resultDue.channelFlagsDue resultDue.keptByte

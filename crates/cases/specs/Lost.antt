@@ -26,7 +26,7 @@ use Rattle.cases.specs.Excluded.{fileIn}
 use Rattle.cases.specs.Refuted.{Refuted, in-none}
 
 abbrev withImage : List ℕ → resultResult.Args
-withImage s = record { image = s; blockSize = args .blockSize; ident = args .ident; text = args .text; time = args .time; unit = args .unit; table = args .table }
+withImage s = record { image = s; blockSize = args .blockSize; ident = args .ident; text = args .text; time = args .time; unit = args .unit; table = args .table; share = args .share }
 
 -- a block of that kind, with so many links, all 0
 abbrev blockWith : ℕ → ℕ → ℕ → ℕ → List ℕ → List ℕ
@@ -85,7 +85,7 @@ allSignalled g (c ∷ cs) = signalled g c ∷ allSignalled g cs
 abbrev pub Silent : planColumns.Signal → baseChecked.Checked resultResult.Decided → Type 0
 Silent s (baseChecked.ok d) =
     (os : List planColumns.Omission) (n : ℕ) (p : planLayout.Layout) (f l : List ℕ)
-    → Guaranteed rich (record { groups = d .groups; planned = record { columns = allSignalled s (d .planned .columns); omissions = os; fragments = n }; laidOut = p }) f l
+    → Guaranteed rich (record { groups = d .groups; stands = d .stands; planned = record { columns = allSignalled s (d .planned .columns); omissions = os; fragments = n }; laidOut = p }) f l
     → ⊥
 Silent s (baseChecked.refused number place) = ⊥
 
@@ -118,7 +118,7 @@ emptied (g ∷ gs) =
 abbrev pub Emptied : baseChecked.Checked resultResult.Decided → Type 0
 Emptied (baseChecked.ok d) =
     (q : planColumns.Plan) (p : planLayout.Layout) (f l : List ℕ)
-    → Guaranteed rich (record { groups = emptied (d .groups); planned = q; laidOut = p }) f l → ⊥
+    → Guaranteed rich (record { groups = emptied (d .groups); stands = d .stands; planned = q; laidOut = p }) f l → ⊥
 Emptied (baseChecked.refused number place) = ⊥
 
 pub loses-fragments : Emptied (resultResult.decided rich)
@@ -142,7 +142,7 @@ cut-off s goesOn a r z k = go (r .ends)
 abbrev pub Cut : (planLayout.Layout → List ℕ) → baseChecked.Checked resultResult.Decided → Type 0
 Cut chain (baseChecked.ok d) =
     (q : planColumns.Plan) (p : planLayout.Layout) (f l : List ℕ) → chain p ≡ []
-    → Guaranteed rich (record { groups = d .groups; planned = q; laidOut = p }) f l → ⊥
+    → Guaranteed rich (record { groups = d .groups; stands = d .stands; planned = q; laidOut = p }) f l → ⊥
 Cut chain (baseChecked.refused number place) = ⊥
 
 pub cut : Cut (λ p. p .past .chain) (resultResult.decided rich) × Cut (λ p. attachedFrom (p .attached .attachments)) (resultResult.decided rich)

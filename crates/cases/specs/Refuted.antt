@@ -105,7 +105,7 @@ allTimed (c ∷ cs) = timed c ∷ allTimed cs
 abbrev pub TimesEach : baseChecked.Checked resultResult.Decided → Type 0
 TimesEach (baseChecked.ok d) =
     (os : List planColumns.Omission) (n : ℕ) (p : planLayout.Layout) (f l : List ℕ)
-    → Guaranteed args (record { groups = d .groups; planned = record { columns = allTimed (d .planned .columns); omissions = os; fragments = n }; laidOut = p }) f l
+    → Guaranteed args (record { groups = d .groups; stands = d .stands; planned = record { columns = allTimed (d .planned .columns); omissions = os; fragments = n }; laidOut = p }) f l
     → ⊥
 TimesEach (baseChecked.refused number place) = ⊥
 
@@ -129,7 +129,7 @@ curtailed (g ∷ gs) =
 abbrev pub LosesChannels : baseChecked.Checked resultResult.Decided → Type 0
 LosesChannels (baseChecked.ok d) =
     (q : planColumns.Plan) (p : planLayout.Layout) (f l : List ℕ)
-    → Guaranteed args (record { groups = curtailed (d .groups); planned = q; laidOut = p }) f l → ⊥
+    → Guaranteed args (record { groups = curtailed (d .groups); stands = d .stands; planned = q; laidOut = p }) f l → ⊥
 LosesChannels (baseChecked.refused number place) = ⊥
 
 in-single : (b a : ℕ) → In a (b ∷ []) → a ≡ b
@@ -154,7 +154,7 @@ allButLast (g ∷ h ∷ gs) = g ∷ allButLast (h ∷ gs)
 abbrev pub LosesGroups : baseChecked.Checked resultResult.Decided → Type 0
 LosesGroups (baseChecked.ok d) =
     (q : planColumns.Plan) (p : planLayout.Layout) (f l : List ℕ)
-    → Guaranteed args (record { groups = allButLast (d .groups); planned = q; laidOut = p }) f l → ⊥
+    → Guaranteed args (record { groups = allButLast (d .groups); stands = d .stands; planned = q; laidOut = p }) f l → ⊥
 LosesGroups (baseChecked.refused number place) = ⊥
 
 pub in-none : {A : Type 0} (a : A) → In a [] → ⊥
@@ -198,13 +198,13 @@ one-at g h here = refl
 abbrev pub OmitsEach : baseChecked.Checked resultResult.Decided → Type 0
 OmitsEach (baseChecked.ok d) =
     (os : List planColumns.Omission) (n : ℕ) (p : planLayout.Layout) (f l : List ℕ)
-    → Guaranteed args (record { groups = d .groups; planned = record { columns = []; omissions = os; fragments = n }; laidOut = p }) f l → ⊥
+    → Guaranteed args (record { groups = d .groups; stands = d .stands; planned = record { columns = []; omissions = os; fragments = n }; laidOut = p }) f l → ⊥
 OmitsEach (baseChecked.refused number place) = ⊥
 
 pub omits-each : OmitsEach (resultResult.decided args)
 unfolding evaluated columnsOf leadsTo hasSignal reasonFor
 omits-each os n p f l g =
-    let r = about 336 os (omega (arith, g .once _ here refl 336 (there here))) in
+    let r = about 336 os (omega (arith, g .unshared refl _ here refl 336 (there here))) in
     no-reason _ (r .omission) (λ h i. one-at _ h i) (r .isAt) refl (g .omitted (r .omission) (r .isIn))
 
 -- ---- the answer: "one that refuses every recording", "\"too small\" before anything was measured", "a report of invented blocks"

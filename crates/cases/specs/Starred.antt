@@ -1,5 +1,6 @@
 -- The starred cases of document 01, as one table about the definitions: payloads, versions, and the worked example of `columns`.
 use Prim.Native.Nat.{ℕ}
+use mathlib.Core.Bool.{false}
 use mathlib.Core.List.{List, [], _∷_}
 use mathlib.Core.Path.{_≡_, refl}
 use lib.ListN.{replicate, length}
@@ -83,7 +84,7 @@ image =
 
 -- `columns` lends block size 64, history text `convert`, time 0
 abbrev pub args : resultResult.Args
-args = record { image = image; blockSize = 64; ident = ident; text = 99 ∷ 111 ∷ 110 ∷ 118 ∷ 101 ∷ 114 ∷ 116 ∷ []; time = 0; unit = 8; table = [] }
+args = record { image = image; blockSize = 64; ident = ident; text = 99 ∷ 111 ∷ 110 ∷ 118 ∷ 101 ∷ 114 ∷ 116 ∷ []; time = 0; unit = 8; table = []; share = false }
   where
     ident : List ℕ
     ident = 77 ∷ 68 ∷ 70 ∷ 32 ∷ 32 ∷ 32 ∷ 32 ∷ 32 ∷ 52 ∷ 46 ∷ 50 ∷ 48 ∷ 32 ∷ 32 ∷ 32 ∷ 32 ∷ 83 ∷ 105 ∷ 116 ∷ 97 ∷ 117 ∷ 110 ∷ 103 ∷ 111 ∷ replicate 40 0

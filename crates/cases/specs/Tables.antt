@@ -1,5 +1,6 @@
 -- Document 02, request 6: tables of treatments, 27 from both sides, and how types are treated.
 use Prim.Native.Nat.{ℕ}
+use mathlib.Core.Bool.{false}
 use mathlib.Core.List.{List, [], _∷_}
 use mathlib.Core.Path.{_≡_, refl}
 use Rattle.base.specs.Choice.{ifLt, ifEq}
@@ -49,9 +50,9 @@ Entries =
 -- "it follows 26"
 abbrev pub Order : Type 0
 Order =
-    (choicesIn (record { unit = 8; table = 1 ∷ 4 ∷ 0 ∷ [] }) ≡ fine)
-    × (choicesIn (record { unit = 8; table = 0 ∷ [] }) ≡ refused 27 0)
-    × (choicesIn (record { unit = 12; table = 0 ∷ [] }) ≡ refused 26 0)
+    (choicesIn (record { unit = 8; table = 1 ∷ 4 ∷ 0 ∷ []; share = false }) ≡ fine)
+    × (choicesIn (record { unit = 8; table = 0 ∷ []; share = false }) ≡ refused 27 0)
+    × (choicesIn (record { unit = 12; table = 0 ∷ []; share = false }) ≡ refused 26 0)
 
 -- types 0 to 6 by a table
 abbrev treatments : List ℕ → List ℕ

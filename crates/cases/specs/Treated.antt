@@ -1,7 +1,7 @@
 -- Document 02, requests 6 and 7, at a recording of one channel: what a table makes of its type, what becomes of its links, where 4, 8 and 27 stand; results
 -- and plans that treat it otherwise do not have the guarantee.
 use Prim.Native.Nat.{ℕ}
-use mathlib.Core.Bool.{false≢true}
+use mathlib.Core.Bool.{false, false≢true}
 use mathlib.Core.List.{List, [], _∷_, _++_}
 use mathlib.Core.Path.{_≡_, refl, ap, _∙_}
 use native.Mathlib.Omega.{arith}
@@ -69,7 +69,7 @@ past t = set (plain t) 401 9
 
 -- block size, unit, table, image
 abbrev call : ℕ → ℕ → List ℕ → List ℕ → Args
-call size u table s = record { image = s; blockSize = size; ident = args .ident; text = args .text; time = 0; unit = u; table = table }
+call size u table s = record { image = s; blockSize = size; ident = args .ident; text = args .text; time = 0; unit = u; table = table; share = false }
 
 -- a column, with type and link 6 of its CN in the file and the number of data blocks; an omission, with its reason; number and place of a refusal
 pub data Ending : Type 0 where
@@ -185,7 +185,7 @@ type-kept l g = let z : _≡_ {A = ℕ} 1 0 = ap typeIn (g .shows 1 (omega arith
 abbrev pub KeepsSignal : Checked Decided → Type 0
 KeepsSignal (ok d) =
     (fs : List Fragment) (os : List Omission) (n : ℕ) (p : Layout) (f l : List ℕ)
-    → Guaranteed fixed (record { groups = d .groups; planned = record { columns = allSignalled (signalData fs) (d .planned .columns); omissions = os; fragments = n }; laidOut = p }) f l
+    → Guaranteed fixed (record { groups = d .groups; stands = d .stands; planned = record { columns = allSignalled (signalData fs) (d .planned .columns); omissions = os; fragments = n }; laidOut = p }) f l
     → ⊥
 KeepsSignal (refused number place) = ⊥
 
@@ -206,7 +206,7 @@ columnsIn (refused number place) = []
 abbrev pub Planned : List Column → List Omission → Checked Decided → Type 0
 Planned cs os (ok d) =
     (n : ℕ) (p : Layout) (f l : List ℕ)
-    → Guaranteed left (record { groups = d .groups; planned = record { columns = cs; omissions = os; fragments = n }; laidOut = p }) f l → ⊥
+    → Guaranteed left (record { groups = d .groups; stands = d .stands; planned = record { columns = cs; omissions = os; fragments = n }; laidOut = p }) f l → ⊥
 Planned cs os (refused number place) = ⊥
 
 -- a channel at 336 of the group at 232 is omitted for its reason

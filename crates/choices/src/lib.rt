@@ -8,9 +8,10 @@ ghost use Rattle.plan.specs.Table.{entryOf, isSized, isAllowed, isEntry, areEnt
 ghost use Rattle.plan.specs.Rules.{units, isAmong, choicesIn};
 ghost use Rattle.choices.specs.Chosen.{rules};
 
-// The unit on whose multiples columns start.
+// The unit on whose multiples columns start; whether equal time columns are shared.
 pub struct Choices {
     pub unit: u64,
+    pub share: bool,
 }
 
 // A power of two from 8 to 4096.

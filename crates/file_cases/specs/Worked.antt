@@ -32,6 +32,7 @@ use Rattle.plan.specs.Layout as planLayout
 use Rattle.result.specs.Fill as resultFill
 use Rattle.result.specs.Listing as resultListing
 use Rattle.result.specs.Payload as resultPayload
+use Rattle.result.specs.Sharing as resultSharing
 use Rattle.result.specs.Result as resultResult
 use Rattle.cases.specs.Starred.{args}
 use Rattle.file_cases.specs.Image.{outline}
@@ -84,7 +85,7 @@ unfolding
     planChannel.invalPosition planChannel.channelBytes planChannel.fits planChannel.isMasterType planChannel.keepsInval planChannel.width
     planChannel.invalBit planTable.countIn planTable.typeAt planTable.treatedAt planTable.entryOf planTable.isSized planTable.isAllowed planTable.isEntry
     planTable.areEntries planTable.tableIn planTable.builtInFor planTable.chosenBy planTable.treatment planColumns.withCounts planColumns.srcGroups planColumns.firstMaster planColumns.masterOf
-    planColumns.remoteLink planColumns.groupAt planColumns.remoteTime planColumns.timeOf planColumns.timeColumn planColumns.withTime
+    planColumns.remoteLink planColumns.groupAt planColumns.standIn planColumns.standing planColumns.remoteTime planColumns.timeOf planColumns.timeColumn planColumns.withTime
     planColumns.unfit planColumns.furtherMaster planColumns.omittedType planColumns.composed planColumns.signalLink planColumns.storedAt
     planColumns.decideChain planColumns.unless planColumns.decide planColumns.planChannels planColumns.planGroup
     planColumns.planGroups planColumns.plan planColumns.omissionAddresses planColumns.omissionReasons planColumns.omissionWords planCopies.copyOf
@@ -101,7 +102,7 @@ unfolding
     resultFill.hdData resultFill.hdBytes resultListing.digitsOf resultListing.decimal resultListing.columnLine resultListing.columnLines
     resultListing.omissionLines resultListing.planLines resultPayload.recordsOf resultPayload.cell resultPayload.cells resultPayload.payloads
     resultPayload.columnPayloads resultResult.hdBlock resultResult.blocksOf resultResult.flat resultResult.fileOf resultResult.sourceGroupsOf
-    resultResult.timeColumns resultResult.blocksWritten resultResult.report resultResult.lentIn resultResult.decided resultResult.answer
+    resultResult.timeColumns resultSharing.sharing resultResult.sharedGroups resultResult.blocksWritten resultResult.report resultResult.lentIn resultResult.decided resultResult.answer
     resultResult.workIn resultResult.zeros resultResult.convert mdfWalk.walkOf fileForm.cycles fileForm.recordBytes fileForm.alone
     fileForm.noneZero fileForm.linksFormed fileForm.isEqualLength fileForm.equalLength fileForm.haveLength fileForm.listFormed fileForm.allDT
     fileForm.allDV fileForm.oneKind fileForm.formed fileOpened.columnIn fileOpened.columnsIn fileOpened.opened fileRange.fileColumnAt

@@ -185,7 +185,7 @@ pub guaranteed : (x : Args) (out list : List ℕ) (d : Decided) → AllBytes (x 
 guaranteed x out list d bytes e =
     let k = answer-known x (length out) (length list) d e in
     let a = answer-accepted x (length out) (length list) d e in
-    let q = plan-in-order (rulesOf x) (x .image) (length (k .steps .source .fragments)) (d .groups) (d .planned) (λ y. omega (arith, k .groups .once y)) (k .steps .planned) in
+    let q = plan-in-order (rulesOf x) (x .image) (length (k .steps .source .fragments)) (d .groups) (d .stands) (d .planned) (λ y. omega (arith, k .groups .once y)) (k .steps .planned) in
     let filled = file-filled x (d .laidOut) out (ordered x d k) (a .outputFits) in
     record {
       planned = columns-placed (o x d k);
@@ -204,9 +204,10 @@ guaranteed x out list d bytes e =
       recording = (dataGroups (k .steps .source), k .groups .recorded);
       met = met x d k;
       once = k .once;
+      unshared = k .unshared;
       source = k .source;
       treated = treats (x .table) (choices-table (rulesOf x) (k .steps .chosen));
-      kinded = λ c i. made-kinded (rulesOf x) (x .image) c (c .isTime) (k .planned .sourced c i .made);
+      kinded = λ c i. made-kinded (rulesOf x) (x .image) (d .groups) (d .stands) c (c .isTime) (k .planned .sourced c i .made);
       omitted = k .planned .omitted;
       differing = q .differing;
       columnsInOrder = q .columns;
@@ -217,6 +218,8 @@ guaranteed x out list d bytes e =
       shared = λ g i. group-shared g (member (x .image) (dataGroups (k .steps .source)) (k .steps .counted) g (subst (In g) (k .steps .groups) i));
       signals = λ c i. (k .planned .sourced c i .signal, signal-whole (x .image) (c .signalOf) (k .signalFine c i));
       masters = k .masters;
+      namedBefore = k .planned .before;
+      distinct = k .distinct;
       historyEnds = history-followed (x .image) _ _ _ (o x d k .past) (few-comment x d k);
       attachmentsEnd = attachments-followed (x .image) _ _ _ (o x d k .attached);
     }

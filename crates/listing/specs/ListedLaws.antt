@@ -81,9 +81,9 @@ apart x d out bytes list words =
     ∙ at-choice x out bytes (refused 20 bytes) (ifLt list words (refused 21 words) (ok d)))
 
 -- ---- what was decided stands in the words
-pub decides-done : {x : Args} {a b c d : List ℕ} {r : Decision} {a' b' c' d' : List ℕ} {i f k o : ℕ} {n : Numbers}
-    → Decides x a b c d r a' b' c' d' → r ≡ Done i f k o n → DecidedIn x i f k o n a b c d a' b' c' d'
-decides-done {x} {a} {b} {c} {d} {a' = a'} {b' = b'} {c' = c'} {d' = d'} h e = subst (λ (r : Decision). Decides x a b c d r a' b' c' d') e h
+pub decides-done : {x : Args} {a b c d : List ℕ} {r : Decision} {a' b' c' d' : List ℕ} {i f k o h : ℕ} {n : Numbers}
+    → Decides x a b c d r a' b' c' d' → r ≡ Done i f k o h n → DecidedIn x i f k o n a b c d a' b' c' d'
+decides-done {x} {a} {b} {c} {d} {a' = a'} {b' = b'} {c' = c'} {d' = d'} h e = subst (λ (r : Decision). Decides x a b c d r a' b' c' d') e h .0
 
 pub decides-refused : {x : Args} {a b c d : List ℕ} {r : Decision} {a' b' c' d' : List ℕ} {n p : ℕ}
     → Decides x a b c d r a' b' c' d' → r ≡ Refused n p → RefusedIn x n p (four a b c d) (four a' b' c' d')

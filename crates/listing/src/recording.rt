@@ -77,6 +77,7 @@ pub fn list(
             fragments: _,
             columns: n,
             omissions,
+            shared: _,
             numbers,
         } => {
             let end = put_answer(

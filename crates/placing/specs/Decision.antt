@@ -14,7 +14,7 @@ use Rattle.plan.specs.Columns.{srcGroups}
 use Rattle.plan.specs.Rules.{Rules, choicesIn}
 use Rattle.plan.specs.Layout.{layout}
 use Rattle.work_words.specs.PlanWords.{signalFragments, laidPlan}
-use Rattle.result.specs.Result.{Args, Decided, lentIn, decided, workIn, workLeft}
+use Rattle.result.specs.Result.{Args, sharedGroups, Decided, lentIn, decided, workIn, workLeft}
 use Rattle.planning.specs.Answer.{plannedOf}
 use Rattle.placing.specs.declared.layout.Numbers.{Numbers}
 use Rattle.placing.specs.Laying.{onUnit, Numbered}
@@ -23,7 +23,7 @@ use Rattle.placing.specs.declared.decide.Decision.the-variants.{Refused,
 
 -- a call's arguments but the time
 abbrev pub untimed : List ℕ → ℕ → List ℕ → List ℕ → Rules → Args
-untimed image size ident text rs = record { image = image; blockSize = size; ident = ident; text = text; time = 0; unit = rs .unit; table = rs .table }
+untimed image size ident text rs = record { image = image; blockSize = size; ident = ident; text = text; time = 0; unit = rs .unit; table = rs .table; share = rs .share }
 
 -- the four work slices
 abbrev pub four : List ℕ → List ℕ → List ℕ → List ℕ → List (List ℕ)
@@ -37,7 +37,7 @@ rest rs s size n =
     andThen (ifLt 4294967296 (length s) (refused 3 0) fine) (λ _.
     andThen (plannedOf rs s size) (λ a.
     andThen (layout (onUnit (rs .unit)) s size n (a .planned .columns)) (λ l.
-    ok (record { groups = srcGroups (dataGroups (a .source)) (a .numbers); planned = a .planned; laidOut = l }))))))
+    ok (record { groups = srcGroups (dataGroups (a .source)) (a .numbers); stands = a .stands; planned = a .planned; laidOut = l }))))))
 
 -- what was decided stands in the words: of reading, of the fragments, of the plan and of the layout (the numbers have the last), each laid over what they were
 pub record DecidedIn (x : Args) (i f k o : ℕ) (n : Numbers) (a b c d a' b' c' d' : List ℕ) : Type 0 where
@@ -77,6 +77,10 @@ pub record RestIn (rs : Rules) (s : List ℕ) (size text : ℕ) (i f k o : ℕ) 
   pub inFragments : b' ≡ blit 0 (fragmentWords (source .fragments ++ signalFragments (told .planned .columns))) b
   pub inColumns : c' ≡ laidPlan (length (source .fragments)) (told .planned) c
 
+-- so many groups have a master that another stands for
+abbrev pub Shares : Checked Decided → ℕ → Type 0
+Shares v h = (d : Decided) → v ≡ ok d → h ≡ sharedGroups (d .stands)
+
 -- a refusal, and the words that it leaves
 pub record RefusedIn (x : Args) (number place : ℕ) (ws ws' : List (List ℕ)) : Type 0 where
   pub is : andThen (workIn ws) (λ _. decided x) ≡ refused number place
@@ -84,9 +88,9 @@ pub record RefusedIn (x : Args) (number place : ℕ) (ws ws' : List (List ℕ)) 
 
 abbrev pub Decides : Args → List ℕ → List ℕ → List ℕ → List ℕ → Decision → List ℕ → List ℕ → List ℕ → List ℕ → Type 0
 Decides x a b c d (Refused number place) a' b' c' d' = RefusedIn x number place (four a b c d) (four a' b' c' d')
-Decides x a b c d (Done items fragments columns omissions n) a' b' c' d' = DecidedIn x items fragments columns omissions n a b c d a' b' c' d'
+Decides x a b c d (Done items fragments columns omissions shared n) a' b' c' d' = DecidedIn x items fragments columns omissions n a b c d a' b' c' d' × Shares (decided x) shared
 
 -- of all but the first; after a refusal the words are not said
 abbrev pub DecidesRest : Rules → List ℕ → ℕ → ℕ → List ℕ → List ℕ → List ℕ → List ℕ → Decision → List ℕ → List ℕ → List ℕ → List ℕ → Type 0
 DecidesRest rs s size text a b c d (Refused number place) a' b' c' d' = rest rs s size text ≡ refused number place
-DecidesRest rs s size text a b c d (Done items fragments columns omissions n) a' b' c' d' = RestIn rs s size text items fragments columns omissions n a b c d a' b' c' d'
+DecidesRest rs s size text a b c d (Done items fragments columns omissions shared n) a' b' c' d' = RestIn rs s size text items fragments columns omissions n a b c d a' b' c' d' × Shares (rest rs s size text) shared

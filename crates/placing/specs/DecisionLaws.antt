@@ -1,7 +1,7 @@
 -- Laws of what is decided before anything is written.
 use Prim.Native.Nat.{ℕ, _+_, _≤_, _<_}
 use mathlib.Core.List.{List, [], _∷_, _++_}
-use mathlib.Core.Path.{_≡_, refl, sym, subst, _∙_}
+use mathlib.Core.Path.{_≡_, refl, sym, ap, subst, _∙_}
 use native.Mathlib.Omega.{arith}
 use lib.ListN.{length, length-append, replicate}
 use Rattle.base.specs.Blit.{blit}
@@ -20,7 +20,8 @@ use Rattle.work_words.specs.PlanWords.{fragmentsIn, signalFragments, laidPlan}
 use Rattle.plan.specs.Data.{allDataIn, blocksIn}
 use Rattle.plan.specs.Rules.{Rules, builtIn, choicesIn}
 use Rattle.plan.specs.Layout.{Layout, layout}
-use Rattle.result.specs.Result.{Args, rulesOf, Decided, lentIn, decided, workIn, zeros}
+use Rattle.result.specs.Sharing.{sharing}
+use Rattle.result.specs.Result.{Args, rulesOf, sharedGroups, Decided, lentIn, decided, workIn, zeros}
 use Rattle.result.specs.Guarantee.{In}
 use Rattle.fields.specs.declared.Check.{Check}
 use Rattle.fields.specs.declared.Check.the-variants as check
@@ -29,6 +30,8 @@ use Rattle.plan_laws.specs.Lists.{occurs}
 use Rattle.plan_laws.specs.GroupLaws.{allAddresses}
 use Rattle.plan_laws.specs.SourceLaws.{Groups, groups-known}
 use Rattle.plan_laws.specs.ColumnLaws.{signalsOf}
+use Rattle.plan_laws.specs.DecideLaws.{Sound}
+use Rattle.plan_laws.specs.StandLaws.{sharing-standing}
 use Rattle.plan_laws.specs.PlanLaws.{Planned, plan-known, plan-source, plan-fits, plan-few, plan-signals}
 use Rattle.payload_laws.specs.CountLaws.{member}
 use Rattle.payload_laws.specs.ColumnLaws.{ready}
@@ -45,7 +48,7 @@ use Rattle.placing.specs.declared.decide.Decision.the-variants.{Refused,
 use Rattle.placing.specs.Laying.{onUnit, LaidOut, Lays, LaysOut}
 use Rattle.placing.specs.InWords.{AllWithin}
 use Rattle.placing.specs.BoundedLaws.{Known, all-bounded, plan-within, plan-laid}
-use Rattle.placing.specs.Decision.{untimed, four, rest, DecidedIn, RestIn, RefusedIn, Decides, DecidesRest}
+use Rattle.placing.specs.Decision.{untimed, four, rest, Shares, DecidedIn, RestIn, RefusedIn, Decides, DecidesRest}
 
 -- ---- steps after steps
 steps : {A B C : Type 0} (v : Checked A) (f : A → Checked B) (g : B → Checked C) → andThen (andThen v f) g ≡ andThen v (λ x. andThen (f x) g)
@@ -63,7 +66,7 @@ decided-rest x =
     let s = x .image in
     let k : Arranged → Checked Decided = λ a.
     andThen (layout (onUnit (x .unit)) s (x .blockSize) (length (x .text)) (a .planned .columns)) (λ l.
-    ok (record { groups = srcGroups (dataGroups (a .source)) (a .numbers); planned = a .planned; laidOut = l })) in
+    ok (record { groups = srcGroups (dataGroups (a .source)) (a .numbers); stands = a .stands; planned = a .planned; laidOut = l })) in
     sym (same-steps (lentIn x) _ _ (λ _.
     same-steps (ifEq (x .blockSize) 0 (refused 2 0) fine) _ _ (λ _.
     same-steps (choicesIn (rulesOf x)) _ _ (λ _.
@@ -71,10 +74,12 @@ decided-rest x =
     steps (identified s) _ k ∙ same-steps (identified s) _ _ (λ _.
     steps (walk s) _ k ∙ same-steps (walk s) _ _ (λ st.
     steps (counts s (dataGroups st)) _ k ∙ same-steps (counts s (dataGroups st)) _ _ (λ ns.
-    steps (plan (rulesOf x) s (length (st .fragments)) (srcGroups (dataGroups st) ns)) _ k
-    ∙ same-steps (plan (rulesOf x) s (length (st .fragments)) (srcGroups (dataGroups st) ns)) _ _ (λ p.
+    steps (sharing (x .share) s (dataGroups st) (srcGroups (dataGroups st) ns)) _ k
+    ∙ same-steps (sharing (x .share) s (dataGroups st) (srcGroups (dataGroups st) ns)) _ _ (λ bys.
+    steps (plan (rulesOf x) s (length (st .fragments)) (srcGroups (dataGroups st) ns) bys) _ k
+    ∙ same-steps (plan (rulesOf x) s (length (st .fragments)) (srcGroups (dataGroups st) ns) bys) _ _ (λ p.
     steps (allDataIn s (p .columns) (dataGroups st)) _ k ∙ same-steps (allDataIn s (p .columns) (dataGroups st)) _ _ (λ _.
-    steps (blocksIn s (x .blockSize) (p .columns)) _ k))))))))))
+    steps (blocksIn s (x .blockSize) (p .columns)) _ k)))))))))))
 
 -- ---- the lent slices
 module _ (ident text : List ℕ) where
@@ -110,29 +115,30 @@ plan-into : (rs : Rules) (s : List ℕ) (size : ℕ) (w f c : List ℕ) → 8192
 unfolding planInto
 plan-into rs s size w f c l m n = lt-no _ _ _ _ (omega arith) (lt-no _ _ _ _ (omega arith) (lt-no _ _ _ _ (omega arith) refl))
 
-done≢refused : {i nf nc no' x y : ℕ} {a b c d e f : List ℕ} → planLeft (planned.Done i nf nc no') a b c ≡ planLeft (planned.Refused x y) d e f → ⊥
+done≢refused : {i nf nc no' sh x y : ℕ} {a b c d e f : List ℕ} → planLeft (planned.Done i nf nc no' sh) a b c ≡ planLeft (planned.Refused x y) d e f → ⊥
 done≢refused e = let z : _≡_ {A = ℕ} 0 1 = cc in omega arith
 
-refused≢done : {i nf nc no' x y : ℕ} {a b c d e f : List ℕ} → planLeft (planned.Refused x y) d e f ≡ planLeft (planned.Done i nf nc no') a b c → ⊥
+refused≢done : {i nf nc no' sh x y : ℕ} {a b c d e f : List ℕ} → planLeft (planned.Refused x y) d e f ≡ planLeft (planned.Done i nf nc no' sh) a b c → ⊥
 refused≢done e = let z : _≡_ {A = ℕ} 0 1 = cc in omega arith
 
 -- a recording that was planned, and its words
-pub record PlannedIn (rs : Rules) (s : List ℕ) (size i nf nc no' : ℕ) (w f c w' f' c' : List ℕ) : Type 0 where
+pub record PlannedIn (rs : Rules) (s : List ℕ) (size i nf nc no' sh : ℕ) (w f c w' f' c' : List ℕ) : Type 0 where
   pub told : Arranged
   pub is : plannedOf rs s size ≡ ok told
   pub items : i ≡ length (told .source .items)
   pub fragments : nf ≡ length (told .source .fragments)
   pub columns : nc ≡ length (told .planned .columns)
   pub omissions : no' ≡ length (told .planned .omissions)
+  pub shared : sh ≡ sharedGroups (told .stands)
   pub inSource : w' ≡ blit countsAt (told .numbers) (laidItems (told .source .items) w)
   pub inFragments : f' ≡ blit 0 (fragmentWords (told .source .fragments ++ signalFragments (told .planned .columns))) f
   pub inColumns : c' ≡ laidPlan (length (told .source .fragments)) (told .planned) c
 
-planned-by : (rs : Rules) (s : List ℕ) (size i nf nc no' : ℕ) (w f c w' f' c' : List ℕ) (v : Checked Arranged) → plannedOf rs s size ≡ v
-    → planLeft (planned.Done i nf nc no') w' f' c' ≡ leftBy v w f c → PlannedIn rs s size i nf nc no' w f c w' f' c'
-planned-by rs s size i nf nc no' w f c w' f' c' (refused x y) p z = absurd (done≢refused z)
-planned-by rs s size i nf nc no' w f c w' f' c' (ok a) p z =
-    record { told = a; is = p; items = cc; fragments = cc; columns = cc; omissions = cc; inSource = cc; inFragments = cc; inColumns = cc }
+planned-by : (rs : Rules) (s : List ℕ) (size i nf nc no' sh : ℕ) (w f c w' f' c' : List ℕ) (v : Checked Arranged) → plannedOf rs s size ≡ v
+    → planLeft (planned.Done i nf nc no' sh) w' f' c' ≡ leftBy v w f c → PlannedIn rs s size i nf nc no' sh w f c w' f' c'
+planned-by rs s size i nf nc no' sh w f c w' f' c' (refused x y) p z = absurd (done≢refused z)
+planned-by rs s size i nf nc no' sh w f c w' f' c' (ok a) p z =
+    record { told = a; is = p; items = cc; fragments = cc; columns = cc; omissions = cc; shared = cc; inSource = cc; inFragments = cc; inColumns = cc }
 
 refused-by : (rs : Rules) (s : List ℕ) (size x y : ℕ) (w f c w' f' c' : List ℕ) (v : Checked Arranged) → plannedOf rs s size ≡ v
     → planLeft (planned.Refused x y) w' f' c' ≡ leftBy v w f c → plannedOf rs s size ≡ refused x y
@@ -141,8 +147,8 @@ refused-by rs s size x y w f c w' f' c' (ok a) p z = absurd (refused≢done z)
 
 module _ (rs : Rules) (s : List ℕ) (size : ℕ) (w f c w' f' c' : List ℕ) (r : answer.Planned) (e : planLeft r w' f' c' ≡ planInto rs s size w f c)
     (l : 8192 ≤ length w) (m : 8192 ≤ length f) (n : 8192 ≤ length c) where
-  pub plans-done : {i nf nc no' : ℕ} → r ≡ planned.Done i nf nc no' → PlannedIn rs s size i nf nc no' w f c w' f' c'
-  plans-done {i} {nf} {nc} {no'} q = planned-by rs s size i nf nc no' w f c w' f' c' (plannedOf rs s size) refl (rw q at (e ∙ sym (plan-into rs s size w f c l m n)))
+  pub plans-done : {i nf nc no' sh : ℕ} → r ≡ planned.Done i nf nc no' sh → PlannedIn rs s size i nf nc no' sh w f c w' f' c'
+  plans-done {i} {nf} {nc} {no'} {sh} q = planned-by rs s size i nf nc no' sh w f c w' f' c' (plannedOf rs s size) refl (rw q at (e ∙ sym (plan-into rs s size w f c l m n)))
 
   pub plans-refused : {x y : ℕ} → r ≡ planned.Refused x y → plannedOf rs s size ≡ refused x y
   plans-refused {x} {y} q = refused-by rs s size x y w f c w' f' c' (plannedOf rs s size) refl (rw q at (e ∙ sym (plan-into rs s size w f c l m n)))
@@ -151,7 +157,8 @@ module _ (rs : Rules) (s : List ℕ) (size : ℕ) (w f c w' f' c' : List ℕ) (r
 pub record ArrangedBy (rs : Rules) (s : List ℕ) (size : ℕ) (a : Arranged) : Type 0 where
   pub walked : walk s ≡ ok (a .source)
   pub counted : counts s (dataGroups (a .source)) ≡ ok (a .numbers)
-  pub planned : plan rs s (length (a .source .fragments)) (srcGroups (dataGroups (a .source)) (a .numbers)) ≡ ok (a .planned)
+  pub shared : sharing (rs .share) s (dataGroups (a .source)) (srcGroups (dataGroups (a .source)) (a .numbers)) ≡ ok (a .stands)
+  pub planned : plan rs s (length (a .source .fragments)) (srcGroups (dataGroups (a .source)) (a .numbers)) (a .stands) ≡ ok (a .planned)
   pub dataFine : allDataIn s (a .planned .columns) (dataGroups (a .source)) ≡ fine
   pub blocksFine : blocksIn s size (a .planned .columns) ≡ fine
 
@@ -161,11 +168,12 @@ arranged-by rs s size a e =
     let b = then-fine (identified s) _ e in
     let c = then-ok (walk s) _ (b .1) in
     let d = then-ok (counts s (dataGroups (c .0))) _ (c .2) in
-    let f = then-ok (plan rs s (length (c .0 .fragments)) (srcGroups (dataGroups (c .0)) (d .0))) _ (d .2) in
+    let j = then-ok (sharing (rs .share) s (dataGroups (c .0)) (srcGroups (dataGroups (c .0)) (d .0))) _ (d .2) in
+    let f = then-ok (plan rs s (length (c .0 .fragments)) (srcGroups (dataGroups (c .0)) (d .0)) (j .0)) _ (j .2) in
     let g = then-fine (allDataIn s (f .0 .columns) (dataGroups (c .0))) _ (f .2) in
     let h = then-fine (blocksIn s size (f .0 .columns)) _ (g .1) in
     let k = ok-same (h .1) in
-    subst (ArrangedBy rs s size) k (record { walked = c .1; counted = d .1; planned = f .1; dataFine = g .0; blocksFine = h .0 })
+    subst (ArrangedBy rs s size) k (record { walked = c .1; counted = d .1; shared = j .1; planned = f .1; dataFine = g .0; blocksFine = h .0 })
 
 pub signals-length : (cs : List Column) → length (signalFragments cs) ≡ signalsOf cs
 unfolding signalFragments signalsOf
@@ -176,7 +184,7 @@ signals-length (c ∷ cs) = let r = signals-length cs in simp length-append (rw 
     size-of noSignal = refl
     size-of (signalData fs) = refl
 
-module _ {rs : Rules} {s : List ℕ} {size i nf nc no' : ℕ} {w f c w' f' c' : List ℕ} (t : PlannedIn rs s size i nf nc no' w f c w' f' c') where
+module _ {rs : Rules} {s : List ℕ} {size i nf nc no' sh : ℕ} {w f c w' f' c' : List ℕ} (t : PlannedIn rs s size i nf nc no' sh w f c w' f' c') where
   abbrev by : ArrangedBy rs s size (t .told)
   by = arranged-by rs s size (t .told) (t .is)
 
@@ -189,13 +197,16 @@ module _ {rs : Rules} {s : List ℕ} {size i nf nc no' : ℕ} {w f c w' f' c' : 
   one : (y : ℕ) → occurs y (allAddresses all) ≤ 1
   one y = omega (arith, known .once y)
 
+  sound : Sound s all (t .told .stands)
+  sound g i z = sharing-standing s all one (rs .share) (dataGroups (t .told .source)) (t .told .stands) (by .shared) g i z .0
+
   few-columns : length (t .told .planned .columns) ≤ 512
   few-columns =
-      omega (arith, plan-few rs s all (length (t .told .source .fragments)) (t .told .planned) one (known .nonzero) (known .fewFragments) (by .planned), known .fewChannels)
+      omega (arith, plan-few rs s all (t .told .stands) (length (t .told .source .fragments)) (t .told .planned) one (known .nonzero) sound (known .fewFragments) (by .planned), known .fewChannels)
 
   few-fragments : length (t .told .source .fragments) + length (signalFragments (t .told .planned .columns)) ≤ 1024
   few-fragments =
-      let p = plan-known rs s all (length (t .told .source .fragments)) (t .told .planned) one (known .nonzero) (known .fewFragments) (by .planned) in
+      let p = plan-known rs s all (t .told .stands) (length (t .told .source .fragments)) (t .told .planned) one (known .nonzero) sound (known .fewFragments) (by .planned) in
       omega (arith, signals-length (t .told .planned .columns), p .signals, p .few)
 
   -- a column whose data was read
@@ -203,14 +214,14 @@ module _ {rs : Rules} {s : List ℕ} {size i nf nc no' : ℕ} {w f c w' f' c' : 
   unfolding dataGroups
   column-known c j =
       let n = length (t .told .source .fragments) in
-      let source = plan-source rs s all n (t .told .planned) one (known .nonzero) (known .fewFragments) (by .planned) c j in
-      let fit = plan-fits rs s all n (t .told .planned) one (known .nonzero) (known .fewFragments) (by .planned) c j in
+      let source = plan-source rs s all (t .told .stands) n (t .told .planned) one (known .nonzero) sound (known .fewFragments) (by .planned) c j in
+      let fit = plan-fits rs s all (t .told .stands) n (t .told .planned) one (known .nonzero) sound (known .fewFragments) (by .planned) c j in
       let m = member s (dataGroups (t .told .source)) (by .counted) (c .group) (source .0) in
       record {
         ready = ready s (dataGroups (t .told .source)) (t .told .planned .columns) (by .counted) (by .dataFine) c j (source .0) fit (source .1);
         signals = column-signal s (dataGroups (t .told .source)) (t .told .planned .columns) (by .counted) (by .dataFine) c j (source .0);
         few = omega (arith, fragments-few (t .told .source .fragments) (t .told .source .items) (c .group .dataGroup) (m .listed), known .fewFragments);
-        fewSignals = omega (arith, plan-signals rs s all n (t .told .planned) one (known .nonzero) (known .fewFragments) (by .planned) c j);
+        fewSignals = omega (arith, plan-signals rs s all (t .told .stands) n (t .told .planned) one (known .nonzero) sound (known .fewFragments) (by .planned) c j);
       }
 
   module _ (h : length s ≤ 4294967296) (lf : 8192 ≤ length f) (lc : 8192 ≤ length c) where
@@ -257,7 +268,7 @@ module _ (rs : Rules) (s : List ℕ) (size text : ℕ) where
       module _ (l : length s ≤ 4294967296) where
         opened : rest rs s size text ≡ andThen (plannedOf rs s size) (λ a.
             andThen (layout (onUnit (rs .unit)) s size text (a .planned .columns)) (λ l.
-            ok (record { groups = srcGroups (dataGroups (a .source)) (a .numbers); planned = a .planned; laidOut = l })))
+            ok (record { groups = srcGroups (dataGroups (a .source)) (a .numbers); stands = a .stands; planned = a .planned; laidOut = l })))
         unfolding rest
         opened = rw (← (eq-no size 0 (refused 2 0) fine h refl), k, ← (lt-no 4294967296 (length s) (refused 3 0) fine l refl))
 
@@ -269,21 +280,21 @@ module _ (rs : Rules) (s : List ℕ) (size text : ℕ) where
         rest-unlaid e f = opened ∙ rw (e, f)
 
         pub rest-laid : {a : Arranged} {v : Layout} → plannedOf rs s size ≡ ok a → layout (onUnit (rs .unit)) s size text (a .planned .columns) ≡ ok v
-            → rest rs s size text ≡ ok (record { groups = srcGroups (dataGroups (a .source)) (a .numbers); planned = a .planned; laidOut = v })
+            → rest rs s size text ≡ ok (record { groups = srcGroups (dataGroups (a .source)) (a .numbers); stands = a .stands; planned = a .planned; laidOut = v })
         rest-laid e f = opened ∙ rw (e, f)
 
 -- ---- what the layout gives
 pub unlaid : (m m' : List ℕ) (r : Laid) (v : Checked Layout) {n p : ℕ} → Lays m m' r v → r ≡ laid.Refused n p → v ≡ refused n p
 unlaid m m' r v z e = subst (λ (r : Laid). Lays m m' r v) e z
 
-pub rest-in : (rs : Rules) (s : List ℕ) (size text : ℕ) → (size ≡ 0 → ⊥) → choicesIn rs ≡ fine → length s ≤ 4294967296 → {i nf nc no' : ℕ} {w f c w' f' c' : List ℕ} (t : PlannedIn rs s size i nf nc no' w f c w' f' c')
+pub rest-in : (rs : Rules) (s : List ℕ) (size text : ℕ) → (size ≡ 0 → ⊥) → choicesIn rs ≡ fine → length s ≤ 4294967296 → {i nf nc no' sh : ℕ} {w f c w' f' c' : List ℕ} (t : PlannedIn rs s size i nf nc no' sh w f c w' f' c')
     → {m m' : List ℕ} {r : Laid} {n : Numbers} → Lays m m' r (layout (onUnit (rs .unit)) s size text (t .told .planned .columns)) → r ≡ laid.Done n
     → RestIn rs s size text i nf nc no' n w f c m w' f' c' m'
 rest-in rs s size text h k l t {m} {m'} {r} {n} z e =
     let y : LaidOut m m' n (layout (onUnit (rs .unit)) s size text (t .told .planned .columns)) = subst (λ (q : Laid). Lays m m' q (layout (onUnit (rs .unit)) s size text (t .told .planned .columns))) e z in
     let b = arranged-by rs s size (t .told) (t .is) in
     record {
-      told = record { groups = srcGroups (dataGroups (t .told .source)) (t .told .numbers); planned = t .told .planned; laidOut = y .told };
+      told = record { groups = srcGroups (dataGroups (t .told .source)) (t .told .numbers); stands = t .told .stands; planned = t .told .planned; laidOut = y .told };
       is = rest-laid rs s size text h k l (t .is) (y .is);
       source = t .told .source;
       walked = b .walked;
@@ -298,6 +309,16 @@ rest-in rs s size text h k l t {m} {m'} {r} {n} z e =
       inFragments = t .inFragments;
       inColumns = t .inColumns;
     }
+
+pub rest-shares : (rs : Rules) (s : List ℕ) (size text : ℕ) → {i nf nc no' sh : ℕ} {w f c w' f' c' : List ℕ} (t : PlannedIn rs s size i nf nc no' sh w f c w' f' c') → Shares (rest rs s size text) sh
+unfolding rest
+rest-shares rs s size text t d e =
+    let a = then-fine (ifEq size 0 (refused 2 0) fine) _ e in
+    let b = then-fine (choicesIn rs) _ (a .1) in
+    let c = then-fine (ifLt 4294967296 (length s) (refused 3 0) fine) _ (b .1) in
+    let g = then-ok (plannedOf rs s size) _ (c .1) in
+    let h = then-ok (layout (onUnit (rs .unit)) s size text (g .0 .planned .columns)) _ (g .2) in
+    t .shared ∙ ap (λ (x : Arranged). sharedGroups (x .stands)) (ok-same (sym (t .is) ∙ g .1)) ∙ ap (λ (x : Decided). sharedGroups (x .stands)) (ok-same (h .2))
 
 -- ---- the whole
 module _ (a b c d : List ℕ) where
@@ -347,7 +368,7 @@ module _ (image : List ℕ) (size : ℕ) (ident text : List ℕ) (chosen : Rules
     lent-passes : lentIn x ≡ fine
     lent-passes = lent-is ∙ rw q
 
-    decided-is : decided x ≡ rest chosen image size (length text)
+    pub decided-is : decided x ≡ rest chosen image size (length text)
     decided-is = decided-rest x ∙ rw lent-passes
 
     pub text-fits : length text ≤ 4096
@@ -396,8 +417,10 @@ pub cleared : (a b c d a' b' c' d' a'' b'' c'' d'' : List ℕ) → length a' ≡
 unfolding zeros
 cleared a b c d a' b' c' d' a'' b'' c'' d'' la lb lc ld e f g h = rw (e, f, g, h, la, lb, lc, ld)
 
-pub decides-some : (x : Args) (rs : Rules) (s : List ℕ) (size text : ℕ) (a b c d a' b' c' d' : List ℕ) (r : Decision) {i g k o : ℕ} {n : Numbers}
-    → DecidesRest rs s size text a b c d r a' b' c' d' → r ≡ Done i g k o n
-    → (RestIn rs s size text i g k o n a b c d a' b' c' d' → DecidedIn x i g k o n a b c d a' b' c' d') → Decides x a b c d r a' b' c' d'
-decides-some x rs s size text a b c d a' b' c' d' r h e f =
-    subst (λ (q : Decision). Decides x a b c d q a' b' c' d') (sym e) (f (subst (λ (q : Decision). DecidesRest rs s size text a b c d q a' b' c' d') e h))
+pub decides-some : (x : Args) (rs : Rules) (s : List ℕ) (size text : ℕ) (a b c d a' b' c' d' : List ℕ) (r : Decision) {i g k o sh : ℕ} {n : Numbers}
+    → DecidesRest rs s size text a b c d r a' b' c' d' → r ≡ Done i g k o sh n
+    → (RestIn rs s size text i g k o n a b c d a' b' c' d' → DecidedIn x i g k o n a b c d a' b' c' d') → decided x ≡ rest rs s size text
+    → Decides x a b c d r a' b' c' d'
+decides-some x rs s size text a b c d a' b' c' d' r h e f q =
+    let k = subst (λ (q : Decision). DecidesRest rs s size text a b c d q a' b' c' d') e h in
+    subst (λ (q : Decision). Decides x a b c d q a' b' c' d') (sym e) (f (k .0), λ d w. k .1 d (sym q ∙ w))

@@ -1,6 +1,7 @@
 -- The whole layout, in words: what the code answers at each stage.
 use Prim.Native.Nat.{ℕ, _*_, _≤_}
 use mathlib.Core.List.{List, []}
+use mathlib.Core.Bool.{false}
 use mathlib.Core.Path.{_≡_}
 use lib.ListN.{length}
 use Rattle.base.specs.Checked.{Checked, ok, refused, andThen}
@@ -97,7 +98,7 @@ Lays m m' (laid.Refused number place) v = v ≡ refused number place
 
 -- what placement takes of the choices
 abbrev pub onUnit : ℕ → Rules
-onUnit u = record { unit = u; table = [] }
+onUnit u = record { unit = u; table = []; share = false }
 
 -- of all columns that stand in the words
 pub record LaysOut (u : ℕ) (s : List ℕ) (size text : ℕ) (w f : List ℕ) (n : ℕ) (m m' : List ℕ) (r : Laid) : Type 0 where

@@ -19,7 +19,8 @@ ghost use Rattle.result.specs.Result.{lentIn};
 ghost use Rattle.choices.specs.Chosen.{rules};
 ghost use Rattle.placing.specs.Decision.{untimed, DecidesRest, Decides};
 
-// Document 01's refusal; or the blocks met, the fragments of data chains, columns and omissions, and the layout's numbers.
+// Document 01's refusal; or the blocks met, the fragments of data chains, columns and omissions, the groups that another stands for, and the
+// layout's numbers.
 pub enum Decision {
     Refused {
         number: u64,
@@ -30,6 +31,7 @@ pub enum Decision {
         fragments: u64,
         columns: u64,
         omissions: u64,
+        shared: u64,
         numbers: Numbers,
     },
 }
@@ -107,6 +109,7 @@ fn decide_rest(
             fragments: pieces,
             columns: n,
             omissions,
+            shared,
         } => {
             let laid = lay_out(image, choices.unit, size, text, fragments, columns, n, copies);
             match laid {
@@ -116,6 +119,7 @@ fn decide_rest(
                     fragments: pieces,
                     columns: n,
                     omissions,
+                    shared,
                     numbers,
                 },
             }

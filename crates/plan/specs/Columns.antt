@@ -58,7 +58,8 @@ unfoldable pub groupAt : ℕ → List SrcGroup → Option SrcGroup
 groupAt a [] = none
 groupAt a (g ∷ gs) = let later = groupAt a gs in ifEq (g .at) a (some g) later
 
--- bookkeeping: whose master a group has or uses: its own, that of its remote group with as many records, none; or the remote group's counts differ (reason 1)
+-- bookkeeping: whose master a group has or uses: its own, that of its remote group with as many records, or the one that stands for it; none; or the
+-- remote group's counts differ (reason 1)
 pub data TimeOf : Type 0 where
   time : SrcGroup → ℕ → TimeOf
   untimed : TimeOf
@@ -73,15 +74,28 @@ abbrev pub onGroup : {A : Type 0} → Option SrcGroup → A → (SrcGroup → A)
 onGroup none a f = a
 onGroup (some g) a f = f g
 
+-- bookkeeping: bys has for each group the CG of the group whose master stands for its own (document 02, request 8), 0 for none: that of the group at a
+unfoldable pub standIn : ℕ → List SrcGroup → List ℕ → ℕ
+standIn a [] bys = 0
+standIn a (g ∷ gs) [] = 0
+standIn a (g ∷ gs) (b ∷ bys) = let later = standIn a gs bys in ifEq (g .at) a b later
+
+-- "The first group in file order .. stands for its equals": the master m of group t, or the one that stands for it, "which the signals that have or use
+-- it name"
+unfoldable pub standing : List ℕ → List SrcGroup → List ℕ → SrcGroup → ℕ → TimeOf
+standing s all bys t m =
+    let other = onGroup (groupAt (standIn (t .at) all bys) all) untimed (λ u. onMaster (masterOf s u) untimed (λ k. time u k)) in
+    ifEq (standIn (t .at) all bys) 0 (time t m) other
+
 -- "Without one, the group uses the master of the group at its remote link if both counts agree."
-unfoldable pub remoteTime : List ℕ → List SrcGroup → SrcGroup → TimeOf
-remoteTime s all g =
+unfoldable pub remoteTime : List ℕ → List SrcGroup → List ℕ → SrcGroup → TimeOf
+remoteTime s all bys g =
     onGroup (groupAt (remoteLink s (g .at)) all) untimed (λ t.
-    onMaster (masterOf s t) untimed (λ m. ifEq (t .records) (g .records) (time t m) differs))
+    onMaster (masterOf s t) untimed (λ m. ifEq (t .records) (g .records) (standing s all bys t m) differs))
 
 -- the group's own master first
-unfoldable pub timeOf : List ℕ → List SrcGroup → SrcGroup → TimeOf
-timeOf s all g = let remote = remoteTime s all g in onMaster (masterOf s g) remote (λ m. time g m)
+unfoldable pub timeOf : List ℕ → List SrcGroup → List ℕ → SrcGroup → TimeOf
+timeOf s all bys g = let remote = remoteTime s all bys g in onMaster (masterOf s g) remote (λ m. standing s all bys g m)
 
 -- ---- columns
 
@@ -223,17 +237,17 @@ planTimed o s g untimed p = planChannels o s g (ownMaster (masterOf s g)) none (
 planTimed o s g differs p = planChannels o s g (ownMaster (masterOf s g)) none (g .channels) (withOmission (g .at) 1 p)
 
 -- "VLSD storage groups (flag bit 0) have no master and no column."
-unfoldable pub planGroup : Rules → List ℕ → List SrcGroup → SrcGroup → Plan → Checked Plan
-planGroup o s all g p = let here = planTimed o s g (timeOf s all g) p in pick (isStorage s (g .at)) (ok p) here
+unfoldable pub planGroup : Rules → List ℕ → List SrcGroup → List ℕ → SrcGroup → Plan → Checked Plan
+planGroup o s all bys g p = let here = planTimed o s g (timeOf s all bys g) p in pick (isStorage s (g .at)) (ok p) here
 
 -- bookkeeping: group by group
-unfoldable pub planGroups : Rules → List ℕ → List SrcGroup → List SrcGroup → Plan → Checked Plan
-planGroups o s all [] p = ok p
-planGroups o s all (g ∷ gs) p = andThen (planGroup o s all g p) (λ q. planGroups o s all gs q)
+unfoldable pub planGroups : Rules → List ℕ → List SrcGroup → List ℕ → List SrcGroup → Plan → Checked Plan
+planGroups o s all bys [] p = ok p
+planGroups o s all bys (g ∷ gs) p = andThen (planGroup o s all bys g p) (λ q. planGroups o s all bys gs q)
 
--- "planning's order (groups in file order)", by what is chosen; n fragments were found in the walk
-unfoldable pub plan : Rules → List ℕ → ℕ → List SrcGroup → Checked Plan
-plan o s n all = planGroups o s all all (record { columns = []; omissions = []; fragments = n })
+-- "planning's order (groups in file order)", by what is chosen; n fragments were found in the walk, and bys says which masters stand for others
+unfoldable pub plan : Rules → List ℕ → ℕ → List SrcGroup → List ℕ → Checked Plan
+plan o s n all bys = planGroups o s all bys all (record { columns = []; omissions = []; fragments = n })
 
 -- ---- the omission list: "the number n, then n addresses, then n reasons, in file order"
 unfoldable pub omissionAddresses : List Omission → List ℕ

@@ -169,6 +169,30 @@ time-missing g k (c ∷ cs) e =
     (λ _ q. absurd (none≢some (sym q)))
     (λ t q. rw t (omega (arith, time-missing g (k + 1) cs q)))
 
+-- a time column of channel x, with its number
+pub record TimePlace (x : ℕ) (cs : List Column) : Type 0 where
+  pub number : ℕ
+  pub column : Column
+  pub place : columnAt number cs ≡ some column
+  pub isIn : In column cs
+  pub timed : column .isTime ≡ true
+  pub ofChannel : column .channel ≡ x
+
+pub times-place : (x : ℕ) (cs : List Column) → 1 ≤ timesOf x cs → TimePlace x cs
+unfolding timesOf columnAt
+times-place x [] h = absurd (omega arith)
+times-place x (c ∷ cs) h = go (times-place x cs) (c .isTime) refl
+  where
+    later : TimePlace x cs → TimePlace x (c ∷ cs)
+    later r = record { number = suc (r .number); column = r .column; place = r .place; isIn = there (r .isIn); timed = r .timed; ofChannel = r .ofChannel }
+
+    go : (1 ≤ timesOf x cs → TimePlace x cs) → (t : Bool) → c .isTime ≡ t → TimePlace x (c ∷ cs)
+    go more true t =
+        or-not (c .channel) x
+        (λ e. record { number = 0; column = c; place = refl; isIn = here; timed = t; ofChannel = e })
+        (λ e. later (more (omega (arith, same-no (c .channel) x e, rw t at h))))
+    go more false t = later (more (omega (arith, rw t at h)))
+
 -- ---- masters named, in a list that grows
 
 -- by what planning decides of the group
@@ -177,9 +201,9 @@ TimeDue cs c (time t m) = (k : ℕ) × (d : Column) × (c .master ≡ some k) ×
 TimeDue cs c untimed = c .master ≡ none
 TimeDue cs c differs = c .master ≡ none
 
-abbrev pub NamesTime : List ℕ → List SrcGroup → List Column → Column → Bool → Type 0
-NamesTime s all cs c true = c .master ≡ none
-NamesTime s all cs c false = TimeDue cs c (timeOf s all (c .group))
+abbrev pub NamesTime : List ℕ → List SrcGroup → List ℕ → List Column → Column → Bool → Type 0
+NamesTime s all bys cs c true = c .master ≡ none
+NamesTime s all bys cs c false = TimeDue cs c (timeOf s all bys (c .group))
 
 due-later : (cs ds : List Column) (c : Column) (o : TimeOf) → TimeDue cs c o → TimeDue (cs ++ ds) c o
 due-later cs ds c (time t m) h = (
@@ -197,9 +221,10 @@ due-later cs ds c (time t m) h = (
 due-later cs ds c untimed h = h
 due-later cs ds c differs h = h
 
-pub named-later : (s : List ℕ) (all : List SrcGroup) (cs ds : List Column) (c : Column) (t : Bool) → NamesTime s all cs c t → NamesTime s all (cs ++ ds) c t
-named-later s all cs ds c true h = h
-named-later s all cs ds c false h = due-later cs ds c (timeOf s all (c .group)) h
+pub named-later : (s : List ℕ) (all : List SrcGroup) (bys : List ℕ) (cs ds : List Column) (c : Column) (t : Bool) → NamesTime s all bys cs c t
+    → NamesTime s all bys (cs ++ ds) c t
+named-later s all bys cs ds c true h = h
+named-later s all bys cs ds c false h = due-later cs ds c (timeOf s all bys (c .group)) h
 
 -- what is due of a signal column with n records that names m
 abbrev pub GivenDue : List Column → Option ℕ → ℕ → TimeOf → Type 0

@@ -16,7 +16,7 @@ use Rattle.mdf.specs.Chain.{Chain.signal, Found, found, stopped, limits, chain}
 use Rattle.mdf.specs.Group.{isStorage}
 use Rattle.plan.specs.Table.{treatment}
 use Rattle.plan.specs.Channel.{channelType, fits, isMasterType, both, either}
-use Rattle.plan.specs.Columns.{kindCA, SrcGroup, firstMaster, masterOf, remoteLink, groupAt, TimeOf, time, untimed, differs, onMaster, onGroup, remoteTime, timeOf, Signal, noSignal, signalData, Decision, omitted, kept, keptSignal, unfit, furtherMaster, omittedType, composed, signalLink, storedAt, decideChain, unless, decide, sizeOfSignal}
+use Rattle.plan.specs.Columns.{kindCA, SrcGroup, firstMaster, masterOf, remoteLink, groupAt, TimeOf, time, untimed, differs, onMaster, onGroup, standIn, standing, remoteTime, timeOf, Signal, noSignal, signalData, Decision, omitted, kept, keptSignal, unfit, furtherMaster, omittedType, composed, signalLink, storedAt, decideChain, unless, decide, sizeOfSignal}
 use Rattle.result.specs.Member.{In, here, there}
 use Rattle.result.specs.Recording.{leadsTo, hasSignal, reasonFor, SignalDue}
 use Rattle.result.specs.Recording as recording
@@ -102,11 +102,26 @@ group-at a (g ∷ gs) t e =
     (λ p q. let r : g ≡ t = some-same q in (subst (λ (h : SrcGroup). In h (g ∷ gs)) r here, ap (λ (h : SrcGroup). h .at) (sym r) ∙ p))
     (λ _ q. let r = group-at a gs t q in (there (r .0), r .1))
 
--- the group whose master a group has or uses
-pub record Timed (s : List ℕ) (all : List SrcGroup) (g t : SrcGroup) (m : ℕ) : Type 0 where
+-- the group that stands for t: one of the groups, with a master, as many records, and none stands for it
+pub record StoodBy (s : List ℕ) (all : List SrcGroup) (bys : List ℕ) (t : SrcGroup) : Type 0 where
+  pub by : SrcGroup
+  pub isIn : In by all
+  pub found : groupAt (standIn (t .at) all bys) all ≡ some by
+  pub theirs : ℕ
+  pub master : masterOf s by ≡ some theirs
+  pub asMany : by .records ≡ t .records
+  pub itself : standIn (by .at) all bys ≡ 0
+
+-- each group that another stands for has such a one
+abbrev pub Sound : List ℕ → List SrcGroup → List ℕ → Type 0
+Sound s all bys = (t : SrcGroup) → In t all → (standIn (t .at) all bys ≡ 0 → ⊥) → StoodBy s all bys t
+
+-- the group whose master a group has or uses, or that stands for it
+pub record Timed (s : List ℕ) (all : List SrcGroup) (bys : List ℕ) (g t : SrcGroup) (m : ℕ) : Type 0 where
   pub isIn : In t all
   pub master : masterOf s t ≡ some m
   pub asMany : t .records ≡ g .records
+  pub itself : standIn (t .at) all bys ≡ 0
 
 pub time≢untimed : {t : SrcGroup} {m : ℕ} → untimed ≡ time t m → ⊥
 time≢untimed e = let z : _≡_ {A = ℕ} 0 1 = cc in omega arith
@@ -117,38 +132,67 @@ time≢differs e = let z : _≡_ {A = ℕ} 0 1 = cc in omega arith
 pub time-same : {t u : SrcGroup} {m n : ℕ} → time t m ≡ time u n → (t ≡ u) × (m ≡ n)
 time-same e = (cc, cc)
 
-remote-known : (s : List ℕ) (all : List SrcGroup) (g t : SrcGroup) (m : ℕ) → remoteTime s all g ≡ time t m → Timed s all g t m
-unfolding remoteTime
-remote-known s all g t m e = group (groupAt (remoteLink s (g .at)) all) refl e
-  where
-    Rest : SrcGroup → Option ℕ → TimeOf
-    Rest h o = onMaster o untimed (λ x. ifEq (h .records) (g .records) (time h x) differs)
+-- none stands for t
+pub standing-itself : (s : List ℕ) (all : List SrcGroup) (bys : List ℕ) (t : SrcGroup) (m : ℕ) → standIn (t .at) all bys ≡ 0 → standing s all bys t m ≡ time t m
+unfolding standing
+standing-itself s all bys t m e = sym (eq-yes _ _ _ _ e refl)
 
-    master : (h : SrcGroup) → In h all → (o : Option ℕ) → masterOf s h ≡ o → Rest h o ≡ time t m → Timed s all g t m
-    master h i none q r = absurd (time≢untimed r)
-    master h i (some x) q r =
-        let b = eq-first _ _ _ _ r time≢differs in
-        let c = time-same (b .1) in
-        subst (λ (u : SrcGroup). Timed s all g u m) (c .0) (record { isIn = i; master = q ∙ ap some (c .1); asMany = b .0 })
+-- another does
+pub standing-other : (s : List ℕ) (all : List SrcGroup) (bys : List ℕ) (t : SrcGroup) (m : ℕ) → (standIn (t .at) all bys ≡ 0 → ⊥)
+    → (o : StoodBy s all bys t) → standing s all bys t m ≡ time (o .by) (o .theirs)
+unfolding standing
+standing-other s all bys t m e o = sym (eq-no _ _ _ _ e (rw (o .found, o .master)))
 
-    group : (o : Option SrcGroup) → groupAt (remoteLink s (g .at)) all ≡ o → onGroup o untimed (λ h. Rest h (masterOf s h)) ≡ time t m → Timed s all g t m
-    group none q r = absurd (time≢untimed r)
-    group (some h) q r = master h (group-at _ all h q .0) (masterOf s h) refl r
+-- one or the other, for a group g with as many records as t
+standing-known : (s : List ℕ) (all : List SrcGroup) (bys : List ℕ) → Sound s all bys → (g t u : SrcGroup) (m k : ℕ) → In t all → masterOf s t ≡ some m
+    → t .records ≡ g .records → standing s all bys t m ≡ time u k → Timed s all bys g u k
+standing-known s all bys sound g t u m k i q a e =
+    or-not (standIn (t .at) all bys) 0
+    (λ z.
+    let c = time-same (sym (standing-itself s all bys t m z) ∙ e) in
+    subst (λ (v : SrcGroup). Timed s all bys g v k) (c .0) (record { isIn = i; master = q ∙ ap some (c .1); asMany = a; itself = z }))
+    (λ z.
+    let o = sound t i z in
+    let c = time-same (sym (standing-other s all bys t m z o) ∙ e) in
+    subst (λ (v : SrcGroup). Timed s all bys g v k) (c .0)
+    (record { isIn = o .isIn; master = o .master ∙ ap some (c .1); asMany = o .asMany ∙ a; itself = o .itself }))
 
-pub time-known : (s : List ℕ) (all : List SrcGroup) (g t : SrcGroup) (m : ℕ) → In g all → timeOf s all g ≡ time t m → Timed s all g t m
+-- a master gives a time
+pub standing-timed : (s : List ℕ) (all : List SrcGroup) (bys : List ℕ) → Sound s all bys → (t : SrcGroup) (m : ℕ) → In t all
+    → (u : SrcGroup) × (k : ℕ) × (standing s all bys t m ≡ time u k)
+standing-timed s all bys sound t m i =
+    or-not (standIn (t .at) all bys) 0
+    (λ z. (t, m, standing-itself s all bys t m z))
+    (λ z. let o = sound t i z in (o .by, o .theirs, standing-other s all bys t m z o))
+
+module _ (s : List ℕ) (all : List SrcGroup) (bys : List ℕ) (sound : Sound s all bys) where
+  remote-known : (g t : SrcGroup) (m : ℕ) → remoteTime s all bys g ≡ time t m → Timed s all bys g t m
+  unfolding remoteTime
+  remote-known g t m e = group (groupAt (remoteLink s (g .at)) all) refl e
+    where
+      Rest : SrcGroup → Option ℕ → TimeOf
+      Rest h o = onMaster o untimed (λ x. ifEq (h .records) (g .records) (standing s all bys h x) differs)
+
+      master : (h : SrcGroup) → In h all → (o : Option ℕ) → masterOf s h ≡ o → Rest h o ≡ time t m → Timed s all bys g t m
+      master h i none q r = absurd (time≢untimed r)
+      master h i (some x) q r = let b = eq-first _ _ _ _ r time≢differs in standing-known s all bys sound g h t x m i q (b .0) (b .1)
+
+      group : (o : Option SrcGroup) → groupAt (remoteLink s (g .at)) all ≡ o → onGroup o untimed (λ h. Rest h (masterOf s h)) ≡ time t m → Timed s all bys g t m
+      group none q r = absurd (time≢untimed r)
+      group (some h) q r = master h (group-at _ all h q .0) (masterOf s h) refl r
+
+  pub time-known : (g t : SrcGroup) (m : ℕ) → In g all → timeOf s all bys g ≡ time t m → Timed s all bys g t m
+  unfolding timeOf
+  time-known g t m i e = go (masterOf s g) refl e
+    where
+      go : (o : Option ℕ) → masterOf s g ≡ o → onMaster o (remoteTime s all bys g) (λ x. standing s all bys g x) ≡ time t m → Timed s all bys g t m
+      go none q r = remote-known g t m r
+      go (some x) q r = standing-known s all bys sound g g t x m i q refl r
+
+-- a group with a master of its own uses it, or the one that stands for it
+pub time-own : (s : List ℕ) (all : List SrcGroup) (bys : List ℕ) (g : SrcGroup) (m : ℕ) → masterOf s g ≡ some m → timeOf s all bys g ≡ standing s all bys g m
 unfolding timeOf
-time-known s all g t m i e = go (masterOf s g) refl e
-  where
-    go : (o : Option ℕ) → masterOf s g ≡ o → onMaster o (remoteTime s all g) (λ x. time g x) ≡ time t m → Timed s all g t m
-    go none q r = remote-known s all g t m r
-    go (some x) q r =
-        let c = time-same r in
-        subst (λ (u : SrcGroup). Timed s all g u m) (c .0) (record { isIn = i; master = q ∙ ap some (c .1); asMany = refl })
-
--- a group with a master of its own uses it
-pub time-own : (s : List ℕ) (all : List SrcGroup) (g : SrcGroup) (m : ℕ) → masterOf s g ≡ some m → timeOf s all g ≡ time g m
-unfolding timeOf
-time-own s all g m e = rw e
+time-own s all bys g m e = rw e
 
 -- ---- channels that become columns
 omitted≢kept : {r : ℕ} {d : Signal} → _≡_ {A = Checked Decision} (ok (omitted r)) (ok (kept d)) → ⊥

@@ -121,16 +121,16 @@ time-channels none c p e = channels-append (p .columns) (c ∷ []) ∙ rw e (app
 time-channels (some k) c p e = refl
 
 -- of a group; its own omission comes first
-record GroupMore (s : List ℕ) (all : List SrcGroup) (g : SrcGroup) (p q : Plan) : Type 0 where
+record GroupMore (s : List ℕ) (all : List SrcGroup) (bys : List ℕ) (g : SrcGroup) (p q : Plan) : Type 0 where
   given : More p q (g .at ∷ g .channels)
-  differing : isStorage s (g .at) ≡ false → timeOf s all g ≡ differs → In (record { at = g .at; reason = 1 }) (q .omissions)
+  differing : isStorage s (g .at) ≡ false → timeOf s all bys g ≡ differs → In (record { at = g .at; reason = 1 }) (q .omissions)
 
 untimed≢differs : untimed ≡ differs → ⊥
 untimed≢differs e = let z : _≡_ {A = ℕ} 0 1 = cc in omega arith
 
-timed-more : (rs : Rules) (s : List ℕ) (all : List SrcGroup) (g : SrcGroup) (p q : Plan) (o : TimeOf) → timeOf s all g ≡ o → planTimed rs s g o p ≡ ok q → GroupMore s all g p q
+timed-more : (rs : Rules) (s : List ℕ) (all : List SrcGroup) (bys : List ℕ) (g : SrcGroup) (p q : Plan) (o : TimeOf) → timeOf s all bys g ≡ o → planTimed rs s g o p ≡ ok q → GroupMore s all bys g p q
 unfolding withTime omitted-more
-timed-more rs s all g p q (time t m) o e =
+timed-more rs s all bys g p q (time t m) o e =
     let r = channels-more rs s g _ _ (g .channels) (withTime t m p) q e in
     record {
       given = left-more (g .at) (record {
@@ -143,30 +143,30 @@ timed-more rs s all g p q (time t m) o e =
       });
       differing = λ _ d. absurd (time≢differs (sym d ∙ o));
     }
-timed-more rs s all g p q untimed o e =
+timed-more rs s all bys g p q untimed o e =
     record { given = left-more (g .at) (channels-more rs s g _ none (g .channels) p q e); differing = λ _ d. absurd (untimed≢differs (sym o ∙ d)) }
-timed-more rs s all g p q differs o e =
+timed-more rs s all bys g p q differs o e =
     let r = omitted-more p q (g .at) 1 (g .channels) (channels-more rs s g _ none (g .channels) (withOmission (g .at) 1 p) q e) in
     record { given = r; differing = λ _ _. subst (In _) (sym (r .is)) (in-right (p .omissions) here) }
 
-group-more : (rs : Rules) (s : List ℕ) (all : List SrcGroup) (g : SrcGroup) (p q : Plan) → planGroup rs s all g p ≡ ok q → GroupMore s all g p q
+group-more : (rs : Rules) (s : List ℕ) (all : List SrcGroup) (bys : List ℕ) (g : SrcGroup) (p q : Plan) → planGroup rs s all bys g p ≡ ok q → GroupMore s all bys g p q
 unfolding planGroup
-group-more rs s all g p q e =
+group-more rs s all bys g p q e =
     pick-cases (isStorage s (g .at)) _ _ e
     (λ b r. record { given = no-more p q (g .at ∷ g .channels) (ok-same r); differing = λ f _. absurd (true≢false (sym b ∙ f)) })
-    (λ _ r. timed-more rs s all g p q (timeOf s all g) refl r)
+    (λ _ r. timed-more rs s all bys g p q (timeOf s all bys g) refl r)
 
-record GroupsMore (s : List ℕ) (all gs : List SrcGroup) (p q : Plan) : Type 0 where
+record GroupsMore (s : List ℕ) (all : List SrcGroup) (bys : List ℕ) (gs : List SrcGroup) (p q : Plan) : Type 0 where
   given : More p q (filePlaces gs)
-  differing : (g : SrcGroup) → In g gs → isStorage s (g .at) ≡ false → timeOf s all g ≡ differs → In (record { at = g .at; reason = 1 }) (q .omissions)
+  differing : (g : SrcGroup) → In g gs → isStorage s (g .at) ≡ false → timeOf s all bys g ≡ differs → In (record { at = g .at; reason = 1 }) (q .omissions)
 
-groups-more : (rs : Rules) (s : List ℕ) (all gs : List SrcGroup) (p q : Plan) → planGroups rs s all gs p ≡ ok q → GroupsMore s all gs p q
+groups-more : (rs : Rules) (s : List ℕ) (all : List SrcGroup) (bys : List ℕ) (gs : List SrcGroup) (p q : Plan) → planGroups rs s all bys gs p ≡ ok q → GroupsMore s all bys gs p q
 unfolding planGroups filePlaces
-groups-more rs s all [] p q e = record { given = no-more p q [] (ok-same e); differing = λ g i. absurd (in-none i) }
-groups-more rs s all (g ∷ gs) p q e =
-    with-ok (planGroup rs s all g p) _ e (λ u b r.
-    let h = group-more rs s all g p u b in
-    let k = groups-more rs s all gs u q r in
+groups-more rs s all bys [] p q e = record { given = no-more p q [] (ok-same e); differing = λ g i. absurd (in-none i) }
+groups-more rs s all bys (g ∷ gs) p q e =
+    with-ok (planGroup rs s all bys g p) _ e (λ u b r.
+    let h = group-more rs s all bys g p u b in
+    let k = groups-more rs s all bys gs u q r in
     record {
       given = record {
         more = h .given .more ++ k .given .more;
@@ -180,7 +180,7 @@ groups-more rs s all (g ∷ gs) p q e =
       differing = each h k;
     })
   where
-    each : {u : Plan} → GroupMore s all g p u → GroupsMore s all gs u q → (j : SrcGroup) → In j (g ∷ gs) → isStorage s (j .at) ≡ false → timeOf s all j ≡ differs
+    each : {u : Plan} → GroupMore s all bys g p u → GroupsMore s all bys gs u q → (j : SrcGroup) → In j (g ∷ gs) → isStorage s (j .at) ≡ false → timeOf s all bys j ≡ differs
         → In (record { at = j .at; reason = 1 }) (q .omissions)
     each h k j here f d = subst (In _) (sym (k .given .is)) (in-left (k .given .more) (h .differing f d))
     each h k j (there i) f d = k .differing j i f d
@@ -191,12 +191,13 @@ pub record InOrder (s : List ℕ) (all : List SrcGroup) (p : Plan) : Type 0 wher
   pub omissions : Among (omissionAddresses (p .omissions)) (filePlaces all)
   pub differing : (g : SrcGroup) → In g all → isStorage s (g .at) ≡ false → Differs s all g → In (record { at = g .at; reason = 1 }) (p .omissions)
 
-pub plan-in-order : (rs : Rules) (s : List ℕ) (n : ℕ) (all : List SrcGroup) (p : Plan) → ((x : ℕ) → occurs x (allAddresses all) ≤ 1) → plan rs s n all ≡ ok p → InOrder s all p
+pub plan-in-order : (rs : Rules) (s : List ℕ) (n : ℕ) (all : List SrcGroup) (bys : List ℕ) (p : Plan) → ((x : ℕ) → occurs x (allAddresses all) ≤ 1)
+    → plan rs s n all bys ≡ ok p → InOrder s all p
 unfolding plan signalChannels
-plan-in-order rs s n all p once e =
-    let r = groups-more rs s all all _ p e in
+plan-in-order rs s n all bys p once e =
+    let r = groups-more rs s all bys all _ p e in
     record {
       columns = subst (λ (l : List ℕ). Among l (filePlaces all)) (sym (r .given .signals)) (r .given .among-channels);
       omissions = subst (λ (l : List Omission). Among (omissionAddresses l) (filePlaces all)) (sym (r .given .is)) (r .given .among);
-      differing = λ g i f d. r .differing g i f (differs-time s all once g f d);
+      differing = λ g i f d. r .differing g i f (differs-time s all bys once g f d);
     }

@@ -12,6 +12,7 @@ pub mod DecideLaws
 pub mod ColumnLaws
 pub mod MasterLaws
 pub mod PlanLaws
+pub mod StandLaws
 pub mod FileOrderLaws
 pub mod DataLaws
 pub mod Known

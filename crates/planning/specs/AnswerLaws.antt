@@ -1,9 +1,10 @@
 -- From reading, the plan and the data stage to the whole of planning.
 use Prim.Native.Nat.{ℕ, _+_, _*_, _≤_}
 use mathlib.Core.List.{List, _++_}
+use mathlib.Core.Bool.{Bool, true, false}
 use mathlib.Core.Path.{_≡_, refl, sym, ap, _∙_, subst}
 use native.Mathlib.Omega.{arith}
-use lib.ListN.{length}
+use lib.ListN.{length, replicate}
 use Rattle.base.specs.ChoiceLaws.{lt-no}
 use Rattle.base.specs.Blit.{part, blit}
 use Rattle.base.specs.BlitLaws.{length-blit, blit-append, part-blit, part-blit-before}
@@ -24,6 +25,9 @@ use Rattle.plan.specs.Rules.{Rules}
 use Rattle.plan.specs.Columns.{Plan, srcGroups, plan}
 use Rattle.work_words.specs.PlanWords.{signalFragments}
 use Rattle.plan.specs.Data.{allDataIn, blocksIn}
+use Rattle.result.specs.Sharing.{unitsIn, comparedIn, sharedTimes, sharing}
+use Rattle.result.specs.SharingLaws.{shared-length}
+use Rattle.result.specs.Result.{sharedGroups}
 use Rattle.plan_laws.specs.Answers.{with-ok}
 use Rattle.plan_laws.specs.WalkLaws.{walk-sound}
 use Rattle.plan_laws.specs.SourceLaws.{groups-known}
@@ -44,7 +48,9 @@ use Rattle.planning.specs.ReadBackLaws.{few-items}
 use Rattle.planning.specs.OutcomeLaws.{read-gives, read-items, PlanHeld, PlanIs, gives-plan, gives-none}
 use Rattle.planning.specs.DataWords.{allDataOver}
 use Rattle.planning.specs.DataWordsLaws.{Filled, data-filled, several-counted}
-use Rattle.planning.specs.Answer.{Arranged, plannedOf, planLeft, leftBy, planInto, Kept, given, keptBy, planOver, arranged, StageOver, ReadIn, PlanRead}
+use Rattle.planning.specs.Answer.{Arranged, plannedOf, planLeft, leftBy, planInto, Kept, given, keptBy, planOver, sharedIn, arrangedBy, arranged, StageOver, ReadIn, standWords, standsAs, StandsRead, PlanStood, PlanRead}
+use Rattle.planning.specs.StandsLaws.{plan-words, sharing-length, no-stands, stands-laid, shared-words}
+use Rattle.planning.specs.Clocks.{ShareTimes}
 
 -- ---- the data stage, then the block counts
 module _ (s : List ℕ) (size : ℕ) (src f w : List ℕ) (n nf nc : ℕ) {v : Check} (e : verdictOf v ≡ allDataOver s w f nf nc (itemsFrom src 0 n)) where
@@ -67,10 +73,10 @@ stage-fine (ok t) (ok u) a k e = refl
 stage-fine (ok t) (refused m n) a k e = absurd (ok≢refused e)
 stage-fine (refused m n) b a k e = absurd (ok≢refused e)
 
-same-kept : {a a' b b' c c' d d' : ℕ} {w w' f f' p p' : List ℕ} → a ≡ a' → b ≡ b' → c ≡ c' → d ≡ d' → w ≡ w' → f ≡ f' → p ≡ p'
-    → _≡_ {A = Checked Kept} (ok (record { items = a; fragments = b; columns = c; omissions = d; words = w; pieces = f; plans = p }))
-    (ok (record { items = a'; fragments = b'; columns = c'; omissions = d'; words = w'; pieces = f'; plans = p' }))
-same-kept i j k l x y z = rw (i, j, k, l, x, y, z)
+same-kept : {a a' b b' c c' d d' e e' : ℕ} {w w' f f' p p' : List ℕ} → a ≡ a' → b ≡ b' → c ≡ c' → d ≡ d' → e ≡ e' → w ≡ w' → f ≡ f' → p ≡ p'
+    → _≡_ {A = Checked Kept} (ok (record { items = a; fragments = b; columns = c; omissions = d; shared = e; words = w; pieces = f; plans = p }))
+    (ok (record { items = a'; fragments = b'; columns = c'; omissions = d'; shared = e'; words = w'; pieces = f'; plans = p' }))
+same-kept i j k l m x y z = rw (i, j, k, l, m, x, y, z)
 
 same-over : (s w f : List ℕ) {n n' k k' : ℕ} {is is' : List Item} → n ≡ n' → k ≡ k' → is ≡ is' → allDataOver s w f n k is ≡ allDataOver s w f n' k' is'
 same-over s w f a b c = rw (a, b, c)
@@ -96,7 +102,7 @@ reading-known s x e =
     rw (← ok-same e3) (record { walked = w; counted = k }))))
 
 planned-reading : (rs : Rules) (s : List ℕ) (size : ℕ) → plannedOf rs s size ≡ andThen (reading s) (arranged rs s size)
-unfolding plannedOf reading arranged
+unfolding plannedOf reading sharedIn arrangedBy arranged
 planned-reading rs s size = go (identified s) (walk s)
   where
     more : (st : Source) (v : Checked (List ℕ))
@@ -118,30 +124,40 @@ within-few n {nc = nc} {no} {nf} b q h =
     let i = k .0 in
     (omega arith, k .2)
 
-pub planned-few : (rs : Rules) (s src : List ℕ) (n nf : ℕ) (c f c1 f1 : List ℕ) {r : Progress} {nc no nf' : ℕ} → GroupsPlan rs s src n nf c f r c1 f1 → r ≡ Progress.Done nc no nf'
+pub planned-few : (rs : Rules) (s src bys : List ℕ) (n nf : ℕ) (c f c1 f1 : List ℕ) {r : Progress} {nc no nf' : ℕ} → GroupsPlan rs s src bys n nf c f r c1 f1 → r ≡ Progress.Done nc no nf'
     → n ≤ 1536 → (nc ≤ 4194304) × (nf' ≤ 1024)
-planned-few rs s src n nf c f c1 f1 g q h = within-few n (g .bound) q h
+planned-few rs s src bys n nf c f c1 f1 g q h = within-few n (g .bound) q h
 
 -- ---- the plan of what was read
-module _ (rs : Rules) (s : List ℕ) (size : ℕ) (src f c : List ℕ) (n nf : ℕ) {r : Progress} (c1 f1 : List ℕ) (g : GroupsPlan rs s src n nf c f r c1 f1) where
-  module _ (x : Recording) (w₀ f₀ : List ℕ) (h : ReadIn s src f n nf x w₀ f₀) where
+module _ (rs : Rules) (s : List ℕ) (size : ℕ) (src stands f c : List ℕ) (n nf : ℕ) {r : Progress} (c1 f1 : List ℕ) (g : GroupsPlan rs s src stands n nf c f r c1 f1) where
+  module _ (x : Recording) (w₀ f₀ : List ℕ) (h : ReadIn s src f n nf x w₀ f₀) (bys : List ℕ) (shared : sharedIn (rs .share) s x ≡ ok bys) (e : stands ≡ standWords bys) where
     known : ReadKnown s x
     known = reading-known s x (h .is)
 
-    gave : Gives (record { found = length (x .source .fragments); words = c; fragments = f })
-        (bareChecked (plan rs s (length (x .source .fragments)) (srcGroups (dataGroups (x .source)) (x .counts)))) r c1 f1
-    gave = read-gives s (x .source) (x .counts) (known .walked) (known .counted) w₀ (h .long) (rw (h .words, h .items, h .fragments) at g)
+    -- the recording's plan
+    abbrev planned : Checked Plan
+    planned = plan rs s (length (x .source .fragments)) (srcGroups (dataGroups (x .source)) (x .counts)) bys
 
-    no-plan : {y p : ℕ} → r ≡ Progress.Refused y p → refused y p ≡ andThen (arranged rs s size x) (λ a. ok (keptBy a w₀ f₀ c))
-    unfolding arranged
+    asMany : length bys ≡ length (srcGroups (dataGroups (x .source)) (x .counts))
+    unfolding sharedIn
+    asMany = sharing-length (rs .share) s (dataGroups (x .source)) (srcGroups (dataGroups (x .source)) (x .counts)) bys shared
+
+    gave : Gives (record { found = length (x .source .fragments); words = c; fragments = f }) (bareChecked planned) r c1 f1
+    gave =
+        subst (λ (o : Checked Plan). Gives (record { found = length (x .source .fragments); words = c; fragments = f }) (bareChecked o) r c1 f1)
+        (ap (λ (l : List ℕ). plan rs s (length (x .source .fragments)) (srcGroups (dataGroups (x .source)) (x .counts)) l) e ∙ plan-words rs s (length (x .source .fragments)) _ bys asMany)
+        (read-gives s (x .source) (x .counts) (known .walked) (known .counted) w₀ (h .long) (rw (h .words, h .items, h .fragments) at g))
+
+    no-plan : {y p : ℕ} → r ≡ Progress.Refused y p → refused y p ≡ andThen (arrangedBy rs s size x bys) (λ a. ok (keptBy a w₀ f₀ c))
+    unfolding arrangedBy
     no-plan q =
-        let e = gives-none (length (x .source .fragments)) c f (plan rs s (length (x .source .fragments)) (srcGroups (dataGroups (x .source)) (x .counts))) gave q in
+        let e = gives-none (length (x .source .fragments)) c f planned gave q in
         rw e
 
     module _ (long : 6144 ≤ length c) (room : 3072 ≤ length f) {nc no nf' : ℕ} (q : r ≡ Progress.Done nc no nf') (few : nf' ≤ 1024)
         (v : Check) (t : StageOver s size src f1 c1 n nf nc v) where
-      planned-is : PlanIs (plan rs s (length (x .source .fragments)) (srcGroups (dataGroups (x .source)) (x .counts))) (length (x .source .fragments)) nc no nf' c f c1 f1
-      planned-is = gives-plan (length (x .source .fragments)) c f (plan rs s (length (x .source .fragments)) (srcGroups (dataGroups (x .source)) (x .counts))) gave q
+      planned-is : PlanIs planned (length (x .source .fragments)) nc no nf' c f c1 f1
+      planned-is = gives-plan (length (x .source .fragments)) c f planned gave q
 
       abbrev p : Plan
       p = planned-is .plan
@@ -187,34 +203,90 @@ module _ (rs : Rules) (s : List ℕ) (size : ℕ) (src f c : List ℕ) (n nf : �
           (same-over s c1 f1 (h .fragments) (held .columns) i ∙ data-filled s c1 f1 (p .columns) (x .source .fragments) filled (x .source .items) o)
 
       abbrev found : Arranged
-      found = record { source = x .source; numbers = x .counts; planned = p }
+      found = record { source = x .source; numbers = x .counts; stands = bys; planned = p }
 
-      opened : arranged rs s size x
+      opened : arrangedBy rs s size x bys
           ≡ andThen (allDataIn s (p .columns) (dataGroups (x .source))) (λ _. andThen (blocksIn s size (p .columns)) (λ _. ok found))
-      unfolding arranged
+      unfolding arrangedBy
       opened = rw (planned-is .is)
 
-      stopped : {y k : ℕ} → v ≡ Check.Refused y k → refused y k ≡ andThen (arranged rs s size x) (λ a. ok (keptBy a w₀ f₀ c))
+      stopped : {y k : ℕ} → v ≡ Check.Refused y k → refused y k ≡ andThen (arrangedBy rs s size x bys) (λ a. ok (keptBy a w₀ f₀ c))
       stopped z =
           stage-refused (allDataIn s (p .columns) (dataGroups (x .source))) (blocksIn s size (p .columns)) found (λ a. keptBy a w₀ f₀ c) (ap verdictOf (sym z) ∙ staged)
           ∙ ap (λ u. andThen u (λ a. ok (keptBy a w₀ f₀ c))) (sym opened)
 
-      done : v ≡ Fine → given (Done n nf nc no) src f1 c1 ≡ andThen (arranged rs s size x) (λ a. ok (keptBy a w₀ f₀ c))
-      done z =
-          same-kept (h .items) (h .fragments) (held .columns) (held .omissions) (h .words) (all-pieces (x .source .fragments) (signalFragments (p .columns)) f f₀ f1 (held .inFragments) (h .pieces)) (held .inColumns)
+      done : {sh : ℕ} → sh ≡ sharedGroups stands → v ≡ Fine → given (Done n nf nc no sh) src f1 c1 ≡ andThen (arrangedBy rs s size x bys) (λ a. ok (keptBy a w₀ f₀ c))
+      done i z =
+          same-kept (h .items) (h .fragments) (held .columns) (held .omissions) (i ∙ ap sharedGroups e ∙ shared-words bys) (h .words) (all-pieces (x .source .fragments) (signalFragments (p .columns)) f f₀ f1 (held .inFragments) (h .pieces)) (held .inColumns)
           ∙ stage-fine (allDataIn s (p .columns) (dataGroups (x .source))) (blocksIn s size (p .columns)) found (λ a. keptBy a w₀ f₀ c) (ap verdictOf (sym z) ∙ staged)
           ∙ ap (λ u. andThen u (λ a. ok (keptBy a w₀ f₀ c))) (sym opened)
 
-  pub read-unplanned : {y p : ℕ} → r ≡ Progress.Refused y p → PlanRead rs s size src f c n nf (Refused y p) f1 c1
-  read-unplanned q = record { is = λ x w₀ f₀ h. no-plan x w₀ f₀ h q }
+  pub read-unplanned : {y p : ℕ} → r ≡ Progress.Refused y p → PlanStood rs s size src stands f c n nf (Refused y p) f1 c1
+  read-unplanned q = record { is = λ x w₀ f₀ h bys o e. no-plan x w₀ f₀ h bys o e q }
 
   module _ (long : 6144 ≤ length c) (room : 3072 ≤ length f) {nc no nf' : ℕ} (q : r ≡ Progress.Done nc no nf') (few : nf' ≤ 1024)
       {v : Check} (t : StageOver s size src f1 c1 n nf nc v) where
-    pub read-unstaged : {y p : ℕ} → v ≡ Check.Refused y p → PlanRead rs s size src f c n nf (Refused y p) f1 c1
-    read-unstaged z = record { is = λ x w₀ f₀ h. stopped x w₀ f₀ h long room q few v t z }
+    pub read-unstaged : {y p : ℕ} → v ≡ Check.Refused y p → PlanStood rs s size src stands f c n nf (Refused y p) f1 c1
+    read-unstaged z = record { is = λ x w₀ f₀ h bys o e. stopped x w₀ f₀ h bys o e long room q few v t z }
 
-    pub read-planned : v ≡ Fine → PlanRead rs s size src f c n nf (Done n nf nc no) f1 c1
-    read-planned z = record { is = λ x w₀ f₀ h. done x w₀ f₀ h long room q few v t z }
+    pub read-planned : {sh : ℕ} → sh ≡ sharedGroups stands → v ≡ Fine → PlanStood rs s size src stands f c n nf (Done n nf nc no sh) f1 c1
+    read-planned i z = record { is = λ x w₀ f₀ h bys o e. done x w₀ f₀ h bys o e long room q few v t i z }
+
+-- ---- those that stand for others
+module _ (s src f : List ℕ) (n nf : ℕ) {on : Bool} where
+  pub stands-off : {w : List ℕ} → on ≡ false → w ≡ replicate 512 0 → StandsRead on s src f n nf Fine w
+  unfolding sharedIn sharing
+  stands-off q e =
+      record {
+        is = λ x w₀ f₀ h _.
+            let k = reading-known s x (h .is) in
+            rw q (refl, e ∙ no-stands _ (groups-known s (x .source) (x .counts) (k .walked) (k .counted) .fewGroups));
+      }
+
+  pub stands-on : {w w' : List ℕ} {r : Check} → on ≡ true → w ≡ replicate 512 0 → ShareTimes s src f n nf r w w' → StandsRead on s src f n nf r w'
+  unfolding sharedIn sharing
+  stands-on {w} {w'} {r} q e t =
+      record {
+        is = λ x w₀ f₀ h short.
+            let k = reading-known s x (h .is) in
+            let gs = srcGroups (dataGroups (x .source)) (x .counts) in
+            let u = t .is x w₀ f₀ h in
+            rw q (go (sharedTimes s gs) (unitsIn s gs) (comparedIn s gs (dataGroups (x .source))) r (u .verdict)
+            (λ z. u .stands z short ∙ ap (blit 0 (sharedTimes s gs)) e
+            ∙ stands-laid (sharedTimes s gs) (rw (shared-length s gs) (groups-known s (x .source) (x .counts) (k .walked) (k .counted) .fewGroups))));
+      }
+    where
+      go : (bys : List ℕ) (u c : Verdict) (r : Check) → verdictOf r ≡ andThen u (λ _. c) → (r ≡ Fine → w' ≡ standWords bys)
+          → standsAs (andThen u (λ _. andThen c (λ _. ok bys))) r w'
+      go bys (ok _) (ok _) Fine e g = (refl, g refl)
+      go bys (ok _) (ok _) (Check.Refused x p) e g = absurd (refused≢ok e)
+      go bys (ok _) (refused a b) Fine e g = absurd (ok≢refused e)
+      go bys (ok _) (refused a b) (Check.Refused x p) e g = let i : x ≡ a = cc in let j : p ≡ b = cc in rw (i, j)
+      go bys (refused a b) c Fine e g = absurd (ok≢refused e)
+      go bys (refused a b) c (Check.Refused x p) e g = let i : x ≡ a = cc in let j : p ≡ b = cc in rw (i, j)
+
+-- ---- then the plan
+module _ (rs : Rules) (s : List ℕ) (size : ℕ) (src f c : List ℕ) (n nf : ℕ) (stands : List ℕ) {v : Check} (t : StandsRead (rs .share) s src f n nf v stands) where
+  pub read-unshared : {y p : ℕ} → v ≡ Check.Refused y p → PlanRead rs s size src f c n nf (Refused y p) f c
+  unfolding arranged
+  read-unshared {y} {p} q = record { is = λ x w₀ f₀ h short. go x (λ a. keptBy a w₀ f₀ c) (sharedIn (rs .share) s x) (t .is x w₀ f₀ h short) }
+    where
+      go : (x : Recording) (k : Arranged → Kept) (o : Checked (List ℕ)) → standsAs o v stands → refused y p ≡ andThen (andThen o (arrangedBy rs s size x)) (λ a. ok (k a))
+      go x k (ok bys) h = absurd (let e : Check.Refused y p ≡ Fine = sym q ∙ h .0 in let z : _≡_ {A = ℕ} 0 1 = cc in omega arith)
+      go x k (refused a b) h =
+          let e : Check.Refused y p ≡ Check.Refused a b = sym q ∙ h in
+          let i : y ≡ a = cc in
+          let j : p ≡ b = cc in
+          rw (i, j)
+
+  pub read-shared : v ≡ Fine → {r : Planned} {f' c' : List ℕ} → PlanStood rs s size src stands f c n nf r f' c' → PlanRead rs s size src f c n nf r f' c'
+  unfolding arranged
+  read-shared q {r} {f'} {c'} g = record { is = λ x w₀ f₀ h short. go x w₀ f₀ h (sharedIn (rs .share) s x) refl (t .is x w₀ f₀ h short) }
+    where
+      go : (x : Recording) (w₀ f₀ : List ℕ) → ReadIn s src f n nf x w₀ f₀ → (o : Checked (List ℕ)) → sharedIn (rs .share) s x ≡ o → standsAs o v stands
+          → given r src f' c' ≡ andThen (andThen o (arrangedBy rs s size x)) (λ a. ok (keptBy a w₀ f₀ c))
+      go x w₀ f₀ h (ok bys) e k = g .is x w₀ f₀ h bys e (k .1)
+      go x w₀ f₀ h (refused a b) e k = absurd (let e : Fine ≡ Check.Refused a b = sym q ∙ k in let z : _≡_ {A = ℕ} 0 1 = cc in omega arith)
 
 -- ---- reading, then the plan
 pub record FoundIn (s w' f' : List ℕ) (n nf : ℕ) (w f : List ℕ) : Type 0 where
@@ -260,11 +332,12 @@ module _ (s w f : List ℕ) (l : sourceWords ≤ length w) (m : fragmentRoom ≤
         let d = h .fragments in
         (omega arith, omega arith)
 
-    pub all-planned : (rs : Rules) (size : ℕ) (c : List ℕ) {v : Planned} {f'' c'' : List ℕ} → PlanRead rs s size w' f' c n nf v f'' c'' → given v w' f'' c'' ≡ planOver rs s size w f c
+    pub all-planned : (rs : Rules) (size : ℕ) (c : List ℕ) {v : Planned} {f'' c'' : List ℕ} → PlanRead rs s size w' f' c n nf v f'' c'' → length s ≤ 4294967296
+        → given v w' f'' c'' ≡ planOver rs s size w f c
     unfolding planOver
-    all-planned rs size c t =
+    all-planned rs size c t short =
         let k = read-found q in
-        t .is (k .recording) w f (k .readIn) ∙ rw (planned-reading rs s size, k .readIn .is)
+        t .is (k .recording) w f (k .readIn) short ∙ rw (planned-reading rs s size, k .readIn .is)
 
 -- ---- the words at the end
 module _ (rs : Rules) (s : List ℕ) (size : ℕ) (w f c : List ℕ) (l : 4096 ≤ length w) (m : 3072 ≤ length f) (n : 6144 ≤ length c) where
@@ -285,16 +358,16 @@ module _ (rs : Rules) (s : List ℕ) (size : ℕ) (w f c : List ℕ) (l : 4096 �
           let j : p ≡ d = cc in
           rw (i, j)
 
-  pub plan-done : (w' f' c' : List ℕ) (a : Planned) → given a w' f' c' ≡ planOver rs s size w f c → {x y z u : ℕ} → a ≡ Done x y z u → planLeft a w' f' c' ≡ planInto rs s size w f c
+  pub plan-done : (w' f' c' : List ℕ) (a : Planned) → given a w' f' c' ≡ planOver rs s size w f c → {x y z u v : ℕ} → a ≡ Done x y z u v → planLeft a w' f' c' ≡ planInto rs s size w f c
   unfolding planOver
-  plan-done w' f' c' a e {x} {y} {z} {u} q = ap (λ (v : Planned). planLeft v w' f' c') q ∙ go (plannedOf rs s size) (ap (λ (v : Planned). given v w' f' c') (sym q) ∙ e) ∙ sym all-long
+  plan-done w' f' c' a e {x} {y} {z} {u} {v} q = ap (λ (b : Planned). planLeft b w' f' c') q ∙ go (plannedOf rs s size) (ap (λ (v : Planned). given v w' f' c') (sym q) ∙ e) ∙ sym all-long
     where
-      go : (v : Checked Arranged) → _≡_ {A = Checked Kept} (given (Done x y z u) w' f' c') (andThen v (λ b. ok (keptBy b w f c))) → planLeft (Done x y z u) w' f' c' ≡ leftBy v w f c
+      go : (o : Checked Arranged) → _≡_ {A = Checked Kept} (given (Done x y z u v) w' f' c') (andThen o (λ b. ok (keptBy b w f c))) → planLeft (Done x y z u v) w' f' c' ≡ leftBy o w f c
       go (ok b) o =
           let k = ok-same o in
-          same-left (ap Kept.items k) (ap Kept.fragments k) (ap Kept.columns k) (ap Kept.omissions k) (ap Kept.words k) (ap Kept.pieces k) (ap Kept.plans k)
+          same-left (ap Kept.items k) (ap Kept.fragments k) (ap Kept.columns k) (ap Kept.omissions k) (ap Kept.shared k) (ap Kept.words k) (ap Kept.pieces k) (ap Kept.plans k)
         where
-          same-left : {x' y' z' u' : ℕ} {w'' f'' c'' : List ℕ} → x ≡ x' → y ≡ y' → z ≡ z' → u ≡ u' → w' ≡ w'' → f' ≡ f'' → c' ≡ c''
-              → planLeft (Done x y z u) w' f' c' ≡ planLeft (Done x' y' z' u') w'' f'' c''
-          same-left i j k l x y z = rw (i, j, k, l, x, y, z)
+          same-left : {x' y' z' u' v' : ℕ} {w'' f'' c'' : List ℕ} → x ≡ x' → y ≡ y' → z ≡ z' → u ≡ u' → v ≡ v' → w' ≡ w'' → f' ≡ f'' → c' ≡ c''
+              → planLeft (Done x y z u v) w' f' c' ≡ planLeft (Done x' y' z' u' v') w'' f'' c''
+          same-left i j k l m x y z = rw (i, j, k, l, m, x, y, z)
       go (refused b d) o = absurd (ok≢refused o)

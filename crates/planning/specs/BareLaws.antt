@@ -9,7 +9,7 @@ use Rattle.base.specs.Choice.{pick, ifEq}
 use Rattle.base.specs.Checked.{Checked, ok, refused, andThen}
 use Rattle.mdf.specs.Group.{isStorage}
 use Rattle.plan.specs.Rules.{Rules}
-use Rattle.plan.specs.Columns.{SrcGroup, Column, Plan, noSignal, onPlanned, Decision, omitted, kept, TimeOf, time, untimed, differs, masterOf, groupAt, remoteLink, onGroup, onMaster, remoteTime, timeOf, timeColumn, withColumn, withOmission, withTime, decide, withDecision, ownMaster, planChannels, planTimed, planGroup, planGroups, plan, sizeOfSignal}
+use Rattle.plan.specs.Columns.{SrcGroup, Column, Plan, noSignal, onPlanned, Decision, omitted, kept, TimeOf, time, untimed, differs, masterOf, groupAt, standIn, standing, remoteLink, onGroup, onMaster, remoteTime, timeOf, timeColumn, withColumn, withOmission, withTime, decide, withDecision, ownMaster, planChannels, planTimed, planGroup, planGroups, plan, sizeOfSignal}
 use Rattle.work_words.specs.PlanWords.{columnWords, columnsWords, signalFragments, laidPlan}
 use Rattle.planning.specs.Bare.{bare, bares, bareColumn, bareColumns, barePlan, bareChecked, bareGroup, bareTime}
 
@@ -26,33 +26,63 @@ master-bare : (s : List ℕ) (g : SrcGroup) → masterOf s (bare g) ≡ masterOf
 unfolding masterOf
 master-bare s g = refl
 
-remote-bare : (s : List ℕ) (all : List SrcGroup) (g : SrcGroup) → remoteTime s (bares all) (bare g) ≡ bareTime (remoteTime s all g)
-unfolding remoteTime ifEq
-remote-bare s all g = rw (group-bare (remoteLink s (g .at)) all) (go (groupAt (remoteLink s (g .at)) all))
+stand-bare : (a : ℕ) (gs : List SrcGroup) (bys : List ℕ) → standIn a (bares gs) bys ≡ standIn a gs bys
+unfolding standIn bares
+stand-bare a [] bys = refl
+stand-bare a (g ∷ gs) [] = refl
+stand-bare a (g ∷ gs) (b ∷ bys) = rw (stand-bare a gs bys)
+
+standing-bare : (s : List ℕ) (all : List SrcGroup) (bys : List ℕ) (g : SrcGroup) (m : ℕ)
+    → standing s (bares all) bys (bare g) m ≡ bareTime (standing s all bys g m)
+unfolding standing ifEq
+standing-bare s all bys g m =
+    rw (stand-bare (g .at) all bys, group-bare (standIn (g .at) all bys) all)
+    (go (groupAt (standIn (g .at) all bys) all) (eqb (standIn (g .at) all bys) 0))
   where
-    at : (t : SrcGroup) (m : ℕ) (b : Bool) → pick b (time (bare t) m) differs ≡ bareTime (pick b (time t m) differs)
-    at t m true = refl
+    by : (t : SrcGroup) (o : Option ℕ) → onMaster o untimed (λ k. time (bare t) k) ≡ bareTime (onMaster o untimed (λ k. time t k))
+    by t none = refl
+    by t (some k) = refl
+
+    other : (o : Option SrcGroup)
+        → onGroup (bareGroup o) untimed (λ u. onMaster (masterOf s u) untimed (λ k. time u k))
+        ≡ bareTime (onGroup o untimed (λ u. onMaster (masterOf s u) untimed (λ k. time u k)))
+    other none = refl
+    other (some t) = rw (master-bare s t) (by t (masterOf s t))
+
+    go : (o : Option SrcGroup) (b : Bool)
+        → pick b (time (bare g) m) (onGroup (bareGroup o) untimed (λ u. onMaster (masterOf s u) untimed (λ k. time u k)))
+        ≡ bareTime (pick b (time g m) (onGroup o untimed (λ u. onMaster (masterOf s u) untimed (λ k. time u k))))
+    go o true = refl
+    go o false = other o
+
+remote-bare : (s : List ℕ) (all : List SrcGroup) (bys : List ℕ) (g : SrcGroup) → remoteTime s (bares all) bys (bare g) ≡ bareTime (remoteTime s all bys g)
+unfolding remoteTime ifEq
+remote-bare s all bys g = rw (group-bare (remoteLink s (g .at)) all) (go (groupAt (remoteLink s (g .at)) all))
+  where
+    at : (t : SrcGroup) (m : ℕ) (b : Bool) → pick b (standing s (bares all) bys (bare t) m) differs ≡ bareTime (pick b (standing s all bys t m) differs)
+    at t m true = standing-bare s all bys t m
     at t m false = refl
 
     by : (t : SrcGroup) (o : Option ℕ)
-        → onMaster o untimed (λ m. pick (eqb (t .records) (g .records)) (time (bare t) m) differs)
-        ≡ bareTime (onMaster o untimed (λ m. pick (eqb (t .records) (g .records)) (time t m) differs))
+        → onMaster o untimed (λ m. pick (eqb (t .records) (g .records)) (standing s (bares all) bys (bare t) m) differs)
+        ≡ bareTime (onMaster o untimed (λ m. pick (eqb (t .records) (g .records)) (standing s all bys t m) differs))
     by t none = refl
     by t (some m) = at t m (eqb (t .records) (g .records))
 
     go : (o : Option SrcGroup)
-        → onGroup (bareGroup o) untimed (λ t. onMaster (masterOf s t) untimed (λ m. pick (eqb (t .records) (g .records)) (time t m) differs))
-        ≡ bareTime (onGroup o untimed (λ t. onMaster (masterOf s t) untimed (λ m. pick (eqb (t .records) (g .records)) (time t m) differs)))
+        → onGroup (bareGroup o) untimed (λ t. onMaster (masterOf s t) untimed (λ m. pick (eqb (t .records) (g .records)) (standing s (bares all) bys t m) differs))
+        ≡ bareTime (onGroup o untimed (λ t. onMaster (masterOf s t) untimed (λ m. pick (eqb (t .records) (g .records)) (standing s all bys t m) differs)))
     go none = refl
     go (some t) = rw (master-bare s t) (by t (masterOf s t))
 
-time-bare : (s : List ℕ) (all : List SrcGroup) (g : SrcGroup) → timeOf s (bares all) (bare g) ≡ bareTime (timeOf s all g)
+time-bare : (s : List ℕ) (all : List SrcGroup) (bys : List ℕ) (g : SrcGroup) → timeOf s (bares all) bys (bare g) ≡ bareTime (timeOf s all bys g)
 unfolding timeOf
-time-bare s all g = rw (master-bare s g, remote-bare s all g) (go (masterOf s g))
+time-bare s all bys g = rw (master-bare s g, remote-bare s all bys g) (go (masterOf s g))
   where
-    go : (o : Option ℕ) → onMaster o (bareTime (remoteTime s all g)) (λ m. time (bare g) m) ≡ bareTime (onMaster o (remoteTime s all g) (λ m. time g m))
+    go : (o : Option ℕ) → onMaster o (bareTime (remoteTime s all bys g)) (λ m. standing s (bares all) bys (bare g) m)
+        ≡ bareTime (onMaster o (remoteTime s all bys g) (λ m. standing s all bys g m))
     go none = refl
-    go (some m) = refl
+    go (some m) = standing-bare s all bys g m
 
 column-bare : (g k : ℕ) (cs : List Column) → timeColumn g k (bareColumns cs) ≡ timeColumn g k cs
 unfolding timeColumn bareColumns
@@ -101,9 +131,9 @@ channels-bare rs s g own m (c ∷ cs) p =
     go f h false (ok d) = f d
     go f h false (refused x y) = refl
 
-planned-bare : (rs : Rules) (s : List ℕ) (all : List SrcGroup) (g : SrcGroup) (p : Plan) → planGroup rs s (bares all) (bare g) (barePlan p) ≡ bareChecked (planGroup rs s all g p)
+planned-bare : (rs : Rules) (s : List ℕ) (all : List SrcGroup) (bys : List ℕ) (g : SrcGroup) (p : Plan) → planGroup rs s (bares all) bys (bare g) (barePlan p) ≡ bareChecked (planGroup rs s all bys g p)
 unfolding planGroup
-planned-bare rs s all g p = rw (time-bare s all g) (go (isStorage s (g .at)) (timeOf s all g))
+planned-bare rs s all bys g p = rw (time-bare s all bys g) (go (isStorage s (g .at)) (timeOf s all bys g))
   where
     by : (o : TimeOf) → planTimed rs s (bare g) (bareTime o) (barePlan p) ≡ bareChecked (planTimed rs s g o p)
     by untimed = rw (master-bare s g) (channels-bare rs s g (ownMaster (masterOf s g)) none (g .channels) p)
@@ -116,19 +146,20 @@ planned-bare rs s all g p = rw (time-bare s all g) (go (isStorage s (g .at)) (ti
     go true o = refl
     go false o = by o
 
-pub groups-bare : (rs : Rules) (s : List ℕ) (all gs : List SrcGroup) (p : Plan) → planGroups rs s (bares all) (bares gs) (barePlan p) ≡ bareChecked (planGroups rs s all gs p)
+pub groups-bare : (rs : Rules) (s : List ℕ) (all : List SrcGroup) (bys : List ℕ) (gs : List SrcGroup) (p : Plan)
+    → planGroups rs s (bares all) bys (bares gs) (barePlan p) ≡ bareChecked (planGroups rs s all bys gs p)
 unfolding planGroups bares
-groups-bare rs s all [] p = refl
-groups-bare rs s all (g ∷ gs) p = rw (planned-bare rs s all g p) (go (λ q. groups-bare rs s all gs q) (planGroup rs s all g p))
+groups-bare rs s all bys [] p = refl
+groups-bare rs s all bys (g ∷ gs) p = rw (planned-bare rs s all bys g p) (go (λ q. groups-bare rs s all bys gs q) (planGroup rs s all bys g p))
   where
-    go : ((q : Plan) → planGroups rs s (bares all) (bares gs) (barePlan q) ≡ bareChecked (planGroups rs s all gs q)) → (o : Checked Plan)
-        → andThen (bareChecked o) (λ q. planGroups rs s (bares all) (bares gs) q) ≡ bareChecked (andThen o (λ q. planGroups rs s all gs q))
+    go : ((q : Plan) → planGroups rs s (bares all) bys (bares gs) (barePlan q) ≡ bareChecked (planGroups rs s all bys gs q)) → (o : Checked Plan)
+        → andThen (bareChecked o) (λ q. planGroups rs s (bares all) bys (bares gs) q) ≡ bareChecked (andThen o (λ q. planGroups rs s all bys gs q))
     go f (ok q) = f q
     go f (refused x y) = refl
 
-pub plan-bare : (rs : Rules) (s : List ℕ) (n : ℕ) (all : List SrcGroup) → plan rs s n (bares all) ≡ bareChecked (plan rs s n all)
+pub plan-bare : (rs : Rules) (s : List ℕ) (n : ℕ) (all : List SrcGroup) (bys : List ℕ) → plan rs s n (bares all) bys ≡ bareChecked (plan rs s n all bys)
 unfolding plan bareColumns
-plan-bare rs s n all = groups-bare rs s all all (record { columns = []; omissions = []; fragments = n })
+plan-bare rs s n all bys = groups-bare rs s all bys all (record { columns = []; omissions = []; fragments = n })
 
 -- ---- the same words, and the same data stage
 words-bare : (n : ℕ) (cs : List Column) → columnsWords n (bareColumns cs) ≡ columnsWords n cs

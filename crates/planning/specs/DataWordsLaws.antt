@@ -269,7 +269,7 @@ no-fragments : (f : List ℕ) (fs : List Fragment) (m j : ℕ) → j ≡ 0 → f
 unfolding part fragmentsOf
 no-fragments f fs m j q = rw q
 
-fragments-part : (f : List ℕ) (fs : List Fragment) (e m : ℕ) → Stands f 0 (fragmentWords fs)
+pub fragments-part : (f : List ℕ) (fs : List Fragment) (e m : ℕ) → Stands f 0 (fragmentWords fs)
     → fragmentsOf (part (3 * m) (3 * (min e (length fs) - m)) f) ≡ part m (e - m) fs
 fragments-part f fs e m t = go (ltb m (min e (length fs))) refl ∙ part-cut fs e m
   where

@@ -2,12 +2,13 @@
 use Prim.Native.Nat.{ℕ, zero, suc, _+_, _-_}
 use mathlib.Core.List.{List, [], _∷_}
 use mathlib.Core.Option.{Option, none, some}
+use mathlib.Core.Path.{_≡_}
 use lib.ListN.{getD}
 use Rattle.base.specs.Choice.{ifEq}
 use Rattle.mdf.specs.Walk.{Item, dg, cg, cn}
 use Rattle.mdf.specs.Group.{channelsOf}
 use Rattle.work_words.specs.Words.{marksAt, countsAt}
-use Rattle.plan.specs.Columns.{SrcGroup}
+use Rattle.plan.specs.Columns.{SrcGroup, groupAt, standIn}
 use Rattle.planning.specs.declared.groups.Sought.{Sought}
 use Rattle.planning.specs.declared.groups.Sought.the-variants.{Nothing, Group}
 
@@ -42,7 +43,17 @@ channelsIn w n i = channelsOf (itemsFrom w i (n - i))
 -- the group at a that the code found
 unfoldable pub soughtIn : List ℕ → ℕ → ℕ → Sought → Option SrcGroup
 soughtIn w n a Nothing = none
-soughtIn w n a (Group i r d) = some (groupOf d a (channelsIn w n i) r)
+soughtIn w n a (Group i r d j) = some (groupOf d a (channelsIn w n i) r)
+
+-- its word among bys, 0 for none
+unfoldable pub wordOf : List ℕ → Sought → ℕ
+wordOf bys Nothing = 0
+wordOf bys (Group i r d j) = getD bys j 0
+
+-- the first group at a of n items, and its place in any list of words
+pub record FoundGroup (w : List ℕ) (n a : ℕ) (r : Sought) : Type 0 where
+  pub group : soughtIn w n a r ≡ groupAt a (groupsIn w n)
+  pub stands : (bys : List ℕ) → wordOf bys r ≡ standIn a (groupsIn w n) bys
 
 -- the groups from item i on, of n items, from group number g on, in the DG at d
 unfoldable pub groupsFrom : List ℕ → ℕ → ℕ → ℕ → ℕ → List SrcGroup

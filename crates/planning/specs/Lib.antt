@@ -30,4 +30,16 @@ pub mod RoomLaws
 pub mod ReadBackLaws
 pub mod OutcomeLaws
 pub mod Answer
+pub mod StandsLaws
 pub mod AnswerLaws
+pub mod Table
+pub mod TableLaws
+pub mod Compared
+pub mod ComparedLaws
+pub mod Tabled
+pub mod TabledLaws
+pub mod Clear
+pub mod ClearLaws
+pub mod Clocks
+pub mod ClocksLaws
+pub mod ReadTableLaws

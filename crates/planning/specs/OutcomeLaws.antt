@@ -127,13 +127,13 @@ module _ (s : List ℕ) (st : Source) (ns : List ℕ) (walked : walk s ≡ ok st
       (walk-open s st walked) (omega arith)
 
   -- planning over those words is the recording's plan
-  pub read-gives : {rs : Rules} {r : Progress} {w f w' f' : List ℕ} → GroupsPlan rs s kept-words (length (st .items)) (length (st .fragments)) w f r w' f'
-      → Gives (record { found = length (st .fragments); words = w; fragments = f }) (bareChecked (plan rs s (length (st .fragments)) all)) r w' f'
+  pub read-gives : {rs : Rules} {bys : List ℕ} {r : Progress} {w f w' f' : List ℕ} → GroupsPlan rs s kept-words bys (length (st .items)) (length (st .fragments)) w f r w' f'
+      → Gives (record { found = length (st .fragments); words = w; fragments = f }) (bareChecked (plan rs s (length (st .fragments)) all bys)) r w' f'
   unfolding plan
-  read-gives {rs} {r} {w} {f} {w'} {f'} g =
+  read-gives {rs} {bys} {r} {w} {f} {w'} {f'} g =
       let n = length (st .fragments) in
       let room = all-room s (bares all) in
       let few = groups-known s st ns walked counted .fewChannels in
       let c = ap (λ l. length l) (channels-bare all) in
       let e = read-groups in
-      rw (← plan-bare rs s n all) (rw e at (g .is (record { found = n; words = w; fragments = f }) (nothing n) (held-nothing n w f) (rw e (omega arith))))
+      rw (← plan-bare rs s n all bys) (rw e at (g .is (record { found = n; words = w; fragments = f }) (nothing n) (held-nothing n w f) (rw e (omega arith))))

@@ -22,13 +22,13 @@ othersIn s (g ∷ gs) = othersOf s g + othersIn s gs
 abbrev pub reserved : List ℕ → List SrcGroup → Plan → ℕ
 reserved s all p = length (p .columns) + waiting s (p .columns) all
 
-pub record GroupPlan (rs : Rules) (s src : List ℕ) (n i g d records nc no nf : ℕ) (w f : List ℕ) (r : Progress) (w' f' : List ℕ) : Type 0 where
+pub record GroupPlan (rs : Rules) (s src bys : List ℕ) (n i g d records nc no nf : ℕ) (w f : List ℕ) (r : Progress) (w' f' : List ℕ) : Type 0 where
   pub bound : within r (nc + 1537) (no + 1537)
   pub is : (b : Base) (p : Plan) → Held b p nc no nf w f → In (groupOf d g (channelsIn src n i) records) (groupsIn src n)
       → reserved s (groupsIn src n) p + othersOf s (groupOf d g (channelsIn src n i) records) ≤ 512
-      → Gives b (planGroup rs s (groupsIn src n) (groupOf d g (channelsIn src n i) records) p) r w' f'
+      → Gives b (planGroup rs s (groupsIn src n) bys (groupOf d g (channelsIn src n i) records) p) r w' f'
 
-pub record GroupsPlan (rs : Rules) (s src : List ℕ) (n nf : ℕ) (w f : List ℕ) (r : Progress) (w' f' : List ℕ) : Type 0 where
+pub record GroupsPlan (rs : Rules) (s src bys : List ℕ) (n nf : ℕ) (w f : List ℕ) (r : Progress) (w' f' : List ℕ) : Type 0 where
   pub bound : within r (1537 * n) (1537 * n)
   pub is : (b : Base) (p : Plan) → Held b p 0 0 nf w f → reserved s (groupsIn src n) p + othersIn s (groupsIn src n) ≤ 512
-      → Gives b (planGroups rs s (groupsIn src n) (groupsIn src n) p) r w' f'
+      → Gives b (planGroups rs s (groupsIn src n) bys (groupsIn src n) p) r w' f'

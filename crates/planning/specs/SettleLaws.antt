@@ -12,7 +12,6 @@ use Rattle.chains.specs.KeptLaws.{kept-none}
 use Rattle.plan.specs.Columns.{SrcGroup, Column, Plan, noSignal, TimeOf, time, untimed, differs, masterOf, timeOf, timeColumn, withColumn, withOmission, withTime, ownMaster}
 use Rattle.work_words.specs.PlanWords.{masterWord, columnWords}
 use Rattle.result.specs.Guarantee.{In}
-use Rattle.plan_laws.specs.DecideLaws.{time-known}
 use Rattle.planning.specs.declared.masters.Master.{Master}
 use Rattle.planning.specs.declared.masters.Master.the-variants.{Without, Channel}
 use Rattle.planning.specs.declared.masters.Time.{Time}
@@ -20,6 +19,7 @@ use Rattle.planning.specs.declared.masters.Time.the-variants.{Untimed, D
 use Rattle.planning.specs.declared.timing.Settled.{Settled}
 use Rattle.planning.specs.Items.{groupOf, groupsIn, channelsIn}
 use Rattle.planning.specs.Times.{masterFrom, timeWords}
+use Rattle.planning.specs.TimeLaws.{time-known}
 use Rattle.planning.specs.TimeIn.{timeIn}
 use Rattle.planning.specs.Planning.{Base, Held}
 use Rattle.planning.specs.HeldLaws.{held-column, held-omission}
@@ -131,11 +131,11 @@ time-back differs e = absurd (let z : _≡_ {A = ℕ} 0 1 = cc in omega arith)
 time-back (time t m) {c} e = let q : m ≡ c = cc in record { group = t; is = ap (time t) q; at = cc; ofDG = cc; counted = cc }
 
 -- ---- the time of a group
-module _ (s src : List ℕ) (n i g d records nc no : ℕ) (w : List ℕ) {x : Time}
-    (e : x ≡ timeWords (timeOf s (groupsIn src n) (groupOf d g (channelsIn src n i) records))) where
-  pub settle-untimed : x ≡ Untimed → SettlePlan s src n i g d records nc no w (record { master = 0; columns = nc; omissions = no }) w
+module _ (s src bys : List ℕ) (n i g d records nc no : ℕ) (w : List ℕ) {x : Time}
+    (e : x ≡ timeWords (timeOf s (groupsIn src n) bys (groupOf d g (channelsIn src n i) records))) where
+  pub settle-untimed : x ≡ Untimed → SettlePlan s src bys n i g d records nc no w (record { master = 0; columns = nc; omissions = no }) w
   settle-untimed h =
-      let o = untimed-back (timeOf s (groupsIn src n) (groupOf d g (channelsIn src n i) records)) (sym h ∙ e) in
+      let o = untimed-back (timeOf s (groupsIn src n) bys (groupOf d g (channelsIn src n i) records)) (sym h ∙ e) in
       record {
         few = omega arith;
         fewOmitted = omega arith;
@@ -145,9 +145,9 @@ module _ (s src : List ℕ) (n i g d records nc no : ℕ) (w : List ℕ) {x : Ti
       }
 
   pub settle-differs : {w' : List ℕ} → x ≡ Differs → w' ≡ blit (4096 + 2 * no) (g ∷ 1 ∷ []) w
-      → SettlePlan s src n i g d records nc no w (record { master = 0; columns = nc; omissions = no + 1 }) w'
+      → SettlePlan s src bys n i g d records nc no w (record { master = 0; columns = nc; omissions = no + 1 }) w'
   settle-differs h u =
-      let o = differs-back (timeOf s (groupsIn src n) (groupOf d g (channelsIn src n i) records)) (sym h ∙ e) in
+      let o = differs-back (timeOf s (groupsIn src n) bys (groupOf d g (channelsIn src n i) records)) (sym h ∙ e) in
       record {
         few = omega arith;
         fewOmitted = omega arith;
@@ -157,9 +157,9 @@ module _ (s src : List ℕ) (n i g d records nc no : ℕ) (w : List ℕ) {x : Ti
       }
 
   pub settle-at : {c' g' d' r' : ℕ} {r : Settled} {w' : List ℕ} → x ≡ At c' g' d' r' → TimePlan c' g' d' r' nc no w r w'
-      → SettlePlan s src n i g d records nc no w r w'
+      → SettlePlan s src bys n i g d records nc no w r w'
   settle-at {c'} {g'} h t =
-      let o = time-back (timeOf s (groupsIn src n) (groupOf d g (channelsIn src n i) records)) (sym h ∙ e) in
+      let o = time-back (timeOf s (groupsIn src n) bys (groupOf d g (channelsIn src n i) records)) (sym h ∙ e) in
       let few = t .few in
       let few' = t .fewOmitted in
       record {
@@ -171,22 +171,22 @@ module _ (s src : List ℕ) (n i g d records nc no : ℕ) (w : List ℕ) {x : Ti
             (λ q. waits (o .group) c' (o .is) p k l y (rw (o .at) q)));
       }
     where
-      waits : (t : SrcGroup) (m : ℕ) → timeOf s (groupsIn src n) (groupOf d g (channelsIn src n i) records) ≡ time t m
+      waits : (t : SrcGroup) (m : ℕ) → timeOf s (groupsIn src n) bys (groupOf d g (channelsIn src n i) records) ≡ time t m
           → {b : Base} {nf : ℕ} {f : List ℕ} (p : Plan) → Held b p nc no nf w f
           → In (groupOf d g (channelsIn src n i) records) (groupsIn src n) → nc + waiting s (p .columns) (groupsIn src n) ≤ 512
           → timeColumn (t .at) 0 (p .columns) ≡ none → nc < 512
       waits t m o p k l y q =
-          let z = time-known s (groupsIn src n) (groupOf d g (channelsIn src n i) records) t m l o in
+          let z = time-known s (groupsIn src n) bys t m (groupOf d g (channelsIn src n i) records) l o in
           let f' = waiting-fewer s (p .columns) (timeOfGroup t m) (groupsIn src n) (z .isIn) (z .master) q refl refl in
           omega arith
 
-      settled : (t : SrcGroup) (m : ℕ) → timeOf s (groupsIn src n) (groupOf d g (channelsIn src n i) records) ≡ time t m
+      settled : (t : SrcGroup) (m : ℕ) → timeOf s (groupsIn src n) bys (groupOf d g (channelsIn src n i) records) ≡ time t m
           → {b : Base} {nf : ℕ} {f : List ℕ} {r : Settled} {w' : List ℕ} (p : Plan) → Held b p nc no nf w f
           → In (groupOf d g (channelsIn src n i) records) (groupsIn src n) → nc + waiting s (p .columns) (groupsIn src n) ≤ 512
           → TimeHeld b p t m nf f r w'
-          → Settling s (groupsIn src n) (groupOf d g (channelsIn src n i) records) b p nf f r w'
+          → Settling s (groupsIn src n) bys (groupOf d g (channelsIn src n i) records) b p nf f r w'
       settled t m o p k l y h =
-          let z = time-known s (groupsIn src n) (groupOf d g (channelsIn src n i) records) t m l o in
+          let z = time-known s (groupsIn src n) bys t m (groupOf d g (channelsIn src n i) records) l o in
           let v = time-budget s (groupsIn src n) t m p (z .isIn) (z .master) in
           let c = h .held .columns in
           record {

@@ -33,18 +33,18 @@ pub record TimePlan (c g d records nc no : ℕ) (w : List ℕ) (r : Settled) (w'
   pub is : (b : Base) (p : Plan) (nf : ℕ) (f : List ℕ) (t : SrcGroup) → Held b p nc no nf w f → t .at ≡ g → t .dataGroup .at ≡ d
       → t .records ≡ records → (timeColumn g 0 (p .columns) ≡ none → nc < 512) → TimeHeld b p t c nf f r w'
 
-pub record Settling (s : List ℕ) (all : List SrcGroup) (g : SrcGroup) (b : Base) (p : Plan) (nf : ℕ) (f : List ℕ) (r : Settled) (w' : List ℕ) : Type 0 where
+pub record Settling (s : List ℕ) (all : List SrcGroup) (bys : List ℕ) (g : SrcGroup) (b : Base) (p : Plan) (nf : ℕ) (f : List ℕ) (r : Settled) (w' : List ℕ) : Type 0 where
   pub plan : Plan
   pub column : Option ℕ
   pub held : Held b plan (r .columns) (r .omissions) nf w' f
   pub master : masterWord column ≡ r .master
   pub budget : r .columns + waiting s (plan .columns) all ≤ length (p .columns) + waiting s (p .columns) all
-  pub rest : (rs : Rules) → planTimed rs s g (timeOf s all g) p ≡ planChannels rs s g (ownMaster (masterOf s g)) column (g .channels) plan
+  pub rest : (rs : Rules) → planTimed rs s g (timeOf s all bys g) p ≡ planChannels rs s g (ownMaster (masterOf s g)) column (g .channels) plan
 
 -- the time of a group, for every plan that stands in the words with room for it
-pub record SettlePlan (s src : List ℕ) (n i g d records nc no : ℕ) (w : List ℕ) (r : Settled) (w' : List ℕ) : Type 0 where
+pub record SettlePlan (s src bys : List ℕ) (n i g d records nc no : ℕ) (w : List ℕ) (r : Settled) (w' : List ℕ) : Type 0 where
   pub few : r .columns ≤ nc + 1
   pub fewOmitted : r .omissions ≤ no + 1
   pub is : (b : Base) (p : Plan) (nf : ℕ) (f : List ℕ) → Held b p nc no nf w f → In (groupOf d g (channelsIn src n i) records) (groupsIn src n)
       → nc + waiting s (p .columns) (groupsIn src n) ≤ 512
-      → Settling s (groupsIn src n) (groupOf d g (channelsIn src n i) records) b p nf f r w'
+      → Settling s (groupsIn src n) bys (groupOf d g (channelsIn src n i) records) b p nf f r w'

@@ -1,5 +1,7 @@
 // Which columns and omissions a recording gets, kept in lent words.
+pub mod clocks;
 pub mod column;
+pub mod compared;
 pub mod data;
 pub mod decide;
 pub mod groups;
@@ -9,5 +11,6 @@ pub mod recording;
 pub mod sizes;
 pub mod span;
 pub mod stage;
+pub mod table;
 pub mod timing;
 pub mod words;

@@ -1,6 +1,7 @@
-// A group's master, its own or its remote group's.
+// A group's master, its own or its remote group's, or the one that stands for it.
 use crate::groups::Sought;
 use crate::groups::find_group;
+use crate::groups::stand_of;
 use crate::words::word;
 use blocks::block::link_at;
 use blocks::block::links_at;
@@ -13,7 +14,7 @@ ghost use Prim.Native.Nat.{_≤_};
 ghost use Rattle.plan.specs.Channel.{both, isMasterType, fits};
 ghost use Rattle.plan.specs.Columns.{firstMaster, remoteLink, timeOf};
 ghost use Rattle.planning.specs.Items.{groupOf, groupsIn, channelsIn};
-ghost use Rattle.planning.specs.Times.{masterFrom, masterIn, timeWords, remoteIn};
+ghost use Rattle.planning.specs.Times.{masterFrom, masterIn, timeWords, StandsIn, remoteIn};
 
 pub enum Master {
     Without,
@@ -85,10 +86,63 @@ pub fn remote_link(image: &[u8], g: u64) -> u64
     0
 }
 
-// The master of the remote group of the group at g, which has so many records.
-pub(crate) fn remote_time(image: &[u8], source: &[u64], n: u64, g: u64, records: u64) -> Time
+// The master at c of the group at g, of the DG at d, with so many records; or the one that stands for it.
+pub(crate) fn standing(
+    image: &[u8],
+    source: &[u64],
+    stands: &[u64],
+    n: u64,
+    c: u64,
+    g: u64,
+    d: u64,
+    records: u64,
+) -> Time
     requires { ⌜ n ≤ 1536 ⌝ }
-    ensures { λ r. ⌜ r ≡ timeWords (remoteIn (now (image .entry)) (now (source .entry)) n g records) ⌝ }
+    ensures { λ r. ⌜ StandsIn (now (image .entry)) (now (source .entry)) (now (stands .entry)) n c g d records r ⌝ }
+{
+    let by = stand_of(source, stands, n, g);
+    if by == 0 {
+        return Time::At {
+            channel: c,
+            group: g,
+            dg: d,
+            records,
+        };
+    }
+    let sought = find_group(source, n, by);
+    match sought {
+        Sought::Nothing => Time::Untimed,
+        Sought::Group {
+            item,
+            records: there,
+            dg,
+            number,
+        } => {
+            let master = master_of(image, source, n, item, by);
+            match master {
+                Master::Without => Time::Untimed,
+                Master::Channel(channel) => Time::At {
+                    channel,
+                    group: by,
+                    dg,
+                    records: there,
+                },
+            }
+        }
+    }
+}
+
+// The master of the remote group of the group at g, which has so many records.
+pub(crate) fn remote_time(
+    image: &[u8],
+    source: &[u64],
+    stands: &[u64],
+    n: u64,
+    g: u64,
+    records: u64,
+) -> Time
+    requires { ⌜ n ≤ 1536 ⌝ }
+    ensures { λ r. ⌜ r ≡ timeWords (remoteIn (now (image .entry)) (now (source .entry)) (now (stands .entry)) n g records) ⌝ }
 {
     let link = remote_link(image, g);
     let sought = find_group(source, n, link);
@@ -98,18 +152,14 @@ pub(crate) fn remote_time(image: &[u8], source: &[u64], n: u64, g: u64, records:
             item,
             records: there,
             dg,
+            number,
         } => {
             let master = master_of(image, source, n, item, link);
             match master {
                 Master::Without => Time::Untimed,
                 Master::Channel(c) => {
                     if there == records {
-                        return Time::At {
-                            channel: c,
-                            group: link,
-                            dg,
-                            records: there,
-                        };
+                        return standing(image, source, stands, n, c, link, dg, there);
                     }
                     Time::Differs
                 }
@@ -122,6 +172,7 @@ pub(crate) fn remote_time(image: &[u8], source: &[u64], n: u64, g: u64, records:
 pub(crate) fn time_of(
     image: &[u8],
     source: &[u64],
+    stands: &[u64],
     n: u64,
     i: u64,
     g: u64,
@@ -129,17 +180,12 @@ pub(crate) fn time_of(
     records: u64,
 ) -> Time
     requires { ⌜ n ≤ 1536 ⌝ }
-    ensures { λ r. ⌜ r ≡ timeWords (timeOf (now (image .entry)) (groupsIn (now (source .entry)) n)
+    ensures { λ r. ⌜ r ≡ timeWords (timeOf (now (image .entry)) (groupsIn (now (source .entry)) n) (now (stands .entry))
         (groupOf d g (channelsIn (now (source .entry)) n i) records)) ⌝ }
 {
     let master = master_of(image, source, n, i, g);
     match master {
-        Master::Channel(c) => Time::At {
-            channel: c,
-            group: g,
-            dg: d,
-            records,
-        },
-        Master::Without => remote_time(image, source, n, g, records),
+        Master::Channel(c) => standing(image, source, stands, n, c, g, d, records),
+        Master::Without => remote_time(image, source, stands, n, g, records),
     }
 }

@@ -17,6 +17,7 @@ pub(crate) fn plan_group(
     choices: Choices,
     table: &[u8],
     source: &[u64],
+    stands: &[u64],
     fragments: &mut [u64],
     columns: &mut [u64],
     n: u64,
@@ -29,8 +30,8 @@ pub(crate) fn plan_group(
     nf: u64,
 ) -> Progress
     requires { ⌜ (n ≤ 1536) × (i ≤ n) × (nc ≤ 4190000) × (no ≤ 4190000) × (nf ≤ 1024) × (4096 ≤ length (now columns)) ⌝ }
-    ensures { λ r. ⌜ GroupPlan (rules choices (now (table .entry))) (now (image .entry)) (now (source .entry)) n i g d records nc no nf (now (columns .entry)) (now (fragments .entry))
-        r (now (columns .exit)) (now (fragments .exit)) ⌝ }
+    ensures { λ r. ⌜ GroupPlan (rules choices (now (table .entry))) (now (image .entry)) (now (source .entry)) (now (stands .entry)) n i g d records nc no nf
+        (now (columns .entry)) (now (fragments .entry)) r (now (columns .exit)) (now (fragments .exit)) ⌝ }
 {
     if is_storage(image, g) {
         return Progress::Done {
@@ -40,7 +41,7 @@ pub(crate) fn plan_group(
         };
     }
     let own = own_of(image, source, n, i, g);
-    let settled = settle(image, source, columns, n, i, g, d, records, nc, no);
+    let settled = settle(image, source, stands, columns, n, i, g, d, records, nc, no);
     let master = settled.master;
     let more = settled.columns;
     let others = settled.omissions;
@@ -70,14 +71,15 @@ pub(crate) fn plan_groups(
     choices: Choices,
     table: &[u8],
     source: &[u64],
+    stands: &[u64],
     fragments: &mut [u64],
     columns: &mut [u64],
     n: u64,
     nf: u64,
 ) -> Progress
     requires { ⌜ (n ≤ 1536) × (nf ≤ 1024) × (4096 ≤ length (now columns)) ⌝ }
-    ensures { λ r. ⌜ GroupsPlan (rules choices (now (table .entry))) (now (image .entry)) (now (source .entry)) n nf (now (columns .entry)) (now (fragments .entry))
-        r (now (columns .exit)) (now (fragments .exit)) ⌝ }
+    ensures { λ r. ⌜ GroupsPlan (rules choices (now (table .entry))) (now (image .entry)) (now (source .entry)) (now (stands .entry)) n nf
+        (now (columns .entry)) (now (fragments .entry)) r (now (columns .exit)) (now (fragments .exit)) ⌝ }
 {
     let mut i: u64 = 0;
     let mut g: u64 = 0;
@@ -97,6 +99,7 @@ pub(crate) fn plan_groups(
                 choices,
                 table,
                 source,
+                stands,
                 fragments,
                 columns,
                 n,

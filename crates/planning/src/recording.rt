@@ -1,6 +1,8 @@
-// A recording is read and planned: identification, the walk, the counts, the plan, the data stage.
+// A recording is read and planned: identification, the walk, the counts, which masters stand for others, the plan, the data stage.
+use crate::clocks::share_times;
 use crate::column::Progress;
 use crate::data::all_data_in;
+use crate::groups::shared_groups;
 use crate::planned::plan_groups;
 use crate::stage::blocks_in;
 use choices::Choices;
@@ -10,11 +12,12 @@ use reading::recording::clear;
 use reading::recording::read;
 ghost use mathlib.Core.Path.{_≡_};
 ghost use Prim.Native.Nat.{_≤_};
-ghost use lib.ListN.{length};
+ghost use lib.ListN.{length, replicate};
 ghost use Rattle.choices.specs.Chosen.{rules};
-ghost use Rattle.planning.specs.Answer.{StageOver, PlanRead, given, planOver, PlanLeft, planInto};
+ghost use Rattle.planning.specs.Answer.{StageOver, StandsRead, StandAlike, PlanStood, PlanRead, given, planOver, PlanLeft, planInto};
 
-// Document 01's refusal with number and place; or the number of blocks met, of the walk's fragments, of columns and of omissions.
+// Document 01's refusal with number and place; or the number of blocks met, of the walk's fragments, of columns, of omissions, and of groups
+// that another stands for.
 pub enum Planned {
     Refused {
         number: u64,
@@ -25,6 +28,7 @@ pub enum Planned {
         fragments: u64,
         columns: u64,
         omissions: u64,
+        shared: u64,
     },
 }
 
@@ -49,6 +53,76 @@ fn stage_in(
     blocks_in(image, columns, nc, size)
 }
 
+// Which masters stand for others, of what was read into the words: none unless times are shared.
+fn shared_in(
+    image: &[u8],
+    share: bool,
+    source: &[u64],
+    fragments: &[u64],
+    n: u64,
+    nf: u64,
+    stands: &mut [u64; 512],
+) -> Check
+    requires { ⌜ (n ≤ 1536) × (nf ≤ 1024) × (3072 ≤ length (now fragments)) × (now stands ≡ replicate 512 0) ⌝ }
+    ensures { λ r. ⌜ StandsRead share (now (image .entry)) (now (source .entry)) (now (fragments .entry)) n nf r (now (stands .exit)) ⌝ }
+{
+    if share {
+        return share_times(image, source, fragments, n, nf, stands);
+    }
+    Check::Fine
+}
+
+// The words of those that stand for others; none where no group does, so that none is sought.
+fn some_stands(stands: &[u64]) -> &[u64]
+    ensures { λ r. ⌜ StandAlike (now (stands .entry)) (now r) ⌝ }
+{
+    if shared_groups(stands) == 0 {
+        return &stands[0..0];
+    }
+    stands
+}
+
+// The plan of what was read into the words, by those that stand for others, and its data stage.
+fn plan_stood(
+    image: &[u8],
+    size: u64,
+    choices: Choices,
+    table: &[u8],
+    source: &[u64],
+    stands: &[u64; 512],
+    fragments: &mut [u64],
+    columns: &mut [u64],
+    n: u64,
+    nf: u64,
+) -> Planned
+    requires { ⌜ (n ≤ 1536) × (nf ≤ 1024) × (3072 ≤ length (now fragments)) × (6144 ≤ length (now columns)) ⌝ }
+    ensures { λ r. ⌜ PlanStood (rules choices (now (table .entry))) (now (image .entry)) size (now (source .entry)) (now (stands .entry)) (now (fragments .entry))
+        (now (columns .entry)) n nf r (now (fragments .exit)) (now (columns .exit)) ⌝ }
+{
+    let some = some_stands(stands);
+    let planned = plan_groups(image, choices, table, source, some, fragments, columns, n, nf);
+    match planned {
+        Progress::Refused { number, place } => Planned::Refused { number, place },
+        Progress::Done {
+            columns: nc,
+            omissions: no,
+            fragments: all,
+        } => {
+            let checked = stage_in(image, size, source, fragments, columns, n, nf, nc);
+            match checked {
+                Check::Refused { number, place } => Planned::Refused { number, place },
+                Check::Fine => Planned::Done {
+                    items: n,
+                    fragments: nf,
+                    columns: nc,
+                    omissions: no,
+                    shared: shared_groups(stands),
+                },
+            }
+        }
+    }
+}
+
 // The plan of what was read into the words, and its data stage.
 fn plan_read(
     image: &[u8],
@@ -65,26 +139,13 @@ fn plan_read(
     ensures { λ r. ⌜ PlanRead (rules choices (now (table .entry))) (now (image .entry)) size (now (source .entry)) (now (fragments .entry)) (now (columns .entry)) n nf
         r (now (fragments .exit)) (now (columns .exit)) ⌝ }
 {
-    let planned = plan_groups(image, choices, table, source, fragments, columns, n, nf);
-    match planned {
-        Progress::Refused { number, place } => Planned::Refused { number, place },
-        Progress::Done {
-            columns: nc,
-            omissions: no,
-            fragments: all,
-        } => {
-            let checked = stage_in(image, size, source, fragments, columns, n, nf, nc);
-            match checked {
-                Check::Refused { number, place } => Planned::Refused { number, place },
-                Check::Fine => Planned::Done {
-                    items: n,
-                    fragments: nf,
-                    columns: nc,
-                    omissions: no,
-                },
-            }
-        }
+    let mut stands = [0u64; 512];
+    let share = choices.share;
+    let known = shared_in(image, share, source, fragments, n, nf, &mut stands);
+    if let Check::Refused { number, place } = known {
+        return Planned::Refused { number, place };
     }
+    plan_stood(image, size, choices, table, source, &stands, fragments, columns, n, nf)
 }
 
 // Reading, then planning.
@@ -98,8 +159,8 @@ fn plan_all(
     columns: &mut [u64],
 ) -> Planned
     requires { ⌜ (4096 ≤ length (now source)) × (3072 ≤ length (now fragments)) × (6144 ≤ length (now columns)) ⌝ }
-    ensures { λ r. ⌜ given r (now (source .exit)) (now (fragments .exit)) (now (columns .exit))
-        ≡ planOver (rules choices (now (table .entry))) (now (image .entry)) size (now (source .entry)) (now (fragments .entry)) (now (columns .entry)) ⌝ }
+    ensures { λ r. ⌜ (length (now (image .entry)) ≤ 4294967296 → given r (now (source .exit)) (now (fragments .exit)) (now (columns .exit))
+        ≡ planOver (rules choices (now (table .entry))) (now (image .entry)) size (now (source .entry)) (now (fragments .entry)) (now (columns .entry))) ⌝ }
 {
     let met = read(image, source, fragments);
     match met {
@@ -112,7 +173,7 @@ fn plan_all(
     }
 }
 
-// A recording is planned into lent words: 4,096 for its blocks, groups and counts, 3,072 for its fragments, 6,144 for columns and omissions.
+// A recording of at most 4 GiB is planned into lent words: 4,096 for its blocks, groups and counts, 3,072 for its fragments, 6,144 for columns and omissions.
 pub fn plan(
     image: &[u8],
     size: u64,
@@ -122,8 +183,8 @@ pub fn plan(
     fragments: &mut [u64],
     columns: &mut [u64],
 ) -> Planned
-    ensures { λ r. ⌜ PlanLeft.planLeft r (now (source .exit)) (now (fragments .exit)) (now (columns .exit))
-        ≡ planInto (rules choices (now (table .entry))) (now (image .entry)) size (now (source .entry)) (now (fragments .entry)) (now (columns .entry)) ⌝ }
+    ensures { λ r. ⌜ (length (now (image .entry)) ≤ 4294967296 → PlanLeft.planLeft r (now (source .exit)) (now (fragments .exit)) (now (columns .exit))
+        ≡ planInto (rules choices (now (table .entry))) (now (image .entry)) size (now (source .entry)) (now (fragments .entry)) (now (columns .entry))) ⌝ }
 {
     if source.len() < 4096 {
         return Planned::Refused {

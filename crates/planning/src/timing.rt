@@ -65,6 +65,7 @@ pub(crate) fn add_time(
 pub(crate) fn settle(
     image: &[u8],
     source: &[u64],
+    stands: &[u64],
     columns: &mut [u64],
     n: u64,
     i: u64,
@@ -75,9 +76,9 @@ pub(crate) fn settle(
     no: u64,
 ) -> Settled
     requires { ⌜ (n ≤ 1536) × (nc ≤ 4194304) × (no ≤ 4194303) × (4096 ≤ length (now columns)) ⌝ }
-    ensures { λ r. ⌜ SettlePlan (now (image .entry)) (now (source .entry)) n i g d records nc no (now (columns .entry)) r (now (columns .exit)) ⌝ }
+    ensures { λ r. ⌜ SettlePlan (now (image .entry)) (now (source .entry)) (now (stands .entry)) n i g d records nc no (now (columns .entry)) r (now (columns .exit)) ⌝ }
 {
-    let time = time_of(image, source, n, i, g, d, records);
+    let time = time_of(image, source, stands, n, i, g, d, records);
     match time {
         Time::Untimed => Settled {
             master: 0,

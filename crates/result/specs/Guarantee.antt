@@ -1,6 +1,6 @@
 -- The archive's guarantee (demand 3, in the words of document 01, e): what holds of the final bytes and the final list of every accepted result.
 use Prim.Native.Nat.{ℕ, zero, suc, _+_, _*_, _%_, _≤_, _<_}
-use mathlib.Core.List.{List, [], _∷_}
+use mathlib.Core.List.{List, [], _∷_, _++_}
 use mathlib.Core.Bool.{Bool, true, false}
 use mathlib.Core.Option.{Option, none, some}
 use mathlib.Core.Path.{_≡_}
@@ -18,6 +18,7 @@ use Rattle.plan.specs.Layout.{Placed, columnBlocks}
 pub use Rattle.result.specs.Member.{In, here, there}
 use Rattle.result.specs.Recording.{Recorded, Met, SharedRecords, Sorted, IsMaster, Uses, Differs, Treats, reasonFor, OmissionDue, Among, filePlaces, signalChannels, SignalDue, signalSize, Followed, isAT, attachedFrom}
 use Rattle.result.specs.Payload.{recordsOf, signalBytes}
+use Rattle.result.specs.Sharing.{timeKey, timeCells, isEqual}
 use Rattle.result.specs.Fill.{Block}
 use Rattle.result.specs.Result.{Args, rulesOf, Decided, blocksOf}
 use Rattle.result.specs.Ordered.{Close}
@@ -71,9 +72,44 @@ pub record IsTime (cs : List Column) (k : ℕ) (t : SrcGroup) (m n : ℕ) (d : C
   pub ofChannel : d .channel ≡ m
   pub asMany : d .group .records ≡ n
 
--- a signal column names the time column of the master that its group has or uses, with as many records; without such a master it names none
+-- "The first group in file order .. stands for its equals" (document 02, request 8): by, with the master theirs, is the first of the groups gs whose time
+-- column has the key and the bytes of that of group g, made of own
+pub record StandsFor (s : List ℕ) (gs : List SrcGroup) (g : SrcGroup) (own : ℕ) (by : SrcGroup) (theirs : ℕ) : Type 0 where
+  pub before : List SrcGroup
+  pub between : List SrcGroup
+  pub after : List SrcGroup
+  pub earlier : gs ≡ before ++ (by ∷ (between ++ (g ∷ after)))
+  pub first : (h : SrcGroup) → In h before → isStorage s (h .at) ≡ false → (k : ℕ) → IsMaster s (h .at) (h .channels) k → isEqual s g own h k ≡ false
+  pub key : timeKey s g own ≡ timeKey s by theirs
+  pub bytes : timeCells s g own ≡ timeCells s by theirs
+
+-- the master own of group g is no column, since another stands for it: "exactly one earlier column with equal bytes and count"
+pub record SharedTime (s : List ℕ) (gs : List SrcGroup) (cs : List Column) (g : SrcGroup) (own : ℕ) : Type 0 where
+  pub by : SrcGroup
+  pub theirs : ℕ
+  pub ofGroup : IsMaster s (g .at) (g .channels) own
+  pub master : IsMaster s (by .at) (by .channels) theirs
+  pub equal : StandsFor s gs g own by theirs
+  pub number : ℕ
+  pub column : Column
+  pub isTime : IsTime cs number by theirs (g .records) column
+  pub one : columnsOf theirs cs ≡ 1
+
+-- column k is the time column d of the master m of group t, or the one that stands for it, with n records
+pub data TimeFor (s : List ℕ) (gs : List SrcGroup) (cs : List Column) (t : SrcGroup) (m n k : ℕ) (d : Column) : Type 0 where
+  own : IsTime cs k t m n d → TimeFor s gs cs t m n k d
+  another : (h : SharedTime s gs cs t m) → h .number ≡ k → h .column ≡ d → t .records ≡ n → TimeFor s gs cs t m n k d
+
+-- "a master channel ends as a column, an omission, or exactly one earlier column", any other as a column or an omission: channel c of group g
+pub data Became (s : List ℕ) (gs : List SrcGroup) (cs : List Column) (os : List Omission) (g : SrcGroup) (c : ℕ) : Type 0 where
+  itself : columnsOf c cs + omissionsOf c os ≡ 1 → Became s gs cs os g c
+  another : columnsOf c cs + omissionsOf c os ≡ 0 → SharedTime s gs cs g c → Became s gs cs os g c
+
+-- a signal column names the time column of the master that its group has or uses, or the one that stands for it, with as many records; without such a
+-- master it names none
 pub record MasterDue (s : List ℕ) (gs : List SrcGroup) (cs : List Column) (c : Column) : Type 0 where
-  pub names : (t : SrcGroup) (m : ℕ) → Uses s gs (c .group) t m → (k : ℕ) × (d : Column) × (c .master ≡ some k) × IsTime cs k t m (c .group .records) d
+  pub names : (t : SrcGroup) (m : ℕ) → Uses s gs (c .group) t m
+      → (k : ℕ) × (d : Column) × (c .master ≡ some k) × TimeFor s gs cs t m (c .group .records) k d
   pub only : (k : ℕ) → c .master ≡ some k → (t : SrcGroup) × (m : ℕ) × Uses s gs (c .group) t m
 
 -- "a time column names none"
@@ -134,8 +170,11 @@ pub record Guaranteed (x : Args) (d : Decided) (f l : List ℕ) : Type 0 where
   pub recording : (ds : List DataGroup) × Recorded (x .image) ds (d .groups)
   pub met : (st : Source) → walk (x .image) ≡ ok st → Met st (d .groups)
   -- ---- "every channel became one column or one omission"
-  -- every channel of every group that is not VLSD storage is one column or one omission, and nothing else is a column
+  -- every channel of every group that is not VLSD storage is one column or one omission, or a master that an equal one stands for, which can't be unless
+  -- times are shared; nothing else is a column
   pub once : (g : SrcGroup) → In g (d .groups) → isStorage (x .image) (g .at) ≡ false → (c : ℕ) → In c (g .channels)
+      → Became (x .image) (d .groups) (d .planned .columns) (d .planned .omissions) g c
+  pub unshared : x .share ≡ false → (g : SrcGroup) → In g (d .groups) → isStorage (x .image) (g .at) ≡ false → (c : ℕ) → In c (g .channels)
       → columnsOf c (d .planned .columns) + omissionsOf c (d .planned .omissions) ≡ 1
   pub source : (c : Column) → In c (d .planned .columns)
       → In (c .group) (d .groups) × (isStorage (x .image) (c .group .at) ≡ false) × In (c .channel) (c .group .channels)
@@ -165,6 +204,11 @@ pub record Guaranteed (x : Args) (d : Decided) (f l : List ℕ) : Type 0 where
       → SignalDue (x .table) (x .image) (c .channel) (c .signalOf) × (length (signalBytes (x .image) (c .signalOf)) ≡ signalSize (c .signalOf))
   -- ---- "masters are named as planned"
   pub masters : (c : Column) → In c (d .planned .columns) → NamesMaster (x .image) (d .groups) (d .planned .columns) c (c .isTime)
+  -- a column that is named comes before those that name it
+  pub namedBefore : (j k : ℕ) (c : Column) → columnAt j (d .planned .columns) ≡ some c → c .master ≡ some k → k < j
+  -- where times are shared, no two time columns are equal (document 02, request 8)
+  pub distinct : x .share ≡ true → (c e : Column) → In c (d .planned .columns) → In e (d .planned .columns) → c .isTime ≡ true → e .isTime ≡ true
+      → (c .channel ≡ e .channel → ⊥) → isEqual (x .image) (c .group) (c .channel) (e .group) (e .channel) ≡ false
   -- ---- the chains of history and attachments are followed to their end
   pub historyEnds : Followed (x .image) isCopied (linkAt (x .image) 64 1) (d .laidOut .past .chain)
   pub attachmentsEnd : Followed (x .image) isAT (linkAt (x .image) 64 3) (attachedFrom (d .laidOut .attached .attachments))

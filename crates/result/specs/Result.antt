@@ -1,6 +1,7 @@
 -- The result: its blocks in the order of their addresses, zeros between them; the report; the answer in document 01's order.
 use Prim.Native.Nat.{ℕ, _+_, _-_}
 use mathlib.Core.List.{List, [], _∷_, _++_}
+use mathlib.Core.Bool.{Bool}
 use lib.ListN.{length, drop, replicate}
 use Rattle.base.specs.Choice.{pick, ifLt, ifEq}
 use Rattle.base.specs.Field.{leAt}
@@ -16,6 +17,7 @@ use Rattle.plan.specs.Data.{allDataIn, blocksIn}
 use Rattle.plan.specs.Copies.{Copy}
 use Rattle.plan.specs.Rules.{Rules, choicesIn}
 use Rattle.plan.specs.Layout.{Layout, layout, columnBlocks}
+use Rattle.result.specs.Sharing.{sharing}
 use Rattle.result.specs.Fill.{Block, block, newLink, copiedBlocks, mdBytes, fhBytes, nextDG, structureBlocks, dataBlocks, nextAttachment, attachmentBlocks, hdBytes}
 
 -- bookkeeping: what a call is given besides output, list and work words
@@ -28,10 +30,11 @@ pub record Args : Type 0 where
   -- document 02's choices
   pub unit : ℕ
   pub table : List ℕ
+  pub share : Bool
 
 -- bookkeeping: what is chosen, as the definitions use it
 abbrev pub rulesOf : Args → Rules
-rulesOf x = record { unit = x .unit; table = x .table }
+rulesOf x = record { unit = x .unit; table = x .table; share = x .share }
 
 -- ---- the file
 
@@ -70,8 +73,8 @@ flat a (b ∷ bs) e = replicate (b .at - a) 0 ++ b .bytes ++ flat (b .at + lengt
 unfoldable pub fileOf : Args → Layout → List ℕ
 fileOf x l = flat 0 (blocksOf x l) (l .fileSize)
 
--- ---- the report: "seven counts of `ColumnReport`: source groups (not VLSD storage), time columns, signal columns, shared time groups (0),
--- data blocks (DT and DV, and one for each SD written), the metadata's end, the file's size"
+-- ---- the report: "seven counts of `ColumnReport`: source groups (not VLSD storage), time columns, signal columns, shared time groups",
+-- "data blocks (DT and DV, and one for each SD written), the metadata's end, the file's size"
 pub record Report : Type 0 where
   pub sourceGroups : ℕ
   pub timeGroups : ℕ
@@ -101,9 +104,15 @@ unfoldable pub blocksWritten : List ℕ → ℕ → List Column → ℕ
 blocksWritten s size [] = 0
 blocksWritten s size (c ∷ cs) = columnBlocks s size c + signalBlocks (c .signalOf) + blocksWritten s size cs
 
--- ---- what is decided before anything is written
+-- "the report's shared count" (document 02, request 8): the groups that another stands for
+unfoldable pub sharedGroups : List ℕ → ℕ
+sharedGroups [] = 0
+sharedGroups (b ∷ bys) = ifEq b 0 0 1 + sharedGroups bys
+
+-- ---- what is decided before anything is written: the groups, for each the CG of the one that stands for it, 0 for none; the plan; the layout
 pub record Decided : Type 0 where
   pub groups : List SrcGroup
+  pub stands : List ℕ
   pub planned : Plan
   pub laidOut : Layout
 
@@ -114,7 +123,7 @@ report x d =
       sourceGroups = sourceGroupsOf (x .image) (d .groups);
       timeGroups = timeColumns (d .planned .columns);
       signalGroups = length (d .planned .columns) - timeColumns (d .planned .columns);
-      sharedTimeGroups = 0;
+      sharedTimeGroups = sharedGroups (d .stands);
       dataBlocks = blocksWritten (x .image) (x .blockSize) (d .planned .columns);
       metadataSize = d .laidOut .metadataEnd;
       fileSize = d .laidOut .fileSize;
@@ -134,7 +143,8 @@ lentIn x =
     (ifEq (leAt 8 (x .ident) 8) version420
     (ifLt 4096 (length (x .text)) (refused 1 0) fine) (refused 1 0)) (refused 1 0)) (refused 1 0)
 
--- "Order. 1, 2,", document 02's choices, "3; identification (4, 5, 6, 7); HD; DG by DG ..; counts DG by DG ..; planning; DG by DG data ..; block counts (19); metadata; attachments .."
+-- "Order. 1, 2,", document 02's choices, "3; identification (4, 5, 6, 7); HD; DG by DG ..; counts DG by DG ..; planning", which "starts with the unit texts ..,
+-- then, DG by DG, the compared groups' data" where times are shared; "DG by DG data ..; block counts (19); metadata; attachments .."
 unfoldable pub decided : Args → Checked Decided
 decided x =
     andThen (lentIn x) (λ _.
@@ -144,11 +154,12 @@ decided x =
     andThen (identified (x .image)) (λ _.
     andThen (walk (x .image)) (λ st.
     andThen (counts (x .image) (dataGroups st)) (λ ns.
-    andThen (plan (rulesOf x) (x .image) (length (st .fragments)) (srcGroups (dataGroups st) ns)) (λ p.
+    andThen (sharing (x .share) (x .image) (dataGroups st) (srcGroups (dataGroups st) ns)) (λ bys.
+    andThen (plan (rulesOf x) (x .image) (length (st .fragments)) (srcGroups (dataGroups st) ns) bys) (λ p.
     andThen (allDataIn (x .image) (p .columns) (dataGroups st)) (λ _.
     andThen (blocksIn (x .image) (x .blockSize) (p .columns)) (λ _.
     andThen (layout (rulesOf x) (x .image) (x .blockSize) (length (x .text)) (p .columns)) (λ l.
-    ok (record { groups = srcGroups (dataGroups st) ns; planned = p; laidOut = l }))))))))))))
+    ok (record { groups = srcGroups (dataGroups st) ns; stands = bys; planned = p; laidOut = l })))))))))))))
 
 -- "20, bytes needed: output shorter than the result; 21, words needed: omission list too short", for an output and a list of so many
 unfoldable pub answer : Args → ℕ → ℕ → Checked Decided

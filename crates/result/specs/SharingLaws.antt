@@ -103,6 +103,16 @@ pub equal-yes : (s : List ℕ) (g : SrcGroup) (m : ℕ) (h : SrcGroup) (k : ℕ)
 unfolding isEqual
 equal-yes s g m h k e = rw (e .key, e .bytes) (simp same-self)
 
+-- either way round
+pub equal-sym : (s : List ℕ) (g : SrcGroup) (m : ℕ) (h : SrcGroup) (k : ℕ) → isEqual s g m h k ≡ false → isEqual s h k g m ≡ false
+equal-sym s g m h k e = go (isEqual s h k g m) refl
+  where
+    go : (t : Bool) → isEqual s h k g m ≡ t → t ≡ false
+    go true q =
+        let r = equals s h k g m q in
+        absurd (false≢true (sym e ∙ equal-yes s g m h k (record { key = sym (r .key); records = sym (r .records); bytes = sym (r .bytes) })))
+    go false q = refl
+
 -- equals have the same equals
 pub equal-same : {s : List ℕ} {g : SrcGroup} {m : ℕ} {h : SrcGroup} {k : ℕ} → Equals s g m h k → (f : SrcGroup) (c : ℕ)
     → isEqual s h k f c ≡ isEqual s g m f c
@@ -197,6 +207,31 @@ first-equal s g m (h ∷ hs) n = go (first-equal s g m hs) (masterOf s h) refl
             let c : firstEqual s g m (h ∷ hs) ≡ firstEqual s g m hs = ap Case e ∙ ap (λ (b : Bool). pick b (h .at) (firstEqual s g m hs)) q in
             first-more h (λ c r. rw (some-same e r) at q) c (ih (λ z. n (c ∙ z)))
 
+-- none found, none equal, where no group stands at 0: the first of the groups doesn't equal g, and none is found among the others
+none-here : (s : List ℕ) (g : SrcGroup) (m : ℕ) (h : SrcGroup) (hs : List SrcGroup) → (h .at ≡ 0 → ⊥) → firstEqual s g m (h ∷ hs) ≡ 0
+    → ((k : ℕ) → masterOf s h ≡ some k → isEqual s g m h k ≡ false) × (firstEqual s g m hs ≡ 0)
+unfolding firstEqual
+none-here s g m h hs n e = go (masterOf s h) refl
+  where
+    Case : Option ℕ → ℕ
+    Case o = onMaster o (firstEqual s g m hs) (λ c. pick (isEqual s g m h c) (h .at) (firstEqual s g m hs))
+
+    Found : Type 0
+    Found = ((k : ℕ) → masterOf s h ≡ some k → isEqual s g m h k ≡ false) × (firstEqual s g m hs ≡ 0)
+
+    at-master : (c : ℕ) → masterOf s h ≡ some c → (t : Bool) → isEqual s g m h c ≡ t → Found
+    at-master c w true y = absurd (n (sym (ap Case w ∙ ap (λ (b : Bool). pick b (h .at) (firstEqual s g m hs)) y) ∙ e))
+    at-master c w false y =
+        (λ k q. rw (some-same w q) at y, sym (ap Case w ∙ ap (λ (b : Bool). pick b (h .at) (firstEqual s g m hs)) y) ∙ e)
+
+    go : (o : Option ℕ) → masterOf s h ≡ o → Found
+    go none w = (λ k q. absurd (none≢some (sym w ∙ q)), sym (ap Case w) ∙ e)
+    go (some c) w = at-master c w (isEqual s g m h c) refl
+
+pub none-first : (s : List ℕ) (g : SrcGroup) (m : ℕ) (hs : List SrcGroup) → ((h : SrcGroup) → In h hs → h .at ≡ 0 → ⊥) → firstEqual s g m hs ≡ 0 → NoneEqual s g m hs
+none-first s g m (h ∷ hs) n e f here = none-here s g m h hs (n h here) e .0
+none-first s g m (h ∷ hs) n e f (there i) = none-first s g m hs (λ a j. n a (there j)) (none-here s g m h hs (n h here) e .1) f i
+
 -- the group that stands for g, which comes after the groups hs: it is one of them, g equals it, and it stands for itself
 pub record Stood (s : List ℕ) (hs : List SrcGroup) (g : SrcGroup) : Type 0 where
   pub by : SrcGroup
@@ -209,6 +244,7 @@ pub record Stood (s : List ℕ) (hs : List SrcGroup) (g : SrcGroup) : Type 0 whe
   pub theirs : ℕ
   pub standing : masterOf s by ≡ some theirs
   pub equal : Equals s g own by theirs
+  pub first : NoneEqual s g own before
   pub itself : standsFor s before by ≡ 0
 
 pub stood : (s : List ℕ) (hs : List SrcGroup) (g : SrcGroup) → (standsFor s hs g ≡ 0 → ⊥) → Stood s hs g
@@ -234,6 +270,7 @@ stood s hs g n = go (masterOf s g) refl
           theirs = f .theirs;
           standing = f .master;
           equal = f .equal;
+          first = f .first;
           itself = ap (λ (o : Option ℕ). onMaster o 0 (λ k. firstEqual s (f .by) k (f .before))) (f .master)
               ∙ first-none s (f .by) (f .theirs) (f .before) (λ h i k q. equal-same (f .equal) h k ∙ f .first h i k q);
         }

@@ -23,3 +23,21 @@ pub(crate) fn bytes_same(image: &[u8], p: usize, q: usize, n: usize) -> bool
     }
     true
 }
+
+// The n bytes from p on are those from q on, if both lie in the image.
+pub fn parts_same(image: &[u8], p: u64, q: u64, n: u64) -> bool
+    ensures { λ r. ⌜ (p + n ≤ length (now (image .entry)) → q + n ≤ length (now (image .entry))
+        → r ≡ same (part p n (now (image .entry))) (part q n (now (image .entry)))) ⌝ }
+{
+    let size = image.len() as u64;
+    if size < n {
+        return false;
+    }
+    if size - n < p {
+        return false;
+    }
+    if size - n < q {
+        return false;
+    }
+    bytes_same(image, p as usize, q as usize, n as usize)
+}

@@ -40,10 +40,12 @@ fn are_bytes(s: &[u8])
     }
 }
 
-// What a call chooses: the unit, a power of two from 8 to 4096, on whose multiples each column's first data block and each SD start.
+// What a call chooses: the unit, a power of two from 8 to 4096, on whose multiples each column's first data block and each SD start; whether one
+// time column stands for all that equal it.
 #[repr(C)]
 pub struct ColumnOptions {
     pub unit: u64,
+    pub share: bool,
 }
 
 // One recording into one file, by what is chosen: `convert` of the crate writing. `types` is the table of treatments: no bytes, or a count n
@@ -67,12 +69,12 @@ pub extern "C" fn sitaungo_convert_with(
 ) -> Outcome
     ensures done { λ r. ⌜ left r (now (out .exit)) (now (list .exit))
         (four (now (source .exit)) (now (fragments .exit)) (now (columns .exit)) (now (copies .exit)))
-        ≡ exported (result.convert (args (now (image .entry)) size (now (ident .entry)) (now (text .entry)) time (record { unit = options .unit; table = now (types .entry) })) (now (out .entry)) (now (list .entry))
+        ≡ exported (result.convert (args (now (image .entry)) size (now (ident .entry)) (now (text .entry)) time (record { unit = options .unit; table = now (types .entry); share = options .share })) (now (out .entry)) (now (list .entry))
         (four (now (source .entry)) (now (fragments .entry)) (now (columns .entry)) (now (copies .entry)))) ⌝ }
-    ensures promised { λ _. ⌜ Promised (args (now (image .entry)) size (now (ident .entry)) (now (text .entry)) time (record { unit = options .unit; table = now (types .entry) }))
+    ensures promised { λ _. ⌜ Promised (args (now (image .entry)) size (now (ident .entry)) (now (text .entry)) time (record { unit = options .unit; table = now (types .entry); share = options .share }))
         (length (now (out .entry))) (length (now (list .entry)))
         (four (now (source .entry)) (now (fragments .entry)) (now (columns .entry)) (now (copies .entry))) (now (out .exit)) (now (list .exit)) ⌝ }
-    ensures readable { λ _. ⌜ Readable (args (now (image .entry)) size (now (ident .entry)) (now (text .entry)) time (record { unit = options .unit; table = now (types .entry) }))
+    ensures readable { λ _. ⌜ Readable (args (now (image .entry)) size (now (ident .entry)) (now (text .entry)) time (record { unit = options .unit; table = now (types .entry); share = options .share }))
         (length (now (out .entry))) (length (now (list .entry)))
         (four (now (source .entry)) (now (fragments .entry)) (now (columns .entry)) (now (copies .entry))) (now (out .exit)) ⌝ }
 {
@@ -84,7 +86,7 @@ pub extern "C" fn sitaungo_convert_with(
         ident,
         text,
         time,
-        Choices { unit: options.unit },
+        Choices { unit: options.unit, share: options.share },
         types,
         source,
         fragments,
@@ -153,7 +155,10 @@ pub extern "C" fn sitaungo_convert(
         ident,
         text,
         time,
-        ColumnOptions { unit: 8 },
+        ColumnOptions {
+            unit: 8,
+            share: false,
+        },
         b"",
         source,
         fragments,
@@ -182,7 +187,7 @@ pub extern "C" fn sitaungo_list_with(
     copies: &mut [u64],
     lines: &mut [u8],
 ) -> usize
-    ensures { λ r. ⌜ Listed (untimed (now (image .entry)) size (now (ident .entry)) (now (text .entry)) (record { unit = options .unit; table = now (types .entry) })) out «list_words»
+    ensures { λ r. ⌜ Listed (untimed (now (image .entry)) size (now (ident .entry)) (now (text .entry)) (record { unit = options .unit; table = now (types .entry); share = options .share })) out «list_words»
         (four (now (source .entry)) (now (fragments .entry)) (now (columns .entry)) (now (copies .entry))) (now (lines .entry))
         r (now (lines .exit)) (four (now (source .exit)) (now (fragments .exit)) (now (columns .exit)) (now (copies .exit))) ⌝ }
 {
@@ -192,7 +197,7 @@ pub extern "C" fn sitaungo_list_with(
         size,
         ident,
         text,
-        Choices { unit: options.unit },
+        Choices { unit: options.unit, share: options.share },
         types,
         out,
         list_words,
@@ -227,7 +232,10 @@ pub extern "C" fn sitaungo_list(
         size,
         ident,
         text,
-        ColumnOptions { unit: 8 },
+        ColumnOptions {
+            unit: 8,
+            share: false,
+        },
         b"",
         out,
         list_words,

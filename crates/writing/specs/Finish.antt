@@ -26,11 +26,11 @@ pub record Counts (s : List ℕ) (size : ℕ) (w : List ℕ) (items n : ℕ) : T
   pub fewColumns : n ≤ 512
   pub fewBlocks : (k : ℕ) → k < n → dataBlocksAt s size w k ≤ 4294967295
 
-pub record Reported (s : List ℕ) (size : ℕ) (v w : List ℕ) (items n metadata file : ℕ) (r : Report) : Type 0 where
+pub record Reported (s : List ℕ) (size : ℕ) (v w : List ℕ) (items n shared metadata file : ℕ) (r : Report) : Type 0 where
   pub sourceGroups : r .«source_groups» ≡ sumOf (groupAt s v) 0 items
   pub timeGroups : r .«time_groups» ≡ sumOf (timeAt w) 0 n
   pub signalGroups : r .«signal_groups» ≡ n - sumOf (timeAt w) 0 n
-  pub sharedTimeGroups : r .«shared_time_groups» ≡ 0
+  pub sharedTimeGroups : r .«shared_time_groups» ≡ shared
   pub dataBlocks : r .«data_blocks» ≡ sumOf (blocksAt s size w) 0 n
   pub metadataSize : r .«metadata_size» ≡ metadata
   pub fileSize : r .«file_size» ≡ file

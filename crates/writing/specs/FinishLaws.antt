@@ -30,7 +30,7 @@ use Rattle.writing.specs.declared.convert.Report as counted
 use Rattle.placing.specs.declared.decide.Decision.{Decision}
 use Rattle.placing.specs.declared.decide.Decision.the-variants as done
 use Rattle.plan.specs.Rules.{Rules}
-use Rattle.placing.specs.Decision.{untimed, four, DecidedIn, RefusedIn, Decides}
+use Rattle.placing.specs.Decision.{untimed, four, Shares, DecidedIn, RefusedIn, Decides}
 use Rattle.writing.specs.Answer.{args, reportOf, left, Bytes, Promised}
 use Rattle.writing.specs.Finish.{Stands, Counts, Reported, Finished}
 use Rattle.writing.specs.OmissionsLaws.{laid-listed}
@@ -139,13 +139,13 @@ module _ {x : Args} {items fragments columns omissions : ℕ} {n : Numbers} {v f
       let l = t .longC in
       rw (t .inColumns, t .omissions) (laid-listed (length (t .source .fragments)) (t .told .planned) (st .c) (k .fewOmissions) (omega arith))
 
-  pub stands-report : {r : counted.Report} {metadata bytes : ℕ} → Reported (x .image) (x .blockSize) v w items columns metadata bytes r
-      → metadata ≡ st .by .told .laidOut .metadataEnd → bytes ≡ st .by .told .laidOut .fileSize → reportOf r ≡ report x (st .by .told)
+  pub stands-report : {r : counted.Report} {shared metadata bytes : ℕ} → Reported (x .image) (x .blockSize) v w items columns shared metadata bytes r
+      → Shares (decided x) shared → metadata ≡ st .by .told .laidOut .metadataEnd → bytes ≡ st .by .told .laidOut .fileSize → reportOf r ≡ report x (st .by .told)
   unfolding report
-  stands-report {r} z e f =
+  stands-report {r} z h e f =
       let t = st .by in
       let k = known in
-      let h = k .fewColumns in
+      let few = k .fewColumns in
       let l = t .longC in
       let m = t .longA in
       let stand = laid-stand (length (t .source .fragments)) (t .told .planned) (st .c) (omega arith) (omega arith) in
@@ -158,7 +158,7 @@ module _ {x : Args} {items fragments columns omissions : ℕ} {n : Numbers} {v f
       rw (t .inColumns, t .columns) (times-report (x .image) (x .blockSize) _ _ 0 (t .told .planned .columns) stand) in
       let blocks : sumOf (blocksAt (x .image) (x .blockSize) w) 0 columns ≡ blocksWritten (x .image) (x .blockSize) (t .told .planned .columns) =
       rw (t .inColumns, t .columns) (blocks-report (x .image) (x .blockSize) _ _ 0 (t .told .planned .columns) stand) in
-      rw (groups, z .timeGroups, z .signalGroups, times, t .columns, z .sharedTimeGroups, z .dataBlocks, blocks, z .metadataSize, z .fileSize, e, f)
+      rw (groups, z .timeGroups, z .signalGroups, times, t .columns, z .sharedTimeGroups, h (t .told) (t .is), z .dataBlocks, blocks, z .metadataSize, z .fileSize, e, f)
     where
       walked-same : st .by .told .groups ≡ srcGroups (dataGroups (st .by .source)) (st .by .numbers)
       walked-same =
@@ -173,9 +173,13 @@ lent-fine-of : (x : Args) (d : Decided) → decided x ≡ ok d → lentIn x ≡ 
 unfolding decided
 lent-fine-of x d e = then-fine (lentIn x) _ e .0
 
-pub decides-done : {x : Args} {a b c d : List ℕ} {r : Decision} {a' b' c' d' : List ℕ} {i f k o : ℕ} {n : Numbers}
-    → Decides x a b c d r a' b' c' d' → r ≡ done.Done i f k o n → DecidedIn x i f k o n a b c d a' b' c' d'
-decides-done {x} {a} {b} {c} {d} {a' = a'} {b' = b'} {c' = c'} {d' = d'} h e = subst (λ r. Decides x a b c d r a' b' c' d') e h
+pub decides-done : {x : Args} {a b c d : List ℕ} {r : Decision} {a' b' c' d' : List ℕ} {i f k o h : ℕ} {n : Numbers}
+    → Decides x a b c d r a' b' c' d' → r ≡ done.Done i f k o h n → DecidedIn x i f k o n a b c d a' b' c' d'
+decides-done {x} {a} {b} {c} {d} {a' = a'} {b' = b'} {c' = c'} {d' = d'} h e = subst (λ r. Decides x a b c d r a' b' c' d') e h .0
+
+pub decides-shares : (x : Args) (a b c d : List ℕ) (r : Decision) (a' b' c' d' : List ℕ) {i f k o h : ℕ} {n : Numbers}
+    → Decides x a b c d r a' b' c' d' → r ≡ done.Done i f k o h n → Shares (decided x) h
+decides-shares x a b c d r a' b' c' d' h e = subst (λ r. Decides x a b c d r a' b' c' d') e h .1
 
 pub decides-refused : {x : Args} {a b c d : List ℕ} {r : Decision} {a' b' c' d' : List ℕ} {n p : ℕ}
     → Decides x a b c d r a' b' c' d' → r ≡ done.Refused n p → RefusedIn x n p (four a b c d) (four a' b' c' d')
@@ -210,6 +214,10 @@ stands-timed {image} {size} {ident} {text} time {chosen} {a = a} {b = b} {c = c}
         inColumns = t .inColumns;
       };
     }
+
+pub shares-timed : (image : List ℕ) (size : ℕ) (ident text : List ℕ) (time : ℕ) (chosen : Rules) {h : ℕ} → Shares (decided (untimed image size ident text chosen)) h
+    → Shares (decided (args image size ident text time chosen)) h
+shares-timed image size ident text time chosen k d e = k d (sym (decided-untimed image size ident text time chosen) ∙ e)
 
 refused-answer : (x : Args) (o l : ℕ) (v : Verdict) {n p : ℕ} → andThen v (λ _. decided x) ≡ refused n p → andThen v (λ _. answer x o l) ≡ refused n p
 unfolding answer

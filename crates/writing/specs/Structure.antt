@@ -1,7 +1,7 @@
 -- A column's DG, CG, CN and DL over the numbers that its words give.
 use Prim.Native.Nat.{ℕ, zero, suc, _+_, _*_, _≤_, _<_}
 use mathlib.Core.List.{List, [], _∷_}
-use mathlib.Core.Bool.{Bool}
+use mathlib.Core.Bool.{Bool, false}
 use mathlib.Core.Path.{_≡_}
 use lib.ListN.{length, getD}
 use Rattle.base.specs.Choice.{pick, ifLt, ifEq}
@@ -97,7 +97,7 @@ pub record Room (s : List ℕ) (h : PlacedColumn) (a e : ℕ) : Type 0 where
 
 -- what their blocks take of the choices
 abbrev pub onTable : List ℕ → Rules
-onTable table = record { unit = 8; table = table }
+onTable table = record { unit = 8; table = table; share = false }
 
 pub record StructureReady (rs : Rules) (s : List ℕ) (size : ℕ) (columns memo : List ℕ) (n used a e : ℕ) : Type 0 where
   pub few : n ≤ 512

@@ -13,7 +13,7 @@ ghost use mathlib.Core.Path.{_≡_};
 ghost use lib.ListN.{length};
 ghost use Rattle.result.specs.Result as result;
 ghost use Rattle.choices.specs.Chosen.{rules};
-ghost use Rattle.placing.specs.Decision.{four};
+ghost use Rattle.placing.specs.Decision.{four, Shares};
 ghost use Rattle.writing.specs.Answer.{args, left, Bytes, Promised};
 ghost use Rattle.writing.specs.Finish.{Stands, Counts, Reported, Finished};
 
@@ -51,11 +51,12 @@ fn count_up(
     columns: &[u64],
     items: u64,
     n: u64,
+    shared: u64,
     metadata: u64,
     bytes: u64,
 ) -> Report
     requires { ⌜ Counts (now image) size (now columns) items n ⌝ }
-    ensures { λ r. ⌜ Reported (now (image .entry)) size (now (source .entry)) (now (columns .entry)) items n metadata bytes r ⌝ }
+    ensures { λ r. ⌜ Reported (now (image .entry)) size (now (source .entry)) (now (columns .entry)) items n shared metadata bytes r ⌝ }
 {
     let groups = source_groups(image, source, items);
     let times = time_columns(columns, n);
@@ -64,7 +65,7 @@ fn count_up(
         source_groups: groups,
         time_groups: times,
         signal_groups: n - times,
-        shared_time_groups: 0,
+        shared_time_groups: shared,
         data_blocks: blocks,
         metadata_size: metadata,
         file_size: bytes,
@@ -90,10 +91,12 @@ fn finish(
     pieces: u64,
     n: u64,
     omitted: u64,
+    shared: u64,
     numbers: Numbers,
 ) -> Converted
     requires { ⌜ Stands (args (now image) size (now ident) (now text) time (rules choices (now table))) items pieces n omitted numbers
-        (now source) (now fragments) (now columns) (now copies) ⌝ }
+        (now source) (now fragments) (now columns) (now copies)
+        × Shares (result.decided (args (now image) size (now ident) (now text) time (rules choices (now table)))) shared ⌝ }
     ensures { λ r. ⌜ Finished (args (now (image .entry)) size (now (ident .entry)) (now (text .entry)) time (rules choices (now (table .entry)))) (now (out .entry)) (now (list .entry))
         r (now (out .exit)) (now (list .exit)) ⌝ }
 {
@@ -138,6 +141,7 @@ fn finish(
         columns,
         items,
         n,
+        shared,
         numbers.metadata_end,
         bytes,
     );
@@ -177,6 +181,7 @@ pub fn convert(
             fragments: pieces,
             columns: n,
             omissions,
+            shared,
             numbers,
         } => {
             let answer = finish(
@@ -197,6 +202,7 @@ pub fn convert(
                 pieces,
                 n,
                 omissions,
+                shared,
                 numbers,
             );
             clear(source);

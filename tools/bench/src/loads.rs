@@ -36,8 +36,8 @@ impl Image {
     }
 }
 
-// A group: the bytes of each channel, whether the first is its master, whether each has an invalidation bit, the id of its records, and the
-// bytes of signal data of its last channel.
+// A group: the bytes of each channel, whether the first is its master, whether each has an invalidation bit, the id of its records, the
+// bytes of signal data of its last channel, and, where its master counts records, by how much it is off in the last one.
 #[derive(Clone, Default)]
 pub struct Group {
     pub widths: Vec<u32>,
@@ -45,6 +45,7 @@ pub struct Group {
     pub inval: bool,
     pub id: u64,
     pub signal: usize,
+    pub clock: Option<u64>,
 }
 
 impl Group {
@@ -113,6 +114,18 @@ pub fn mixed(groups: &[Group], order: &Order, cycles: u64, piece: usize) -> Vec<
     let (mut image, hd) = begun();
     let dg = image.data_group(groups, order, cycles, piece, &[]).0;
     image.link(hd, 0, dg);
+    image.0
+}
+
+// The same with each group in a DG of its own, without ids.
+pub fn apart(groups: &[Group], cycles: u64, piece: usize) -> Vec<u8> {
+    let (mut image, hd) = begun();
+    let mut last = None;
+    for g in groups {
+        let dg = image.data_group(std::slice::from_ref(g), &Order { id_size: 0, turn: vec![0] }, cycles, piece, &[]).0;
+        image.link(last.unwrap_or(hd), 0, dg);
+        last = Some(dg);
+    }
     image.0
 }
 
@@ -185,12 +198,18 @@ impl Image {
         }
         let mut rows = Vec::with_capacity((cycles as usize) * order.turn.iter().map(|&k| groups[k].record() + id_size).sum::<usize>());
         let mut state = 7;
-        for _ in 0..cycles {
+        let mut numbers = vec![0; groups.len()];
+        for cycle in 0..cycles {
             for &k in &order.turn {
                 rows.extend(&groups[k].id.to_le_bytes()[..id_size]);
                 let at = rows.len();
                 rows.resize(at + groups[k].record(), 0);
                 fill(&mut rows[at..], &mut state);
+                if let Some(off) = groups[k].clock {
+                    let time = numbers[k] + if cycle + 1 == cycles { off } else { 0u64 };
+                    rows[at..at + groups[k].widths[0] as usize].copy_from_slice(&time.to_le_bytes()[..groups[k].widths[0] as usize]);
+                }
+                numbers[k] += 1;
             }
         }
         let dl = self.listed(b"DT", &rows, piece);
@@ -213,6 +232,14 @@ pub fn shuffled(groups: usize, records: usize) -> Vec<usize> {
             ((state >> 33) as usize) % groups
         })
         .collect()
+}
+
+// As many records of each group in an order that looks random.
+pub fn dealt(groups: usize, each: usize) -> Vec<usize> {
+    let mut turn: Vec<usize> = (0..groups * each).map(|i| i % groups).collect();
+    let places = shuffled(usize::MAX >> 33, turn.len());
+    (1..turn.len()).for_each(|i| turn.swap(i, places[i] % (i + 1)));
+    turn
 }
 
 // Channels of one record that have a name, a unit, a comment and a conversion of their own each.

@@ -2,7 +2,7 @@
 //! bench read TURNS: times reading ranges of column files.
 mod loads;
 mod reading;
-use loads::{bus, by_turns, described, history, many_links, mixed, recording, shuffled, zero_links, Group, Order};
+use loads::{apart, bus, by_turns, dealt, described, history, many_links, mixed, recording, shuffled, zero_links, Group, Order};
 use mf4_rs::column::{to_column_oriented_bytes, to_column_oriented_with, ColumnOptions, ColumnSink};
 use mf4_rs::error::MdfError;
 use mf4_rs::index::ByteRangeReader;
@@ -23,6 +23,19 @@ extern "C" {
         source: *mut u64, source_len: usize, fragments: *mut u64, fragments_len: usize, columns: *mut u64, columns_len: usize,
         copies: *mut u64, copies_len: usize, out: *mut u8, out_len: usize, list: *mut u64, list_len: usize,
     ) -> Outcome;
+    fn sitaungo_convert_with(
+        image: *const u8, image_len: usize, size: u64, ident: *const u8, ident_len: usize, text: *const u8, text_len: usize, time: u64,
+        options: Options, types: *const u8, types_len: usize,
+        source: *mut u64, source_len: usize, fragments: *mut u64, fragments_len: usize, columns: *mut u64, columns_len: usize,
+        copies: *mut u64, copies_len: usize, out: *mut u8, out_len: usize, list: *mut u64, list_len: usize,
+    ) -> Outcome;
+}
+
+#[repr(C)]
+#[derive(Clone, Copy)]
+struct Options {
+    unit: u64,
+    share: bool,
 }
 
 // Of C: the processor time of this thread.
@@ -47,11 +60,12 @@ fn spent() -> f64 {
 
 const BLOCK: u64 = 4 << 20;
 
-// What is lent besides image and slices.
+// What is lent besides image and slices, and whether equal clocks become one.
 struct Lent {
     ident: Vec<u8>,
     text: Vec<u8>,
     time: u64,
+    share: bool,
 }
 
 fn word(s: &[u8], p: usize) -> u64 {
@@ -59,7 +73,7 @@ fn word(s: &[u8], p: usize) -> u64 {
 }
 
 // The identification, history text and time of a result: those of its last FH.
-fn lent_by(result: &[u8]) -> Lent {
+fn lent_by(result: &[u8], share: bool) -> Lent {
     let mut fh = word(result, 96) as usize;
     while word(result, fh + 24) != 0 {
         fh = word(result, fh + 24) as usize;
@@ -69,12 +83,22 @@ fn lent_by(result: &[u8]) -> Lent {
     while text.last() == Some(&0) {
         text.pop();
     }
-    Lent { ident: result[..64].to_vec(), text, time: word(result, fh + 40) }
+    Lent { ident: result[..64].to_vec(), text, time: word(result, fh + 40), share }
 }
 
 // The port, into a lent output.
 fn call(image: &[u8], lent: &Lent, work: &mut [Vec<u64>; 4], out: &mut [u8], list: &mut [u64]) -> Outcome {
     let [a, b, c, d] = work;
+    if lent.share {
+        return unsafe {
+            sitaungo_convert_with(
+                image.as_ptr(), image.len(), BLOCK, lent.ident.as_ptr(), 64, lent.text.as_ptr(), lent.text.len(), lent.time,
+                Options { unit: 8, share: true }, [].as_ptr(), 0,
+                a.as_mut_ptr(), a.len(), b.as_mut_ptr(), b.len(), c.as_mut_ptr(), c.len(), d.as_mut_ptr(), d.len(),
+                out.as_mut_ptr(), out.len(), list.as_mut_ptr(), list.len(),
+            )
+        };
+    }
     unsafe {
         sitaungo_convert(
             image.as_ptr(), image.len(), BLOCK, lent.ident.as_ptr(), 64, lent.text.as_ptr(), lent.text.len(), lent.time,
@@ -104,8 +128,8 @@ impl ColumnSink for Output<'_> {
     }
 }
 
-fn options() -> ColumnOptions {
-    ColumnOptions { block_size: BLOCK, share_identical_time: false, ..Default::default() }
+fn options(share: bool) -> ColumnOptions {
+    ColumnOptions { block_size: BLOCK, share_identical_time: share, ..Default::default() }
 }
 
 // Milliseconds of so many turns: best and median.
@@ -156,23 +180,26 @@ struct Timed {
     // with an output of new memory each time, the port's after a call for its size
     new_port: f64,
     new_rust: f64,
+    // groups that another stands for
+    shared: u64,
 }
 
-// All three in turn, on one image: outputs were written once before. The port is lent so many words more than it needs.
-fn time(image: &[u8], more: usize, turns: usize) -> Timed {
+// All three in turn, on one image: outputs were written once before. The port is lent so many words more than it needs. `share`: both with one
+// clock for equal groups.
+fn time(image: &[u8], more: usize, turns: usize, share: bool) -> Timed {
     let mut work = lend_work(more);
     let mut list = vec![0; 2049];
-    let (mut theirs, _) = to_column_oriented_bytes(image, &options()).unwrap();
-    let lent = lent_by(&theirs);
+    let (mut theirs, _) = to_column_oriented_bytes(image, &options(share)).unwrap();
+    let lent = lent_by(&theirs, share);
     let need = call(image, &lent, &mut work, &mut [], &mut list);
     assert_eq!((need.accepted, need.number, need.place), (false, 20, theirs.len() as u64));
     let mut ours = vec![1u8; theirs.len()];
     let mut copied = vec![1u8; image.len()];
-    assert!(call(image, &lent, &mut work, &mut ours, &mut list).accepted);
-    assert!(ours == theirs, "other bytes");
+    let made = call(image, &lent, &mut work, &mut ours, &mut list);
+    assert!(made.accepted && ours == theirs, "other bytes");
     let decided = times(turns, || assert_eq!(call(image, &lent, &mut work, &mut [], &mut list).number, 20));
     let port = times(turns, || assert!(call(image, &lent, &mut work, &mut ours, &mut list).accepted));
-    let rust = times(turns, || assert!(to_column_oriented_with(&mut Slice(image), &mut Output(&mut theirs), &options()).is_ok()));
+    let rust = times(turns, || assert!(to_column_oriented_with(&mut Slice(image), &mut Output(&mut theirs), &options(share)).is_ok()));
     let copy = times(turns, || copied.copy_from_slice(std::hint::black_box(image)));
     let mut least = lend_work(0);
     let new_port = times(turns, || {
@@ -181,14 +208,14 @@ fn time(image: &[u8], more: usize, turns: usize) -> Timed {
         let mut work = lend_work(more);
         assert!(call(image, &lent, &mut work, &mut out, &mut list).accepted);
     });
-    let new_rust = times(turns, || assert!(to_column_oriented_bytes(image, &options()).is_ok()));
-    Timed { decided, port, rust, copy, new_port: new_port.0, new_rust: new_rust.0 }
+    let new_rust = times(turns, || assert!(to_column_oriented_bytes(image, &options(share)).is_ok()));
+    Timed { decided, port, rust, copy, new_port: new_port.0, new_rust: new_rust.0, shared: made.counts[3] }
 }
 
 // The result of an image.
 fn convert(image: &[u8]) -> Vec<u8> {
     let mut work = lend_work(0);
-    let lent = Lent { ident: [&b"MDF     4.20    "[..], &[0; 48]].concat(), text: b"convert".to_vec(), time: 0 };
+    let lent = Lent { ident: [&b"MDF     4.20    "[..], &[0; 48]].concat(), text: b"convert".to_vec(), time: 0, share: false };
     let mut list = vec![0; 2049];
     let need = call(image, &lent, &mut work, &mut [], &mut list);
     assert_eq!(need.number, 20);
@@ -199,7 +226,7 @@ fn convert(image: &[u8]) -> Vec<u8> {
 
 // A line of the table; the ratio of the port's time to that at half the length, where there is one.
 fn line(name: &str, seconds: &str, image: &[u8], turns: usize, before: Option<f64>) -> f64 {
-    let t = time(image, shared_records(image), turns);
+    let t = time(image, shared_records(image), turns, false);
     let grown = before.map_or(String::new(), |b| format!("{:.2}", t.port.0 / b));
     println!(
         "| {name} | {seconds} | {:.1} | {:.1} | {:.1} | {:.1} | {:.1} | {:.1} | {:.1} | {:.2} | {:.2} | {grown} |",
@@ -210,11 +237,22 @@ fn line(name: &str, seconds: &str, image: &[u8], turns: usize, before: Option<f6
 
 // A line of the second table: what comes before the output too, of which counting is nearly all.
 fn framed_line(name: &str, image: &[u8], turns: usize) {
-    let t = time(image, shared_records(image), turns);
+    let t = time(image, shared_records(image), turns, false);
     println!(
         "| {name} | {:.1} | {:.1} | {:.1} | {:.1} | {:.1} | {:.1} | {:.2} | {:.2} |",
         image.len() as f64 / 1e6, t.decided.0, t.port.0, t.port.1, t.rust.0, t.rust.1, t.port.0 / t.rust.0, t.new_port / t.new_rust
     );
+}
+
+// A line of the fourth table: both with one clock for equal groups.
+fn clock_line(name: &str, image: &[u8], turns: usize, before: Option<f64>) -> f64 {
+    let t = time(image, shared_records(image), turns, true);
+    let grown = before.map_or(String::new(), |b| format!("{:.2}", t.port.0 / b));
+    println!(
+        "| {name} | {:.1} | {} | {:.1} | {:.1} | {:.1} | {:.1} | {:.1} | {:.2} | {grown} |",
+        image.len() as f64 / 1e6, t.shared, t.decided.0, t.port.0, t.port.1, t.rust.0, t.rust.1, t.port.0 / t.rust.0
+    );
+    t.port.0
 }
 
 // A DG of many groups with short records, as a bus logger's.
@@ -281,6 +319,24 @@ fn further() -> Vec<(&'static str, Load)> {
     ]
 }
 
+// Groups that count their records: equal clocks, and keys that are equal over times that differ in the last record; each so many times its length.
+fn clocks() -> Vec<(&'static str, Load)> {
+    fn equal() -> Vec<Group> {
+        ten().into_iter().map(|g| Group { clock: Some(0), ..g }).collect()
+    }
+    fn off(n: u64) -> Vec<Group> {
+        bus(n, 64, 1).into_iter().map(|g| Group { clock: Some(g.id), ..g }).collect()
+    }
+    vec![
+        ("10 equal groups of 30 channels, each in a DG of its own", |n| apart(&equal(), 60_000 * n, 4 << 20)),
+        ("10 equal groups of 30 channels in one DG", |n| recording(&equal(), 60_000 * n, 4 << 20)),
+        ("10 equal groups of 30 channels in one DG, in random order", |n| {
+            mixed(&equal(), &Order { id_size: 1, turn: dealt(10, 60_000 * n as usize) }, 1, 4 << 20)
+        }),
+        ("512 groups of one channel, times that differ in the last record, each in a DG of its own", |n| apart(&off(512), 2_000 * n, 4 << 20)),
+    ]
+}
+
 // Those of all these loads whose records of a group are at no equal distances.
 fn irregular() -> Vec<(&'static str, Vec<u8>)> {
     let is = |name: &str| name.contains("random") || name.contains("rates 100");
@@ -329,10 +385,17 @@ fn main() {
     println!("| load, with no more words than are needed | MB | port best | median | Rust best | median | port / Rust |");
     println!("|---|---|---|---|---|---|---|");
     for (name, image) in irregular().iter().filter(|l| l.0.contains(&only)) {
-        let t = time(image, 0, turns.min(3));
+        let t = time(image, 0, turns.min(3), false);
         println!(
             "| {name} | {:.1} | {:.1} | {:.1} | {:.1} | {:.1} | {:.2} |",
             image.len() as f64 / 1e6, t.port.0, t.port.1, t.rust.0, t.rust.1, t.port.0 / t.rust.0
         );
+    }
+    println!();
+    println!("| load, with one clock for equal groups | MB | shared groups | port before output | port best | median | Rust best | median | port / Rust | twice the length |");
+    println!("|---|---|---|---|---|---|---|---|---|---|");
+    for (name, make) in clocks().iter().filter(|l| l.0.contains(&only)) {
+        let once = clock_line(name, &make(1), turns, None);
+        clock_line(name, &make(2), turns, Some(once));
     }
 }

@@ -18,6 +18,14 @@ impl Case {
         Case { sound, edits, size: random.pick(&SIZES) }
     }
 
+    /// The same with groups that share clocks on purpose.
+    pub fn clocks(seed: u64, k: u64) -> Case {
+        let mut random = Random::of(seed ^ 0x636c_6f63_6b73, k);
+        let sound = generate::clocks(&mut random);
+        let edits = edit::some(&sound, &mut random);
+        Case { sound, edits, size: random.pick(&SIZES) }
+    }
+
     pub fn bytes(&self) -> Vec<u8> {
         edited(&self.sound.bytes, &self.edits)
     }

@@ -1,6 +1,7 @@
 //! Both converters over one image, and what their answers say about each other.
-use crate::port_side::{self, Call, Lent, Port};
+use crate::port_side::{self, Call, Choices, Lent, Port};
 use crate::rust_side::{self, Converted, Place, Rust, Told};
+use crate::share::listed::units as listed_units;
 use crate::{listed, omissions, walk};
 
 /// Output lent where the Rust gives no result; a port that asks for more is asked again with as much.
@@ -31,6 +32,8 @@ pub enum Verdict {
     RustEnded(&'static str),
     /// Only the Rust accepts, as docs/DIFFERENCES.md lists.
     OnlyRust(&'static str),
+    /// With one clock for many groups: units that are decoded alike over other bytes or kinds, as docs/DIFFERENCES.md lists.
+    OtherUnits(&'static str),
     Disagreement(String),
 }
 
@@ -39,18 +42,32 @@ impl Pair {
         Pair { rust: Rust::new(), port: Port::new() }
     }
 
-    /// `slack`: how many bytes and words the slices have beyond what is needed.
+    /// Without a choice. `slack`: how many bytes and words the slices have beyond what is needed.
     pub fn run(&mut self, image: &[u8], size: u64, slack: usize) -> Finding {
-        let rust = self.rust.convert(image, size);
+        self.both(image, size, slack, false)
+    }
+
+    /// Both with the choice of one clock for many groups.
+    pub fn run_sharing(&mut self, image: &[u8], size: u64, slack: usize) -> Finding {
+        self.both(image, size, slack, true)
+    }
+
+    fn both(&mut self, image: &[u8], size: u64, slack: usize, share: bool) -> Finding {
+        let rust = self.rust.convert(image, size, share);
         let (lent, out) = match &rust {
             rust_side::Answer::Converted(c) => (Lent::of(&c.bytes), c.bytes.len() + slack),
             _ => (Lent::fitting(), OUT),
         };
-        let mut call = Call::new(image, size, lent, out);
+        let mut call = Call { choices: Choices::share(true).filter(|_| share), ..Call::new(image, size, lent, out) };
         call.work[slack % 4] += slack % 3;
         call.work[1] += [0, 500, 20_000][image.len() % 3];
         let port = self.convert(&mut call);
-        let verdict = verdict(image, &rust, port.as_ref());
+        let verdict = match (verdict(image, &rust, port.as_ref()), &port) {
+            (Verdict::Disagreement(why), Some(p)) if share && p.faults.is_empty() => {
+                listed_units(image, &rust, p).map_or(Verdict::Disagreement(why), Verdict::OtherUnits)
+            }
+            (verdict, _) => verdict,
+        };
         Finding { rust, port, verdict }
     }
 

@@ -2,12 +2,14 @@
 //!
 //! differ RUNS SEED: images made from a seed; the tables of docs/COMPARED.md, and each disagreement; the first one is shrunk and saved.
 //! differ image SEED K FILE: image K of a seed, written to a file.
-//! differ one FILE SIZE: one image with one block size.
+//! differ one FILE SIZE [share]: one image with one block size, without a choice or with one clock for many groups.
 //! differ answers FILE: the list of answers for crates/answers.
 //! differ files RUNS SEED: the reader of column files beside a plain one.
 //! differ plots RUNS SEED: tables of ranges beside single reads and the plain reader.
 //! differ units RUNS SEED: the images of a seed with a unit each.
 //! differ types RUNS SEED: the images of a seed with a table of treatments each, beside a model of planning.
+//! differ share RUNS SEED: images whose groups share clocks, with that choice, beside the Rust and a model.
+//! differ clocks SEED K FILE: image K of these, written to a file.
 mod alone;
 mod answers;
 mod blocks;
@@ -18,11 +20,13 @@ mod edit;
 mod files;
 mod generate;
 mod listed;
+mod model;
 mod omissions;
 mod port_side;
 mod random;
 mod result;
 mod rust_side;
+mod share;
 mod shrink;
 mod tally;
 mod types;
@@ -48,7 +52,10 @@ fn main() -> ExitCode {
         ["rust"] => rust_side::run(),
         ["port"] => port_side::run(),
         ["image", seed, k, file] => std::fs::write(file, Case::of(number(seed), number(k)).bytes()).unwrap(),
+        ["clocks", seed, k, file] => std::fs::write(file, Case::clocks(number(seed), number(k)).bytes()).unwrap(),
         ["one", file, size] => return one(file, number(size)),
+        ["one", file, size, "share"] => return status(share::one(&std::fs::read(file).unwrap(), number(size))),
+        ["share", runs, seed] => return status(share::compared(number(runs), number(seed))),
         ["answers", file] => return status(answers::write(file)),
         ["files", runs, seed] => return status(files::compared(number(runs), number(seed))),
         ["plots", runs, seed] => return status(files::plots::compared(number(runs), number(seed))),
@@ -56,7 +63,7 @@ fn main() -> ExitCode {
         ["types", runs, seed] => return status(types::compared(number(runs), number(seed))),
         [runs, seed] => return compared(number(runs), number(seed)),
         _ => {
-            eprintln!("differ RUNS SEED | image SEED K FILE | one FILE SIZE | answers FILE | (files | plots | units | types) RUNS SEED");
+            eprintln!("differ RUNS SEED | (image | clocks) SEED K FILE | one FILE SIZE [share] | answers FILE | (files | plots | units | types | share) RUNS SEED");
             return ExitCode::from(2);
         }
     }
@@ -145,7 +152,9 @@ impl Run {
         let port = finding.port.as_ref().map(|p| p.refused);
         println!("image {k} of seed {}, block size {}: {why}; port {port:?}", self.seed, case.size);
         if self.tally.disagreements == 1 {
-            let small = shrink::shrink(&mut self.pair, case, slack, why);
+            let pair = &mut self.pair;
+            let stays = |bytes: &[u8]| matches!(pair.run(bytes, case.size, slack).verdict, Verdict::Disagreement(w) if shrink::alike(&w, why));
+            let small = shrink::shrink(case, stays);
             let file = format!("{FOUND}/disagreement-{}-{k}-block-size-{}", self.seed, case.size);
             println!("shrunk to {} bytes: {file}", small.len());
             std::fs::write(file, small).unwrap();
@@ -156,6 +165,11 @@ impl Run {
 fn one(file: &str, size: u64) -> ExitCode {
     let image = std::fs::read(file).unwrap();
     let finding = Pair::new().run(&image, size, 0);
+    print_finding(&finding);
+    status(!matches!(finding.verdict, Verdict::Disagreement(_)))
+}
+
+fn print_finding(finding: &Finding) {
     match &finding.rust {
         rust_side::Answer::Converted(c) => println!("Rust: {} bytes, counts {:?}, {:?}", c.bytes.len(), c.counts, c.skipped),
         rust_side::Answer::Refused(told) => println!("Rust: {told:?}"),
@@ -165,5 +179,4 @@ fn one(file: &str, size: u64) -> ExitCode {
         println!("port: refused {:?}, counts {:?}, omissions {:?}", p.refused, p.counts, p.omissions);
     }
     println!("{:?}", finding.verdict);
-    status(!matches!(finding.verdict, Verdict::Disagreement(_)))
 }

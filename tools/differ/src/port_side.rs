@@ -29,6 +29,7 @@ struct Outcome {
 #[derive(Clone, Copy)]
 struct Options {
     unit: u64,
+    share: bool,
 }
 
 #[rustfmt::skip]
@@ -89,15 +90,26 @@ pub struct Choices {
     pub unit: u64,
     /// The table of treatments.
     pub types: Vec<u8>,
+    /// Whether groups with equal times get one time column.
+    pub share: bool,
 }
 
 impl Choices {
+    /// What the call that chooses nothing stands for.
+    pub fn none() -> Choices {
+        Choices { unit: 8, types: Vec::new(), share: false }
+    }
+
+    pub fn share(share: bool) -> Option<Choices> {
+        Some(Choices { share, ..Choices::none() })
+    }
+
     pub fn unit(unit: u64) -> Option<Choices> {
-        Some(Choices { unit, types: Vec::new() })
+        Some(Choices { unit, ..Choices::none() })
     }
 
     pub fn types(types: &[u8]) -> Option<Choices> {
-        Some(Choices { unit: 8, types: types.to_vec() })
+        Some(Choices { types: types.to_vec(), ..Choices::none() })
     }
 }
 
@@ -161,12 +173,12 @@ impl Port {
 }
 
 fn packed(call: &Call, lists: bool) -> Vec<u8> {
-    let none = Choices { unit: 8, types: Vec::new() };
+    let none = Choices::none();
     let choices = call.choices.as_ref().unwrap_or(&none);
     let mut p = Pack::default();
     p.bytes(call.image);
     p.words(&[call.image_len as u64, call.size, call.lent.time, call.out as u64, call.list as u64]);
-    p.words(&[lists as u64, call.choices.is_some() as u64, choices.unit]);
+    p.words(&[lists as u64, call.choices.is_some() as u64, choices.unit, choices.share as u64]);
     p.words(&call.work.map(|n| n as u64));
     p.bytes(&choices.types);
     p.bytes(&call.lent.ident);
@@ -214,7 +226,7 @@ struct Request<'a> {
     image: &'a [u8],
     size: u64,
     chooses: bool,
-    unit: u64,
+    options: Options,
     types: &'a [u8],
     time: u64,
     out: usize,
@@ -229,11 +241,12 @@ impl Slices {
         let mut u = Unpack(request);
         let bytes = u.bytes();
         let [image_len, size, time, out, list] = u.words();
-        let [lists, chooses, unit] = u.words();
+        let [lists, chooses, unit, share] = u.words();
         let work = u.words().map(|n| n as usize);
         let longer = lengthened(bytes, image_len as usize);
         let (image, out, list, chooses) = (longer.as_deref().unwrap_or(bytes), out as usize, list as usize, chooses == 1);
-        let r = Request { image, size, chooses, unit, types: u.bytes(), time, out, list, work, ident: u.bytes(), text: u.bytes() };
+        let options = Options { unit, share: share == 1 };
+        let r = Request { image, size, chooses, options, types: u.bytes(), time, out, list, work, ident: u.bytes(), text: u.bytes() };
         self.prepare(&r);
         if lists == 1 {
             return self.list(&r);
@@ -275,7 +288,7 @@ impl Slices {
             if r.chooses {
                 sitaungo_convert_with(
                     r.image.as_ptr(), r.image.len(), r.size, r.ident.as_ptr(), r.ident.len(), r.text.as_ptr(), r.text.len(), r.time,
-                    Options { unit: r.unit }, r.types.as_ptr(), r.types.len(),
+                    r.options, r.types.as_ptr(), r.types.len(),
                     a.as_mut_ptr(), r.work[0], b.as_mut_ptr(), r.work[1], c.as_mut_ptr(), r.work[2], d.as_mut_ptr(), r.work[3],
                     self.out.as_mut_ptr(), r.out, self.list.as_mut_ptr(), r.list,
                 )
@@ -299,7 +312,7 @@ impl Slices {
         let n = unsafe {
             sitaungo_list_with(
                 r.image.as_ptr(), r.image.len(), r.size, r.ident.as_ptr(), r.ident.len(), r.text.as_ptr(), r.text.len(),
-                Options { unit: r.unit }, r.types.as_ptr(), r.types.len(), r.out as u64, r.list as u64,
+                r.options, r.types.as_ptr(), r.types.len(), r.out as u64, r.list as u64,
                 a.as_mut_ptr(), r.work[0], b.as_mut_ptr(), r.work[1], c.as_mut_ptr(), r.work[2], d.as_mut_ptr(), r.work[3],
                 self.lines.as_mut_ptr(), LINES,
             )

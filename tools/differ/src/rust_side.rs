@@ -66,9 +66,10 @@ impl Rust {
         Rust(Child::new("rust"))
     }
 
-    pub fn convert(&mut self, image: &[u8], size: u64) -> Answer {
+    /// `share`: whether groups with equal times get one time column.
+    pub fn convert(&mut self, image: &[u8], size: u64, share: bool) -> Answer {
         let mut request = Pack::default();
-        request.word(size);
+        request.words(&[size, share as u64]);
         request.bytes(image);
         self.0.ask(&request.0).map_or(Answer::Ended, |a| unpack(&a))
     }
@@ -78,9 +79,9 @@ impl Rust {
 pub fn run() {
     serve(MEMORY, |request| {
         let mut request = Unpack(request);
-        let size = request.word();
+        let [size, share] = request.words();
         let image = request.bytes();
-        let options = ColumnOptions { block_size: size, share_identical_time: false, ..Default::default() };
+        let options = ColumnOptions { block_size: size, share_identical_time: share == 1, ..Default::default() };
         pack(std::panic::catch_unwind(|| to_column_oriented_bytes(image, &options)).ok())
     })
     .ok();

@@ -1,11 +1,9 @@
 //! A small image that still shows a disagreement.
 use crate::blocks::{link_count, put_word, word};
 use crate::case::{edited, Case};
-use crate::compare::{Pair, Verdict};
 
 /// Fewer edits, then a shorter image, ranges of zeros, and blocks moved over these, as long as the disagreement stays.
-pub fn shrink(pair: &mut Pair, case: &Case, slack: usize, why: &str) -> Vec<u8> {
-    let mut stays = |bytes: &[u8]| matches!(pair.run(bytes, case.size, slack).verdict, Verdict::Disagreement(w) if alike(&w, why));
+pub fn shrink(case: &Case, mut stays: impl FnMut(&[u8]) -> bool) -> Vec<u8> {
     let mut edits = case.edits.clone();
     let mut i = 0;
     while i < edits.len() {
@@ -30,7 +28,7 @@ pub fn shrink(pair: &mut Pair, case: &Case, slack: usize, why: &str) -> Vec<u8> 
 }
 
 /// The same disagreement up to the Rust's own words.
-fn alike(a: &str, b: &str) -> bool {
+pub fn alike(a: &str, b: &str) -> bool {
     a.split(':').next() == b.split(':').next()
 }
 

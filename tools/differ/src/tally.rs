@@ -23,6 +23,7 @@ pub struct Tally {
     refused: u64,
     only_rust: BTreeMap<(u64, &'static str), u64>,
     other: BTreeMap<(&'static str, &'static str), u64>,
+    units: BTreeMap<&'static str, u64>,
     by_number: BTreeMap<u64, Refusals>,
     reasons: BTreeMap<u64, u64>,
     several_addresses: u64,
@@ -47,6 +48,7 @@ impl Tally {
                 self.refused += 1;
                 case.sound.marks.iter().for_each(|m| self.held.entry(m.clone()).or_default().1 += 1);
             }
+            Verdict::OtherUnits(why) => *self.units.entry(why).or_default() += 1,
             Verdict::OnlyRust(_) => {}
             Verdict::Disagreement(_) => self.disagreements += 1,
         }
@@ -154,6 +156,9 @@ impl Tally {
         for ((what, why), n) in &self.other {
             writeln!(f, "| {what}: {why} | {} |", grouped(*n))?;
         }
+        for (why, n) in &self.units {
+            writeln!(f, "| {why} | {} |", grouped(*n))?;
+        }
         writeln!(f)
     }
 
@@ -167,6 +172,9 @@ impl Tally {
     }
 
     fn tried_alone(&self, f: &mut Formatter) -> Result {
+        if self.alone.is_empty() {
+            return Ok(());
+        }
         writeln!(f, "| Refusal by the port alone | tried |\n|---:|---:|")?;
         for (number, n) in &self.alone {
             writeln!(f, "| {number} | {} |", grouped(*n))?;

@@ -10,7 +10,7 @@ use crate::result::{columns, end_of, Column, Shown};
 use crate::rust_side::{self, Converted};
 use std::collections::BTreeMap;
 
-const UNITS: [u64; 10] = [8, 16, 32, 64, 128, 256, 512, 1024, 2048, 4096];
+pub const UNITS: [u64; 10] = [8, 16, 32, 64, 128, 256, 512, 1024, 2048, 4096];
 const BAD: [u64; 14] = [0, 1, 2, 4, 7, 9, 12, 24, 4088, 4095, 8192, 1 << 32, 1 << 63, u64::MAX];
 const ALL: u64 = 20;
 
@@ -152,7 +152,7 @@ fn refuses(port: &mut Port, call: &Call, due: Option<(u64, u64)>) -> Result<(), 
 }
 
 /// Report but for the size, omissions, payloads and signal data by links, starts, gaps.
-fn held(image: &[u8], c: &Converted, answer: &Answer, unit: u64) -> Result<(), String> {
+pub fn held(image: &[u8], c: &Converted, answer: &Answer, unit: u64) -> Result<(), String> {
     if answer.refused.is_some() || !answer.faults.is_empty() {
         return Err(format!("refused {:?}, {:?}", answer.refused, answer.faults));
     }
@@ -201,7 +201,7 @@ fn put_link(file: &mut [u8], block: usize, i: usize, to: usize) {
 }
 
 /// The Rust's result with its data blocks, SD and attachments where a unit has them; all links to them with them.
-fn moved(file: &[u8], metadata: usize, unit: usize) -> Vec<u8> {
+pub fn moved(file: &[u8], metadata: usize, unit: usize) -> Vec<u8> {
     let mut out = file[..metadata].to_vec();
     for c in columns(file) {
         if let Some(&first) = c.blocks.first() {

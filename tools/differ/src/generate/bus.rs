@@ -48,7 +48,7 @@ impl Maker<'_> {
         let samples = self.random.pick(&[0, 1, 1, 2, 4, 8, 9]);
         let inval = self.random.percent(10) as usize;
         let storage = self.random.percent(5);
-        Group { samples, inval, storage, records: self.random.below(records + 1), id }
+        Group { samples, inval, storage, records: self.random.below(records + 1), id, clock: None }
     }
 
     /// A CG with one channel, or none.

@@ -1,6 +1,7 @@
 //! Records, their fragments, and the chains that list these.
 use super::Maker;
 use crate::blocks::{Id, Kind, Link};
+use std::collections::HashMap;
 
 /// A channel group's record, and how many records it gets.
 pub struct Group {
@@ -9,6 +10,32 @@ pub struct Group {
     pub storage: bool,
     pub records: usize,
     pub id: u64,
+    /// What its master holds, where that isn't left to chance.
+    pub clock: Option<Clock>,
+}
+
+/// A master's bytes in each record, and its invalidation bit.
+#[derive(Clone)]
+pub struct Clock {
+    pub byte: usize,
+    pub cells: Vec<Vec<u8>>,
+    /// Its byte after the samples, its mask, and in which records it is set.
+    pub bit: Option<(usize, u8, Vec<bool>)>,
+}
+
+impl Group {
+    /// Lays its clock over record i, without the id; a DV has no invalidation bytes.
+    fn lay(&self, i: usize, record: &mut [u8]) {
+        let Some(clock) = &self.clock else { return };
+        if let Some(cell) = clock.cells.get(i) {
+            record[clock.byte..][..cell.len()].copy_from_slice(cell);
+        }
+        if let Some((byte, mask, set)) = &clock.bit {
+            if let Some(b) = record.get_mut(self.samples + byte) {
+                *b = *b & !mask | if set.get(i).copied().unwrap_or(false) { *mask } else { 0 };
+            }
+        }
+    }
 }
 
 /// Records of one kind of block, one after the other, and where each ends.
@@ -37,7 +64,7 @@ impl Maker<'_> {
             [one] => self.records_of_one(ids, one),
             _ => vec![self.records_of_several(ids, groups)],
         };
-        if self.random.percent(2) {
+        if self.random.percent(self.parts) {
             self.part_record(&mut runs);
         }
         let dv = matches!(groups, [one] if one.inval == 0);
@@ -59,14 +86,19 @@ impl Maker<'_> {
             1 => self.draft.mark("DT"),
             _ => self.draft.mark("DT and DV in one chain"),
         }
-        let mut left = g.records;
+        let (mut left, mut laid) = (g.records, 0);
         let mut runs = Vec::new();
         for (i, &kind) in kinds.iter().enumerate() {
             let n = if i + 1 == kinds.len() { left } else { self.random.below(left + 1) };
             left -= n;
             let size = g.samples + if kind == *b"DV" { 0 } else { ids + g.inval };
             let mut run = Run::new(kind);
-            (0..n).for_each(|_| run.push(&self.random.bytes(size)));
+            for i in 0..n {
+                let mut record = self.random.bytes(size);
+                g.lay(laid + i, &mut record[if kind == *b"DV" { 0 } else { ids }..]);
+                run.push(&record);
+            }
+            laid += n;
             runs.push(run);
         }
         runs
@@ -77,8 +109,10 @@ impl Maker<'_> {
         let fits = |g: &&Group| ids == 8 || g.id < 1 << (8 * ids);
         let mut turns: Vec<&Group> = groups.iter().filter(fits).flat_map(|g| std::iter::repeat(g).take(g.records.min(20))).collect();
         self.random.shuffle(&mut turns);
-        let mut run = Run::new(*b"DT");
+        let (mut run, mut laid) = (Run::new(*b"DT"), HashMap::new());
         for g in turns {
+            let i = laid.entry(g.id).or_insert(0);
+            *i += 1;
             let mut record = g.id.to_le_bytes()[..ids].to_vec();
             if g.storage {
                 let n = self.random.below(10);
@@ -86,6 +120,7 @@ impl Maker<'_> {
                 record.extend(self.random.bytes(n));
             } else {
                 record.extend(self.random.bytes(g.samples + g.inval));
+                g.lay(*i - 1, &mut record[ids..]);
             }
             run.push(&record);
         }

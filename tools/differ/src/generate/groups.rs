@@ -36,7 +36,7 @@ impl Maker<'_> {
     }
 
     /// Group i of n: its record's parts and how many records it gets.
-    fn shape(&mut self, i: usize, n: usize, ids: usize) -> Group {
+    pub fn shape(&mut self, i: usize, n: usize, ids: usize) -> Group {
         let samples = match self.random.below(20) {
             0 => 0,
             1..=3 => self.random.range(17, 40),
@@ -56,11 +56,11 @@ impl Maker<'_> {
         if storage {
             self.draft.mark("VLSD storage group");
         }
-        Group { samples, inval, storage, records, id: self.record_id(i, ids) }
+        Group { samples, inval, storage, records, id: self.record_id(i, ids), clock: None }
     }
 
     /// Ids apart from each other; now and then one that no record can hold.
-    fn record_id(&mut self, i: usize, ids: usize) -> u64 {
+    pub fn record_id(&mut self, i: usize, ids: usize) -> u64 {
         let low = 1 + i as u64 + 8 * self.random.below(6) as u64 * (i as u64);
         let high = if ids > 1 && self.random.percent(30) { 1 << (8 * ids - 3) } else { 0 };
         let past = if ids < 8 && self.random.percent(3) { 1 << (8 * ids) } else { 0 };
@@ -68,6 +68,15 @@ impl Maker<'_> {
     }
 
     fn channel_group(&mut self, g: &Group) -> Id {
+        let cg = self.group_block(g);
+        let n = if g.storage { self.random.below(2) } else { self.random.pick(&[0, 1, 1, 2, 2, 3, 3, 4, 5]) };
+        let channels: Vec<Id> = (0..n).map(|i| self.channel(i, g)).collect();
+        self.chain_from(cg, 1, &channels);
+        cg
+    }
+
+    /// A CG without channels.
+    pub fn group_block(&mut self, g: &Group) -> Id {
         let cg = self.draft.add(*b"CG", vec![None; 6], vec![]);
         self.groups.push(cg);
         let flags = self.random.pick(&[0, 0, 0, 2, 4, 6, 0x10, 0xff06]) | g.storage as u16;
@@ -83,13 +92,10 @@ impl Maker<'_> {
         self.draft.blocks[cg].data = data;
         let links = [None, None, self.name('g'), self.metadata(20), None, self.metadata(20)];
         self.draft.blocks[cg].links[..6].copy_from_slice(&links);
-        let n = if g.storage { self.random.below(2) } else { self.random.pick(&[0, 1, 1, 2, 2, 3, 3, 4, 5]) };
-        let channels: Vec<Id> = (0..n).map(|i| self.channel(i, g)).collect();
-        self.chain_from(cg, 1, &channels);
         cg
     }
 
-    fn channel(&mut self, i: usize, g: &Group) -> Id {
+    pub fn channel(&mut self, i: usize, g: &Group) -> Id {
         let kind = match self.random.below(100) {
             0..=39 if i == 0 => 2,
             40..=52 if i == 0 => 3,
@@ -145,7 +151,7 @@ impl Maker<'_> {
     }
 
     /// What stands below a channel: mostly nothing, or an array, a structure, or a kind without a meaning there.
-    fn composition(&mut self) -> Link {
+    pub fn composition(&mut self) -> Link {
         match self.random.below(100) {
             0..=3 => Some(self.draft.add(*b"CA", vec![None], vec![0; 16])),
             4..=7 => {

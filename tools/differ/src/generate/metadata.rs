@@ -76,7 +76,7 @@ impl Maker<'_> {
         self.share(id)
     }
 
-    fn conversion(&mut self, depth: usize) -> Id {
+    pub fn conversion(&mut self, depth: usize) -> Id {
         let n = self.random.range(4, 7);
         let links: Vec<Link> = (0..n).map(|_| self.some_below(depth, 35)).collect();
         if links.iter().flatten().any(|&id| self.draft.blocks[id].kind == *b"CC") {

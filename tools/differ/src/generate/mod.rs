@@ -1,5 +1,6 @@
 //! Whole recordings made from random numbers: mostly sound, and now and then with one of the faults that only the whole can have.
 mod bus;
+mod clocks;
 mod data;
 mod groups;
 mod limits;
@@ -31,6 +32,12 @@ pub fn image(random: &mut Random) -> Image {
     draft.place_anyhow(&mut own)
 }
 
+/// An image whose groups share clocks on purpose, before it is damaged.
+pub fn clocks(random: &mut Random) -> Image {
+    let draft = Maker::new(random).clocks();
+    draft.place_anyhow(random)
+}
+
 /// Some images of at least so many bytes give way to recordings of many groups.
 const LONG: usize = 7_000;
 
@@ -46,12 +53,14 @@ pub struct Maker<'a> {
     usual: usize,
     /// Number of the last name given.
     named: usize,
+    /// How often of a hundred a DG's data ends in a part record.
+    parts: usize,
 }
 
 impl<'a> Maker<'a> {
     fn new(random: &'a mut Random) -> Maker<'a> {
         let usual = random.pick(&[0, 1, 3, 5, 8, 9, 20]);
-        Maker { random, draft: Draft::new(), shared: Vec::new(), groups: Vec::new(), usual, named: 0 }
+        Maker { random, draft: Draft::new(), shared: Vec::new(), groups: Vec::new(), usual, named: 0, parts: 2 }
     }
 
     fn recording(mut self) -> Draft {

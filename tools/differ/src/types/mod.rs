@@ -2,19 +2,18 @@
 //! Rust; with an empty table, which changes nothing; and with a random one, held to a model of planning and to the Rust's result of the recording that
 //! stands for it by what is built in. Every `ALL`th is tried with more tables, some of them wrong.
 mod aim;
-mod model;
-mod tables;
+pub mod tables;
 mod tally;
 mod treated;
 
 use crate::case::Case;
 use crate::compare::{Finding, Pair, Verdict};
+use crate::model::{joined, plan, Plan, Refusal, Treatments, BUILT_IN};
 use crate::port_side::{Answer, Call, Choices, Lent, Port, WORK};
 use crate::random::Random;
 use crate::result::{columns, Column};
 use crate::rust_side::{self, Converted};
 use crate::FOUND;
-use model::{joined, plan, Plan, Refusal, Treatments, BUILT_IN};
 use tally::{Stage, Tally};
 
 const ALL: u64 = 20;
@@ -90,7 +89,7 @@ impl Run {
             self.tally.overlapping += 1;
             return Ok(());
         };
-        let usual = if reading.is_none() { plan(image, &BUILT_IN) } else { Ok(Plan::default()) };
+        let usual = if reading.is_none() { plan(image, &BUILT_IN, &[]) } else { Ok(Plan::default()) };
         let s = Subject { image, size, found: &found, reading, usual };
         empty_table(&mut pair.port, &s)?;
         usual_plan(&s)?;
@@ -110,7 +109,7 @@ impl Run {
         let Some(treatments) = Treatments::of(table) else { return self.wrong(&mut pair.port, s, table) };
         let due = match s.reading {
             Some(refusal) => Err((Stage::Reading, refusal)),
-            None => plan(s.image, &treatments).map_err(|refusal| (Stage::Planning, refusal)),
+            None => plan(s.image, &treatments, &[]).map_err(|refusal| (Stage::Planning, refusal)),
         };
         match due {
             Ok(plan) => self.planned(pair, s, table, &treatments, &plan, listed),
@@ -161,7 +160,7 @@ impl Run {
         work[table.len() % 4] -= 1;
         refuses(port, &call, (27, 0))?;
         self.lists(port, &call, "refused 27 place 0\n")?;
-        refuses(port, &Call { choices: Some(Choices { unit: 12, types: table.to_vec() }), ..call.clone() }, (26, 0))?;
+        refuses(port, &Call { choices: Some(Choices { unit: 12, types: table.to_vec(), share: false }), ..call.clone() }, (26, 0))?;
         refuses(port, &Call { size: 0, ..call.clone() }, (2, 0))?;
         refuses(port, &Call { work, ..call.clone() }, (1, 0))?;
         self.tally.wrong += 1;
@@ -286,7 +285,7 @@ fn with_kept_types(file: &[u8], plan: &Plan) -> Vec<u8> {
     file
 }
 
-fn listing(answer: &Answer) -> String {
+pub fn listing(answer: &Answer) -> String {
     let (file, all) = (&answer.bytes, columns(&answer.bytes));
     let mut lines = vec![format!("columns {}", all.len())];
     lines.extend(all.iter().enumerate().map(|(i, c)| format!("{i} {}", c.line(file, &all))));

@@ -1,6 +1,6 @@
 //! What was met with tables of treatments, for docs/COMPARED.md.
-use super::model::{Column, Plan};
 use crate::blocks::data_field;
+use crate::model::{Column, Plan};
 use crate::tally::grouped;
 use std::collections::BTreeMap;
 

@@ -1,7 +1,7 @@
 //! Recordings that are converted by what is built in as another one is by a table, so that the Rust can be asked: the types of its channels are changed
 //! in place. A type 4 that is kept becomes 7, a type that is stored as 0 becomes 0, one that is omitted becomes 4, whose links aren't read.
-use super::model::{Treatment, Treatments};
 use crate::blocks::{data_field, link_count, put_word, word};
+use crate::model::{Treatment, Treatments};
 use crate::walk::data_groups;
 
 /// A type over 6, which is always kept.

@@ -1,7 +1,7 @@
 -- 1 of each kind, or what the rest decides.
 use mathlib.Core.List.{[]}
 use Rattle.plan.specs.Rules.{builtIn}
-use Rattle.placing.specs.DecisionLaws.{short-first, short-second, short-third, short-fourth, work-fine, short-work, lent-refused, text-fits, rest-refused, rest-decided, rests-refused, cleared, decides-some}
+use Rattle.placing.specs.DecisionLaws.{short-first, short-second, short-third, short-fourth, work-fine, short-work, lent-refused, text-fits, rest-refused, rest-decided, rests-refused, cleared, decided-is, decides-some}
 use native.Mathlib.Omega.{arith}
 use borrow.Author.Needs.{needs}
 use Rattle.placing.proofs.decide.decide.Statement.{statement}
@@ -157,6 +157,13 @@ returns-7 c =
         (c .before .before .before .before .before .before .before .before .before .before .before .before .before .before .before .before .before .before .before .if3 .left)
         (c .before .before .before .before .before .before .before .before .before .before .before .before .before .before .before .before .before .before .if4 .left)
         t)
+    (decided-is _ _ _ _ _ _ (work-fine (a .source .now) (a .fragments .now) (a .columns .now) (a .copies .now)
+        (c .before .before .before .before .before .before .before .before .before .before .before .before .before .before .before .before .before .before .before .before .before .if1 .left)
+        (c .before .before .before .before .before .before .before .before .before .before .before .before .before .before .before .before .before .before .before .before .if2 .left)
+        (c .before .before .before .before .before .before .before .before .before .before .before .before .before .before .before .before .before .before .before .if3 .left)
+        (c .before .before .before .before .before .before .before .before .before .before .before .before .before .before .before .before .before .before .if4 .left))
+        _ (c .before .before .before .before .before .before .before .before .before .before .before .before .before .before .before .before .before .lent-in .ensures)
+        (c .before .before .before .before .before .before .before .before .before .before .before .before .before .before .before .enum-told .given .1))
 
 pub decide-spec : {M : Type 1} → statement M
 decide-spec =

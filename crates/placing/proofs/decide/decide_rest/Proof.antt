@@ -1,5 +1,5 @@
 -- 2, 3, planning, layout.
-use Rattle.placing.specs.DecisionLaws.{chosen-refused, chosen-fine, rest-unchosen, plans-done, plans-refused, lays-few, lays-within, laid-plan, rest-empty, rest-large, rest-unplanned, rest-unlaid, unlaid, rest-in}
+use Rattle.placing.specs.DecisionLaws.{chosen-refused, chosen-fine, rest-unchosen, plans-done, plans-refused, lays-few, lays-within, laid-plan, rest-empty, rest-large, rest-unplanned, rest-unlaid, unlaid, rest-in, rest-shares}
 use Rattle.plan_laws.specs.TableLaws.{choices-unit}
 use Rattle.payload_laws.specs.UnitLaws.{unit-is}
 use borrow.Author.Needs.{needs}
@@ -42,7 +42,7 @@ enum-known-planned-2 c = search needs
 lay-out-requires : tie.Need-lay-out-requires
 lay-out-requires c κs =
     let t = plans-done _ _ _ _ _ _ _ _ _ _
-        (c .before .before .before .before .before .before .before .before .before .before .before .before .plan .ensures)
+        (c .before .before .before .before .before .before .before .before .before .before .before .before .plan .ensures (c .before .before .before .before .before .before .before .before .before .before .before .before .before .before .before .before .if2 .left))
         (c .before .before .before .before .before .before .before .before .before .before .before .before .before .before .before .before .before .before .before .before .before .before .before .before .before .before .before .pre .0)
         (c .before .before .before .before .before .before .before .before .before .before .before .before .before .before .before .before .before .before .before .before .before .before .before .before .before .before .before .pre .1)
         (c .before .before .before .before .before .before .before .before .before .before .before .before .before .before .before .before .before .before .before .before .before .before .before .before .before .before .before .pre .2)
@@ -84,7 +84,7 @@ same-length-3 c = search needs
 returns-4 : tie.Need-returns-4
 returns-4 c = rest-unplanned _ _ _ _ (c .before .before .before .before .before .before .before .before .before .before .before .before .before .before .before .before .before .if1 .left) (chosen-fine _ (c .before .before .before .before .before .before .before .before .before .before .before .before .before .before .before .before .choices-in .ensures) (c .before .before .before .before .before .before .before .before .before .before .before .before .before .before .enum-told .given .1))
     (c .before .before .before .before .before .before .before .before .before .before .before .before .before .if2 .left)
-    (plans-refused _ _ _ _ _ _ _ _ _ _ (c .before .before .before .before .before .before .before .before .before .plan .ensures)
+    (plans-refused _ _ _ _ _ _ _ _ _ _ (c .before .before .before .before .before .before .before .before .before .plan .ensures (c .before .before .before .before .before .before .before .before .before .before .before .before .before .if2 .left))
     (c .before .before .before .before .before .before .before .before .before .before .before .before .before .before .before .before .before .before .before .before .before .before .before .before .pre .0)
     (c .before .before .before .before .before .before .before .before .before .before .before .before .before .before .before .before .before .before .before .before .before .before .before .before .pre .1)
     (c .before .before .before .before .before .before .before .before .before .before .before .before .before .before .before .before .before .before .before .before .before .before .before .before .pre .2)
@@ -110,7 +110,7 @@ same-length-7 c = search needs
 returns-5 : tie.Need-returns-5
 returns-5 c =
     let t = plans-done _ _ _ _ _ _ _ _ _ _
-        (c .before .before .before .before .before .before .before .before .before .before .before .before .before .before .before .before .before .before .plan .ensures)
+        (c .before .before .before .before .before .before .before .before .before .before .before .before .before .before .before .before .before .before .plan .ensures (c .before .before .before .before .before .before .before .before .before .before .before .before .before .before .before .before .before .before .before .before .before .before .if2 .left))
         (c .before .before .before .before .before .before .before .before .before .before .before .before .before .before .before .before .before .before .before .before .before .before .before .before .before .before .before .before .before .before .before .before .before .pre .0)
         (c .before .before .before .before .before .before .before .before .before .before .before .before .before .before .before .before .before .before .before .before .before .before .before .before .before .before .before .before .before .before .before .before .before .pre .1)
         (c .before .before .before .before .before .before .before .before .before .before .before .before .before .before .before .before .before .before .before .before .before .before .before .before .before .before .before .before .before .before .before .before .before .pre .2)
@@ -143,18 +143,19 @@ same-length-11 c = search needs
 returns-6 : tie.Need-returns-6
 returns-6 c =
     let t = plans-done _ _ _ _ _ _ _ _ _ _
-        (c .before .before .before .before .before .before .before .before .before .before .before .before .before .before .before .before .before .before .plan .ensures)
+        (c .before .before .before .before .before .before .before .before .before .before .before .before .before .before .before .before .before .before .plan .ensures (c .before .before .before .before .before .before .before .before .before .before .before .before .before .before .before .before .before .before .before .before .before .before .if2 .left))
         (c .before .before .before .before .before .before .before .before .before .before .before .before .before .before .before .before .before .before .before .before .before .before .before .before .before .before .before .before .before .before .before .before .before .pre .0)
         (c .before .before .before .before .before .before .before .before .before .before .before .before .before .before .before .before .before .before .before .before .before .before .before .before .before .before .before .before .before .before .before .before .before .pre .1)
         (c .before .before .before .before .before .before .before .before .before .before .before .before .before .before .before .before .before .before .before .before .before .before .before .before .before .before .before .before .before .before .before .before .before .pre .2)
         (c .before .before .before .before .before .before .before .before .before .before .planned2 .given .1) in
-    rest-in _ _ _ _ (c .before .before .before .before .before .before .before .before .before .before .before .before .before .before .before .before .before .before .before .before .before .before .before .before .before .before .if1 .left) (chosen-fine _ (c .before .before .before .before .before .before .before .before .before .before .before .before .before .before .before .before .before .before .before .before .before .before .before .before .before .choices-in .ensures) (c .before .before .before .before .before .before .before .before .before .before .before .before .before .before .before .before .before .before .before .before .before .before .before .enum-told .given .1))
+    (rest-in _ _ _ _ (c .before .before .before .before .before .before .before .before .before .before .before .before .before .before .before .before .before .before .before .before .before .before .before .before .before .before .if1 .left) (chosen-fine _ (c .before .before .before .before .before .before .before .before .before .before .before .before .before .before .before .before .before .before .before .before .before .before .before .before .before .choices-in .ensures) (c .before .before .before .before .before .before .before .before .before .before .before .before .before .before .before .before .before .before .before .before .before .before .before .enum-told .given .1))
         (c .before .before .before .before .before .before .before .before .before .before .before .before .before .before .before .before .before .before .before .before .before .before .if2 .left)
         t (laid-plan t
         (c .before .before .before .before .before .before .before .before .before .before .before .before .before .before .before .before .before .before .before .before .before .before .if2 .left)
         (c .before .before .before .before .before .before .before .before .before .before .before .before .before .before .before .before .before .before .before .before .before .before .before .before .before .before .before .before .before .before .before .before .before .pre .1)
         (c .before .before .before .before .before .before .before .before .before .before .before .before .before .before .before .before .before .before .before .before .before .before .before .before .before .before .before .before .before .before .before .before .before .pre .2)
-        (c .before .before .before .before .before .lay-out .ensures)) (c .before .laid2 .given .1)
+        (c .before .before .before .before .before .lay-out .ensures)) (c .before .laid2 .given .1),
+    rest-shares _ _ _ _ t)
 
 pub decide-rest-spec : {M : Type 1} → statement M
 decide-rest-spec =

@@ -1,5 +1,6 @@
 -- The remote group's master, where both counts agree.
 use Rattle.planning.specs.TimeLaws.{timed, remote-none, remote-bare, remote-same, remote-differs}
+use mathlib.Core.Path.{_∙_}
 use borrow.Author.Needs.{needs}
 use Rattle.planning.proofs.masters.remote_time.Statement.{statement}
 use Rattle.planning.proofs.masters.remote_time.Tie as tie
@@ -25,24 +26,27 @@ enum-told-2 c = search needs
 enum-known-master : tie.Need-enum-known-master
 enum-known-master c = search needs
 
+standing-requires : tie.Need-standing-requires
+standing-requires c κs = search needs
+
 returns : tie.Need-returns
-returns c = timed (remote-same _ _ _ _ _
-    (c .before .before .before .before .before .before .before .before .before .remote-link .ensures)
-    (c .before .before .before .before .before .before .before .before .find-group .ensures)
-    (c .before .before .before .before .before .before .sought .given .1) _
-    (c .before .before .before .before .master-of .ensures) (c .before .before .master .given .1) (c .if1 .taken))
+returns c = c .standing .ensures .is _ ∙ timed (remote-same _ _ _ _ _ _
+    (c .before .before .before .before .before .before .before .before .before .before .remote-link .ensures)
+    (c .before .before .before .before .before .before .before .before .before .find-group .ensures)
+    (c .before .before .before .before .before .before .before .sought .given .1) _
+    (c .before .before .before .before .before .master-of .ensures) (c .before .before .before .master .given .1) (c .before .if1 .taken))
 
 returns-2 : tie.Need-returns-2
-returns-2 c = timed (remote-none _ _ _ _ _ (c .before .before .before .remote-link .ensures)
+returns-2 c = timed (remote-none _ _ _ _ _ _ (c .before .before .before .remote-link .ensures)
     (c .before .before .find-group .ensures) (c .enum-told .given .1))
 
 returns-3 : tie.Need-returns-3
-returns-3 c = timed (remote-bare _ _ _ _ _ (c .before .before .before .before .before .before .before .remote-link .ensures)
+returns-3 c = timed (remote-bare _ _ _ _ _ _ (c .before .before .before .before .before .before .before .remote-link .ensures)
     (c .before .before .before .before .before .before .find-group .ensures)
     (c .before .before .before .before .sought .given .1) _ (c .before .before .master-of .ensures) (c .enum-told2 .given .1))
 
 returns-4 : tie.Need-returns-4
-returns-4 c = timed (remote-differs _ _ _ _ _
+returns-4 c = timed (remote-differs _ _ _ _ _ _
     (c .before .before .before .before .before .before .before .before .before .remote-link .ensures)
     (c .before .before .before .before .before .before .before .before .find-group .ensures)
     (c .before .before .before .before .before .before .sought .given .1) _
@@ -59,6 +63,7 @@ remote-time-spec =
     master-of-requires
     enum-told-2
     enum-known-master
+    standing-requires
     returns
     returns-2
     returns-3

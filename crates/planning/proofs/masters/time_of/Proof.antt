@@ -11,6 +11,9 @@ master-of-requires c κs = search needs
 enum-known-master : tie.Need-enum-known-master
 enum-known-master c = search needs
 
+standing-requires : tie.Need-standing-requires
+standing-requires c κs = search needs
+
 enum-told : tie.Need-enum-told
 enum-told c = search needs
 
@@ -18,10 +21,10 @@ remote-time-requires : tie.Need-remote-time-requires
 remote-time-requires c κs = search needs
 
 returns : tie.Need-returns
-returns c = timed (time-own _ _ _ _ _ _ _ _ (c .before .before .before .master-of .ensures) (c .before .master .given .1))
+returns c = c .standing .ensures .is _ ∙ timed (time-own _ _ _ _ _ _ _ _ _ (c .before .before .before .before .master-of .ensures) (c .before .before .master .given .1))
 
 returns-2 : tie.Need-returns-2
-returns-2 c = c .remote-time .ensures ∙ timed (time-remote _ _ _ _ _ _ _ _ (c .before .before .before .master-of .ensures)
+returns-2 c = c .remote-time .ensures ∙ timed (time-remote _ _ _ _ _ _ _ _ _ (c .before .before .before .master-of .ensures)
     (c .before .enum-told .given .1))
 
 pub time-of-spec : {M : Type 1} → statement M
@@ -30,6 +33,7 @@ time-of-spec =
     (tie.spec
     master-of-requires
     enum-known-master
+    standing-requires
     enum-told
     remote-time-requires
     returns

@@ -9,7 +9,7 @@ is-storage-requires : tie.Need-is-storage-requires
 is-storage-requires c κs = search needs
 
 returns : tie.Need-returns
-returns c = group-storage _ _ _ _ _ _ _ _ _ _ _ _ _ (c .before .is-storage .ensures) (c .if1 .taken) (omega arith)
+returns c = group-storage _ _ _ _ _ _ _ _ _ _ _ _ _ _ (c .before .is-storage .ensures) (c .if1 .taken) (omega arith)
 
 own-of-requires : tie.Need-own-of-requires
 own-of-requires c κs = search needs
@@ -27,7 +27,7 @@ same-length-2 : tie.Need-same-length-2
 same-length-2 c = search needs
 
 returns-2 : tie.Need-returns-2
-returns-2 c = group-planned _ _ _ _ _ _ _ _ _ _ _ _ _
+returns-2 c = group-planned _ _ _ _ _ _ _ _ _ _ _ _ _ _
     (c .before .before .before .before .before .before .before .before .before .before .before .before .before .is-storage .ensures)
     (c .before .before .before .before .before .before .before .before .before .before .before .before .if1 .left)
     (c .before .before .before .before .before .before .before .before .before .before .before .own-of .ensures)

@@ -10,12 +10,12 @@ use Rattle.planning.proofs.planned.plan_groups.Statement.{statement}
 use Rattle.planning.proofs.planned.plan_groups.Tie as tie
 
 abbrev Inv-loop : tie.InvT-loop
-Inv-loop image choices table source fragments₀ columns₀ n nf i₀ g₀ d₀ columns-now₀ omissions-now₀ fragments-now₀ fragments columns i g d
+Inv-loop image choices table source stands fragments₀ columns₀ n nf i₀ g₀ d₀ columns-now₀ omissions-now₀ fragments-now₀ fragments columns i g d
     columns-now omissions-now fragments-now = (length columns ≡ length columns₀) × (length fragments ≡ length fragments₀)
-    × Groups (rules choices table) image source n nf columns₀ fragments₀ i g d columns-now omissions-now fragments-now columns fragments
+    × Groups (rules choices table) image source stands n nf columns₀ fragments₀ i g d columns-now omissions-now fragments-now columns fragments
 
 abbrev μ-loop : tie.MeasureT-loop
-μ-loop image choices table source fragments₀ columns₀ n nf i₀ g₀ d₀ columns-now₀ omissions-now₀ fragments-now₀ fragments columns i g d
+μ-loop image choices table source stands fragments₀ columns₀ n nf i₀ g₀ d₀ columns-now₀ omissions-now₀ fragments-now₀ fragments columns i g d
     columns-now omissions-now fragments-now = n - i
 
 loop-holds : tie.Need-loop-holds Inv-loop μ-loop

@@ -10,15 +10,15 @@ use Rattle.planning.proofs.recording.plan.Tie as tie
 
 returns : tie.Need-returns
 unfolding planInto
-returns c = lt-yes _ _ _ _ (omega arith) refl
+returns c = λ _. lt-yes _ _ _ _ (omega arith) refl
 
 returns-2 : tie.Need-returns-2
 unfolding planInto
-returns-2 c = lt-no _ _ _ _ (omega arith) (lt-yes _ _ _ _ (omega arith) refl)
+returns-2 c = λ _. lt-no _ _ _ _ (omega arith) (lt-yes _ _ _ _ (omega arith) refl)
 
 returns-3 : tie.Need-returns-3
 unfolding planInto
-returns-3 c = lt-no _ _ _ _ (omega arith) (lt-no _ _ _ _ (omega arith) (lt-yes _ _ _ _ (omega arith) refl))
+returns-3 c = λ _. lt-no _ _ _ _ (omega arith) (lt-no _ _ _ _ (omega arith) (lt-yes _ _ _ _ (omega arith) refl))
 
 plan-all-requires : tie.Need-plan-all-requires
 plan-all-requires c κs = search needs
@@ -45,7 +45,7 @@ same-length-3 : tie.Need-same-length-3
 same-length-3 c = search needs
 
 returns-4 : tie.Need-returns-4
-returns-4 c = plan-refused _ _ _ _ _ _ (omega (arith,
+returns-4 c = λ short. plan-refused _ _ _ _ _ _ (omega (arith,
     c .before .before .before .before .before .before .before .before .before .before .before .before .before .before .before .before .before .before .before .before .before .before .before .before .before .before .before .if1 .left))
     (omega (arith,
     c .before .before .before .before .before .before .before .before .before .before .before .before .before .before .before .before .before .before .before .before .before .before .before .before .before .before .if2 .left))
@@ -54,7 +54,7 @@ returns-4 c = plan-refused _ _ _ _ _ _ (omega (arith,
     (c .before .before .before .before .before .before .before .before .before .before .before .before .before .before .before .before .before .before .before .before .before .plan-all .last .1 .1 .1 .1 .0)
     (c .before .before .before .before .before .before .before .before .before .before .before .before .before .before .before .before .before .before .before .before .before .plan-all .last .1 .1 .1 .1 .1 .0)
     (c .before .before .before .before .before .before .before .before .before .before .before .before .before .before .before .before .before .before .before .before .before .plan-all .last .1 .1 .1 .1 .1 .1 .0)
-    _ (c .before .before .before .before .before .before .before .before .before .before .before .before .before .before .before .before .before .before .before .before .before .plan-all .ensures)
+    _ (c .before .before .before .before .before .before .before .before .before .before .before .before .before .before .before .before .before .before .before .before .before .plan-all .ensures short)
     (c .before .before .before .before .before .before .before .before .before .before .before .before .before .answer .given .1)
     (search needs) (search needs) (search needs)
     (c .before .before .before .before .before .before .before .before .before .before .clear .ensures)
@@ -73,7 +73,7 @@ same-length-6 : tie.Need-same-length-6
 same-length-6 c = search needs
 
 returns-5 : tie.Need-returns-5
-returns-5 c = plan-done _ _ _ _ _ _ (omega (arith,
+returns-5 c = λ short. plan-done _ _ _ _ _ _ (omega (arith,
     c .before .before .before .before .before .before .before .before .before .before .before .before .before .before .if1 .left))
     (omega (arith,
     c .before .before .before .before .before .before .before .before .before .before .before .before .before .if2 .left)) (omega
@@ -81,7 +81,7 @@ returns-5 c = plan-done _ _ _ _ _ _ (omega (arith,
     (c .before .before .before .before .before .before .before .before .plan-all .last .1 .1 .1 .1 .0)
     (c .before .before .before .before .before .before .before .before .plan-all .last .1 .1 .1 .1 .1 .0)
     (c .before .before .before .before .before .before .before .before .plan-all .last .1 .1 .1 .1 .1 .1 .0) _
-    (c .before .before .before .before .before .before .before .before .plan-all .ensures) (c .enum-told .given .1)
+    (c .before .before .before .before .before .before .before .before .plan-all .ensures short) (c .enum-told .given .1)
 
 pub plan-spec : {M : Type 1} → statement M
 plan-spec =

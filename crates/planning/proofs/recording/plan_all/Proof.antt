@@ -34,7 +34,7 @@ same-length-2 : tie.Need-same-length-2
 same-length-2 c = search needs
 
 returns : tie.Need-returns
-returns c = all-unread _ _ _ (omega (arith,
+returns c = λ _. all-unread _ _ _ (omega (arith,
     c .before .before .before .before .before .before .before .before .before .before .before .before .before .before .before .pre))
     (omega (arith,
     c .before .before .before .before .before .before .before .before .before .before .before .before .before .before .before .pre)) _ _

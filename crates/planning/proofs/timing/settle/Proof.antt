@@ -16,8 +16,8 @@ enum-told-2 c = search needs
 put-omission-requires : tie.Need-put-omission-requires
 put-omission-requires c κs = search needs
 
-add-t20 : tie.Need-add-t20
-add-t20 c = search needs
+add-t21 : tie.Need-add-t21
+add-t21 c = search needs
 
 enum-known-time : tie.Need-enum-known-time
 enum-known-time c = search needs
@@ -26,20 +26,20 @@ add-time-requires : tie.Need-add-time-requires
 add-time-requires c κs = search needs
 
 returns : tie.Need-returns
-returns c = settle-untimed _ _ _ _ _ _ _ _ _ _ (c .before .before .time-of .ensures) (c .enum-told .given .1)
+returns c = settle-untimed _ _ _ _ _ _ _ _ _ _ _ (c .before .before .time-of .ensures) (c .enum-told .given .1)
 
 same-length : tie.Need-same-length
 same-length c = search needs
 
 returns-2 : tie.Need-returns-2
-returns-2 c = settle-differs _ _ _ _ _ _ _ _ _ _ (c .before .before .before .before .before .before .time-of .ensures)
+returns-2 c = settle-differs _ _ _ _ _ _ _ _ _ _ _ (c .before .before .before .before .before .before .time-of .ensures)
     (c .before .before .before .before .enum-told2 .given .1) (c .before .before .put-omission .ensures)
 
 same-length-2 : tie.Need-same-length-2
 same-length-2 c = search needs
 
 returns-3 : tie.Need-returns-3
-returns-3 c = settle-at _ _ _ _ _ _ _ _ _ _ (c .before .before .before .before .before .before .before .time-of .ensures)
+returns-3 c = settle-at _ _ _ _ _ _ _ _ _ _ _ (c .before .before .before .before .before .before .before .time-of .ensures)
     (c .before .before .before .before .before .time .given .1) (c .before .before .add-time .ensures)
 
 pub settle-spec : {M : Type 1} → statement M
@@ -50,7 +50,7 @@ settle-spec =
     enum-told
     enum-told-2
     put-omission-requires
-    add-t20
+    add-t21
     enum-known-time
     add-time-requires
     returns

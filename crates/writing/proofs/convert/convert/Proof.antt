@@ -2,7 +2,7 @@
 use Prim.Native.Nat.{ℕ}
 use mathlib.Core.Path.{ap, _∙_}
 use lib.ListN.{replicate}
-use Rattle.writing.specs.FinishLaws.{decides-done, decides-refused, stands-timed, refused-left, done-left, promised-by, cleared-source, cleared-fragments, cleared-columns}
+use Rattle.writing.specs.FinishLaws.{decides-done, decides-shares, decides-refused, stands-timed, shares-timed, refused-left, done-left, promised-by, cleared-source, cleared-fragments, cleared-columns}
 use borrow.Author.Needs.{needs}
 use Rattle.writing.proofs.convert.convert.Statement.{statement}
 use Rattle.writing.proofs.convert.convert.Tie as tie
@@ -24,9 +24,8 @@ enum-known-decision-2 c = search needs
 
 -- src/convert.rt:112:17
 finish-requires : tie.Need-finish-requires
-finish-requires c κs = stands-timed _ (decides-done
-    (c .before .before .before .before .before .before .before .before .before .before .before .before .before .before .before .before .before .decide .ensures)
-    (c .before .before .before .before .before .before .before .decision2 .given .1))
+finish-requires c κs = (stands-timed _ (decides-done (c .before .before .before .before .before .before .before .before .before .before .before .before .before .before .before .before .before .decide .ensures) (c .before .before .before .before .before .before .before .decision2 .given .1)),
+    shares-timed _ _ _ _ _ _ (decides-shares _ _ _ _ _ _ _ _ _ _ (c .before .before .before .before .before .before .before .before .before .before .before .before .before .before .before .before .before .decide .ensures) (c .before .before .before .before .before .before .before .decision2 .given .1)))
 
 -- src/convert.rt:113:13
 clear-requires : tie.Need-clear-requires

@@ -1,8 +1,9 @@
-//! Planning by a table of treatments, written from documents 01 and 02 apart from the port: the columns and omissions that are due of a recording whose
+//! Planning by what a call chooses, written from documents 01 and 02 apart from the port: the columns and omissions that are due of a recording whose
 //! reading is sound, or the refusal that planning meets first.
 use crate::blocks::{data_field, field, kind_at, link, link_count, word};
-use crate::walk::{claimed, data_groups, fragments, RECORDS};
+use crate::walk::{claimed, data_groups, fragments, DataGroup, RECORDS};
 use std::collections::HashSet;
+use std::ops::Range;
 
 /// Number and place.
 pub type Refusal = (u64, u64);
@@ -63,6 +64,8 @@ pub struct Column {
     pub signal: Option<Vec<usize>>,
     pub time: bool,
     pub master: Option<usize>,
+    /// The group that has the master: its own, or that at its group's remote link; of a time column that it is made of.
+    pub axis: Option<usize>,
 }
 
 #[derive(Default)]
@@ -84,53 +87,88 @@ struct Model<'a> {
     image: &'a [u8],
     treatments: &'a Treatments,
     groups: Vec<Group>,
+    /// For each group the one whose master stands for its own: itself, or an earlier one.
+    stands: &'a [usize],
     /// Fragments met so far.
     fragments: usize,
     plan: Plan,
 }
 
-/// Of a recording that identification, HD, walk and counts accept.
-pub fn plan(image: &[u8], treatments: &Treatments) -> Result<Plan, Refusal> {
+/// Of a recording that identification, HD, walk and counts accept. `stands`: for each group the one whose master stands for its own.
+pub fn plan(image: &[u8], treatments: &Treatments, stands: &[usize]) -> Result<Plan, Refusal> {
     let mut groups = Vec::new();
     let mut met = 0;
     for d in data_groups(image) {
         let (list, _) = fragments(image, link(image, d.at, 2), &RECORDS);
-        let counts = counts(image, d.at, &d.groups.iter().map(|g| g.at).collect::<Vec<_>>(), &list);
+        let counts = counts(image, &d, &list).expect("the records are sound");
         met += list.len();
         groups.extend(d.groups.into_iter().zip(counts).map(|(g, records)| Group { at: g.at, channels: g.channels, records }));
     }
-    let mut m = Model { image, treatments, groups, fragments: met, plan: Plan::default() };
+    let mut m = Model { image, treatments, groups, stands, fragments: met, plan: Plan::default() };
     (0..m.groups.len()).try_for_each(|g| m.group(g))?;
     Ok(m.plan)
 }
 
-/// The records of each group of a DG.
-fn counts(image: &[u8], dg: usize, groups: &[usize], fragments: &[usize]) -> Vec<u128> {
-    let ids = data_field(image, dg, 0, 1) as usize;
-    let sizes = |cg: usize| (data_field(image, cg, 24, 4) as u128, data_field(image, cg, 28, 4) as u128);
-    if let [cg] = groups {
-        let bytes = |kind: &[u8]| fragments.iter().filter(|f| kind_at(image, **f) == kind).map(|f| claimed(image, *f) as u128).sum::<u128>();
-        let (samples, inval) = sizes(*cg);
-        let whole = |bytes: u128, size: u128| bytes.checked_div(size).unwrap_or(0);
-        return vec![whole(bytes(b"##DT"), ids as u128 + samples + inval) + whole(bytes(b"##DV"), samples)];
-    }
-    let mut counts = vec![0; groups.len()];
-    if groups.is_empty() {
-        return counts;
-    }
-    let (joined, mut at) = (joined(image, fragments), 0);
-    while at < joined.len() {
-        let id = field(&joined, at, ids);
-        let g = groups.iter().position(|cg| data_field(image, *cg, 0, 8) == id).expect("the records are sound");
-        let (samples, inval) = sizes(groups[g]);
-        at += ids + if is_storage(image, groups[g]) { 4 + field(&joined, at + ids, 4) as usize } else { (samples + inval) as usize };
-        counts[g] += 1;
-    }
-    counts
+/// A group's data bytes and invalidation bytes.
+pub fn sizes(image: &[u8], cg: usize) -> (u64, u64) {
+    (data_field(image, cg, 24, 4), data_field(image, cg, 28, 4))
 }
 
-fn is_storage(image: &[u8], cg: usize) -> bool {
+/// The records of each group of a DG; none where those of several groups can't be told apart.
+pub fn counts(image: &[u8], d: &DataGroup, fragments: &[usize]) -> Option<Vec<u128>> {
+    let [g] = &d.groups[..] else {
+        if d.groups.is_empty() {
+            return Some(Vec::new());
+        }
+        let framed = framed(image, d, &joined(image, fragments))?;
+        return Some((0..d.groups.len()).map(|g| framed.iter().filter(|r| r.0 == g).count() as u128).collect());
+    };
+    let bytes = |kind: &[u8]| fragments.iter().filter(|f| kind_at(image, **f) == kind).map(|f| claimed(image, *f) as u128).sum::<u128>();
+    let (samples, inval) = sizes(image, g.at);
+    let whole = |bytes: u128, size: u64| bytes.checked_div(size as u128).unwrap_or(0);
+    Some(vec![whole(bytes(b"##DT"), data_field(image, d.at, 0, 1) + samples + inval) + whole(bytes(b"##DV"), samples)])
+}
+
+/// The records of a DG of several groups in order, each with its group and where it lies after its id; none where one isn't sound.
+pub fn framed(image: &[u8], d: &DataGroup, joined: &[u8]) -> Option<Vec<(usize, Range<usize>)>> {
+    let ids = data_field(image, d.at, 0, 1) as usize;
+    let groups: Vec<(u64, bool, u64)> =
+        d.groups.iter().map(|g| (data_field(image, g.at, 0, 8), is_storage(image, g.at), sizes(image, g.at).0 + sizes(image, g.at).1)).collect();
+    let (mut all, mut at) = (Vec::new(), 0);
+    while at < joined.len() {
+        let id = field(joined, at, ids);
+        let g = groups.iter().position(|g| g.0 == id).filter(|_| ids > 0)?;
+        let from = at + ids;
+        let size = if groups[g].1 { 4 + field(joined, from, 4) } else { groups[g].2 };
+        at = from.checked_add(size as usize).filter(|end| *end <= joined.len())?;
+        all.push((g, from..at));
+    }
+    Some(all)
+}
+
+pub fn is_storage(image: &[u8], cg: usize) -> bool {
     data_field(image, cg, 16, 2) & 1 != 0
+}
+
+/// A channel's bytes in a record.
+pub fn width(image: &[u8], cn: usize) -> u64 {
+    let part = |offset, bytes| data_field(image, cn, offset, bytes);
+    if [3, 6].contains(&part(0, 1)) {
+        0
+    } else {
+        (part(3, 1) + part(8, 4)).div_ceil(8)
+    }
+}
+
+/// Bit offset at most 7, byte offset + bytes at most samples.
+fn fits(image: &[u8], cg: usize, cn: usize) -> bool {
+    data_field(image, cn, 3, 1) <= 7 && data_field(image, cn, 4, 4) + width(image, cn) <= sizes(image, cg).0
+}
+
+/// A group's first fitting channel of type 2 or 3; VLSD storage has none.
+pub fn master(image: &[u8], cg: usize, channels: &[usize]) -> Option<usize> {
+    let is_master = |cn: &usize| [2, 3].contains(&data_field(image, *cn, 0, 1)) && fits(image, cg, *cn);
+    channels.iter().copied().filter(|_| !is_storage(image, cg)).find(is_master)
 }
 
 impl Model<'_> {
@@ -142,17 +180,9 @@ impl Model<'_> {
         [2, 3].contains(&self.kind(cn))
     }
 
-    /// Bit offset at most 7, byte offset + bytes at most samples.
-    fn fits(&self, cg: usize, cn: usize) -> bool {
-        let part = |offset, bytes| data_field(self.image, cn, offset, bytes);
-        let bytes = if [3, 6].contains(&self.kind(cn)) { 0 } else { (part(3, 1) + part(8, 4)).div_ceil(8) };
-        part(3, 1) <= 7 && part(4, 4) + bytes <= data_field(self.image, cg, 24, 4)
-    }
-
-    /// A group's first fitting channel of type 2 or 3.
     fn master(&self, g: usize) -> Option<usize> {
         let Group { at, channels, .. } = &self.groups[g];
-        channels.iter().copied().find(|cn| !is_storage(self.image, *at) && self.is_master_type(*cn) && self.fits(*at, *cn))
+        master(self.image, *at, channels)
     }
 
     /// The group at the remote link, if that has a master.
@@ -177,10 +207,10 @@ impl Model<'_> {
             self.plan.omissions.push((at as u64, 1));
         }
         let axis = if own.is_some() { Some(g) } else { remote.filter(|_| agrees) };
-        let master = axis.map(|t| self.time(t));
+        let master = axis.map(|t| self.time(self.stands.get(t).copied().unwrap_or(t)));
         for cn in self.groups[g].channels.clone() {
             if Some(cn) != own {
-                self.channel(g, cn, master)?;
+                self.channel(g, cn, master, axis)?;
             }
         }
         Ok(())
@@ -189,7 +219,7 @@ impl Model<'_> {
     /// The time column of a group with a master.
     fn time(&mut self, g: usize) -> usize {
         let (records, channel) = (self.groups[g].records, self.master(g).unwrap());
-        let column = Column { channel, records, stored: self.kind(channel), signal: None, time: true, master: None };
+        let column = Column { channel, records, stored: self.kind(channel), signal: None, time: true, master: None, axis: Some(g) };
         self.plan.columns.iter().position(|c| c.channel == channel).unwrap_or_else(|| self.add(column))
     }
 
@@ -198,7 +228,7 @@ impl Model<'_> {
         self.plan.columns.len() - 1
     }
 
-    fn channel(&mut self, g: usize, channel: usize, master: Option<usize>) -> Result<(), Refusal> {
+    fn channel(&mut self, g: usize, channel: usize, master: Option<usize>, axis: Option<usize>) -> Result<(), Refusal> {
         if let Some(reason) = self.reason(self.groups[g].at, channel)? {
             self.plan.omissions.push((channel as u64, reason));
             return Ok(());
@@ -207,7 +237,7 @@ impl Model<'_> {
         let treated = self.treatments.treat(kind);
         let signal = if kind == 1 && treated == Keep && data != 0 { Some(self.signal_data(data)?) } else { None };
         let stored = if treated == StoreAs0 { 0 } else { kind };
-        self.add(Column { channel, records: self.groups[g].records, stored, signal, time: false, master });
+        self.add(Column { channel, records: self.groups[g].records, stored, signal, time: false, master, axis });
         Ok(())
     }
 
@@ -217,7 +247,7 @@ impl Model<'_> {
         if let Omit(reason) = treated {
             return Ok(Some(reason));
         }
-        if !self.fits(group, channel) {
+        if !fits(self.image, group, channel) {
             return Ok(Some(2));
         }
         if self.is_master_type(channel) {

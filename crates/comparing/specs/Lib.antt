@@ -1,0 +1,10 @@
+pub mod Comparable
+pub mod ComparableLaws
+pub mod Same
+pub mod SameLaws
+pub mod Head
+pub mod HeadLaws
+pub mod Run
+pub mod RunLaws
+pub mod Timed
+pub mod TimedLaws
