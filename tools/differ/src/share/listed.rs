@@ -8,7 +8,7 @@ use std::collections::HashSet;
 pub const SHARES: &str = "units decoded alike over other bytes or kinds: the Rust shares more";
 pub const READS: &str = "units decoded alike over other bytes or kinds: data that only the Rust compares";
 pub const COPIES: &str = "units decoded alike over other bytes or kinds: metadata that only the port copies";
-pub const ORDERS: &str = "units decoded alike over other bytes or kinds: metadata that the Rust copies earlier";
+pub const ORDER: &str = "units decoded alike over other bytes or kinds: metadata of a time column that the Rust copies earlier";
 
 /// Why the two may differ, where units of the image are such.
 pub fn units(image: &[u8], rust: &Answer, port: &port_side::Answer) -> Option<&'static str> {
@@ -20,31 +20,28 @@ pub fn units(image: &[u8], rust: &Answer, port: &port_side::Answer) -> Option<&'
         _ => return None,
     }
     let (theirs, ours) = (clocks.stands(By::Text), clocks.stands(By::Bytes));
-    let only_here: Vec<usize> = (0..ours.len()).filter(|g| ours[*g] == *g && theirs[*g] != *g).collect();
+    let apart: Vec<usize> = (0..ours.len()).filter(|g| ours[*g] != theirs[*g]).collect();
+    let only_here = || apart.iter().filter(|g| ours[**g] == **g).flat_map(|g| below(image, clocks.places(*g)));
+    let standing_there = || apart.iter().flat_map(|g| below(image, clocks.places(theirs[*g])));
     match (rust, port.refused) {
-        _ if only_here.is_empty() => None,
+        _ if apart.is_empty() => None,
         (Answer::Converted(c), None) => ((c.counts[3], port.counts[3]) == (shared(&theirs), shared(&ours))).then_some(SHARES),
-        (_, Some((4 | 8 | 9 | 16 | 19, place))) if only_here.iter().any(|g| is_below(image, clocks.places(*g), place)) => Some(COPIES),
-        // a group before both uses a master that the port has as a column and the Rust an earlier group's for
-        (Answer::Refused(told), Some((4 | 8 | 9 | 16 | 19, _))) => {
-            let ends_at = |at: usize, end: u64| [24, word(image, at.saturating_add(8))].iter().any(|n| (at as u64).saturating_add(*n) == end);
-            let is_told = |at: &usize| match told.place {
-                Place::At(place) => *at as u64 == place,
-                Place::Ends(end) => ends_at(*at, end),
-                _ => false,
-            };
-            only_here.iter().any(|g| below(image, clocks.places(theirs[*g])).iter().any(is_told)).then_some(ORDERS)
-        }
+        (_, Some((4 | 8 | 9 | 16 | 19, place))) if only_here().any(|at| at as u64 == place) => Some(COPIES),
+        (Answer::Refused(told), Some((4 | 8 | 9 | 16 | 19, _))) => standing_there().any(|at| is_told(image, told.place, at as u64)).then_some(ORDER),
         _ => None,
     }
 }
 
-/// Whether a time column of these DG, CG and CN copies the block at a place, or looks at it.
-fn is_below(image: &[u8], places: Option<[usize; 3]>, place: u64) -> bool {
-    below(image, places).contains(&(place as usize))
+/// Whether the Rust's words tell of the block at a place.
+fn is_told(image: &[u8], told: Place, at: u64) -> bool {
+    match told {
+        Place::At(place) => place == at,
+        Place::Ends(end) => [24, word(image, at as usize + 8)].iter().any(|n| at.saturating_add(*n) == end),
+        _ => false,
+    }
 }
 
-/// The blocks that it copies or looks at.
+/// The blocks that a time column of these DG, CG and CN copies or looks at.
 fn below(image: &[u8], places: Option<[usize; 3]>) -> HashSet<usize> {
     let Some([dg, cg, cn]) = places else { return HashSet::new() };
     let mut left = vec![link(image, dg, 3)];
