@@ -6,6 +6,8 @@ pub mod TimeIn
 pub mod WordLaws
 pub mod Items
 pub mod ItemLaws
+pub mod Noted
+pub mod NotedLaws
 pub mod Times
 pub mod TimeLaws
 pub mod Span

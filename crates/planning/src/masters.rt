@@ -14,6 +14,7 @@ ghost use Prim.Native.Nat.{_≤_};
 ghost use Rattle.plan.specs.Channel.{both, isMasterType, fits};
 ghost use Rattle.plan.specs.Columns.{firstMaster, remoteLink, timeOf};
 ghost use Rattle.planning.specs.Items.{groupOf, groupsIn, channelsIn};
+ghost use Rattle.planning.specs.Noted.{Noted};
 ghost use Rattle.planning.specs.Times.{masterFrom, masterIn, timeWords, StandsIn, remoteIn};
 
 pub enum Master {
@@ -90,6 +91,8 @@ pub fn remote_link(image: &[u8], g: u64) -> u64
 pub(crate) fn standing(
     image: &[u8],
     source: &[u64],
+    before: &[u64],
+    index: &[u16; 4096],
     stands: &[u64],
     n: u64,
     c: u64,
@@ -97,10 +100,10 @@ pub(crate) fn standing(
     d: u64,
     records: u64,
 ) -> Time
-    requires { ⌜ n ≤ 1536 ⌝ }
+    requires { ⌜ (n ≤ 1536) × Noted (now source) n (now before) (now index) ⌝ }
     ensures { λ r. ⌜ StandsIn (now (image .entry)) (now (source .entry)) (now (stands .entry)) n c g d records r ⌝ }
 {
-    let by = stand_of(source, stands, n, g);
+    let by = stand_of(source, before, index, stands, n, g);
     if by == 0 {
         return Time::At {
             channel: c,
@@ -109,7 +112,7 @@ pub(crate) fn standing(
             records,
         };
     }
-    let sought = find_group(source, n, by);
+    let sought = find_group(source, before, index, n, by);
     match sought {
         Sought::Nothing => Time::Untimed,
         Sought::Group {
@@ -136,16 +139,18 @@ pub(crate) fn standing(
 pub(crate) fn remote_time(
     image: &[u8],
     source: &[u64],
+    before: &[u64],
+    index: &[u16; 4096],
     stands: &[u64],
     n: u64,
     g: u64,
     records: u64,
 ) -> Time
-    requires { ⌜ n ≤ 1536 ⌝ }
+    requires { ⌜ (n ≤ 1536) × Noted (now source) n (now before) (now index) ⌝ }
     ensures { λ r. ⌜ r ≡ timeWords (remoteIn (now (image .entry)) (now (source .entry)) (now (stands .entry)) n g records) ⌝ }
 {
     let link = remote_link(image, g);
-    let sought = find_group(source, n, link);
+    let sought = find_group(source, before, index, n, link);
     match sought {
         Sought::Nothing => Time::Untimed,
         Sought::Group {
@@ -159,7 +164,18 @@ pub(crate) fn remote_time(
                 Master::Without => Time::Untimed,
                 Master::Channel(c) => {
                     if there == records {
-                        return standing(image, source, stands, n, c, link, dg, there);
+                        return standing(
+                            image,
+                            source,
+                            before,
+                            index,
+                            stands,
+                            n,
+                            c,
+                            link,
+                            dg,
+                            there,
+                        );
                     }
                     Time::Differs
                 }
@@ -172,6 +188,8 @@ pub(crate) fn remote_time(
 pub(crate) fn time_of(
     image: &[u8],
     source: &[u64],
+    before: &[u64],
+    index: &[u16; 4096],
     stands: &[u64],
     n: u64,
     i: u64,
@@ -179,13 +197,13 @@ pub(crate) fn time_of(
     d: u64,
     records: u64,
 ) -> Time
-    requires { ⌜ n ≤ 1536 ⌝ }
+    requires { ⌜ (n ≤ 1536) × Noted (now source) n (now before) (now index) ⌝ }
     ensures { λ r. ⌜ r ≡ timeWords (timeOf (now (image .entry)) (groupsIn (now (source .entry)) n) (now (stands .entry))
         (groupOf d g (channelsIn (now (source .entry)) n i) records)) ⌝ }
 {
     let master = master_of(image, source, n, i, g);
     match master {
-        Master::Channel(c) => standing(image, source, stands, n, c, g, d, records),
-        Master::Without => remote_time(image, source, stands, n, g, records),
+        Master::Channel(c) => standing(image, source, before, index, stands, n, c, g, d, records),
+        Master::Without => remote_time(image, source, before, index, stands, n, g, records),
     }
 }

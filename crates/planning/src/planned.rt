@@ -1,6 +1,7 @@
 // The groups in the order of the walk.
 use crate::column::Progress;
 use crate::column::plan_channels;
+use crate::groups::note_items;
 use crate::timing::own_of;
 use crate::timing::settle;
 use crate::words::word;
@@ -9,6 +10,7 @@ use choices::Choices;
 ghost use Prim.Native.Nat.{_≤_};
 ghost use lib.ListN.{length};
 ghost use Rattle.choices.specs.Chosen.{rules};
+ghost use Rattle.planning.specs.Noted.{Noted};
 ghost use Rattle.planning.specs.Planned.{GroupPlan, GroupsPlan};
 
 // The group with its CG at g, its channels from item i on, of the DG at d, with so many records.
@@ -17,6 +19,8 @@ pub(crate) fn plan_group(
     choices: Choices,
     table: &[u8],
     source: &[u64],
+    before: &[u64],
+    index: &[u16; 4096],
     stands: &[u64],
     fragments: &mut [u64],
     columns: &mut [u64],
@@ -29,7 +33,8 @@ pub(crate) fn plan_group(
     no: u64,
     nf: u64,
 ) -> Progress
-    requires { ⌜ (n ≤ 1536) × (i ≤ n) × (nc ≤ 4190000) × (no ≤ 4190000) × (nf ≤ 1024) × (4096 ≤ length (now columns)) ⌝ }
+    requires { ⌜ (n ≤ 1536) × (i ≤ n) × (nc ≤ 4190000) × (no ≤ 4190000) × (nf ≤ 1024) × (4096 ≤ length (now columns))
+        × Noted (now source) n (now before) (now index) ⌝ }
     ensures { λ r. ⌜ GroupPlan (rules choices (now (table .entry))) (now (image .entry)) (now (source .entry)) (now (stands .entry)) n i g d records nc no nf
         (now (columns .entry)) (now (fragments .entry)) r (now (columns .exit)) (now (fragments .exit)) ⌝ }
 {
@@ -41,7 +46,21 @@ pub(crate) fn plan_group(
         };
     }
     let own = own_of(image, source, n, i, g);
-    let settled = settle(image, source, stands, columns, n, i, g, d, records, nc, no);
+    let settled = settle(
+        image,
+        source,
+        before,
+        index,
+        stands,
+        columns,
+        n,
+        i,
+        g,
+        d,
+        records,
+        nc,
+        no,
+    );
     let master = settled.master;
     let more = settled.columns;
     let others = settled.omissions;
@@ -65,19 +84,22 @@ pub(crate) fn plan_group(
     )
 }
 
-// All groups of n items.
-pub(crate) fn plan_groups(
+// All groups of n items, by what is noted of these.
+fn plan_noted(
     image: &[u8],
     choices: Choices,
     table: &[u8],
     source: &[u64],
+    before: &[u64],
+    index: &[u16; 4096],
     stands: &[u64],
     fragments: &mut [u64],
     columns: &mut [u64],
     n: u64,
     nf: u64,
 ) -> Progress
-    requires { ⌜ (n ≤ 1536) × (nf ≤ 1024) × (4096 ≤ length (now columns)) ⌝ }
+    requires { ⌜ (n ≤ 1536) × (nf ≤ 1024) × (4096 ≤ length (now columns))
+        × Noted (now source) n (now before) (now index) ⌝ }
     ensures { λ r. ⌜ GroupsPlan (rules choices (now (table .entry))) (now (image .entry)) (now (source .entry)) (now (stands .entry)) n nf
         (now (columns .entry)) (now (fragments .entry)) r (now (columns .exit)) (now (fragments .exit)) ⌝ }
 {
@@ -99,6 +121,8 @@ pub(crate) fn plan_groups(
                 choices,
                 table,
                 source,
+                before,
+                index,
                 stands,
                 fragments,
                 columns,
@@ -134,4 +158,38 @@ pub(crate) fn plan_groups(
         omissions: omissions_now,
         fragments: fragments_now,
     }
+}
+
+// All groups of n items.
+pub(crate) fn plan_groups(
+    image: &[u8],
+    choices: Choices,
+    table: &[u8],
+    source: &[u64],
+    stands: &[u64],
+    fragments: &mut [u64],
+    columns: &mut [u64],
+    n: u64,
+    nf: u64,
+) -> Progress
+    requires { ⌜ (n ≤ 1536) × (nf ≤ 1024) × (4096 ≤ length (now columns)) ⌝ }
+    ensures { λ r. ⌜ GroupsPlan (rules choices (now (table .entry))) (now (image .entry)) (now (source .entry)) (now (stands .entry)) n nf
+        (now (columns .entry)) (now (fragments .entry)) r (now (columns .exit)) (now (fragments .exit)) ⌝ }
+{
+    let mut before = [0u64; 3072];
+    let mut index = [0u16; 4096];
+    note_items(source, &mut before, &mut index, n);
+    plan_noted(
+        image,
+        choices,
+        table,
+        source,
+        &before,
+        &index,
+        stands,
+        fragments,
+        columns,
+        n,
+        nf,
+    )
 }

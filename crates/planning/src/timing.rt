@@ -10,6 +10,7 @@ ghost use mathlib.Core.Path.{_≡_};
 ghost use Prim.Native.Nat.{_≤_};
 ghost use lib.ListN.{length};
 ghost use Rattle.plan.specs.Columns.{ownMaster};
+ghost use Rattle.planning.specs.Noted.{Noted};
 ghost use Rattle.planning.specs.Times.{masterIn};
 ghost use Rattle.planning.specs.Timing.{TimePlan, SettlePlan};
 
@@ -65,6 +66,8 @@ pub(crate) fn add_time(
 pub(crate) fn settle(
     image: &[u8],
     source: &[u64],
+    before: &[u64],
+    index: &[u16; 4096],
     stands: &[u64],
     columns: &mut [u64],
     n: u64,
@@ -75,10 +78,11 @@ pub(crate) fn settle(
     nc: u64,
     no: u64,
 ) -> Settled
-    requires { ⌜ (n ≤ 1536) × (nc ≤ 4194304) × (no ≤ 4194303) × (4096 ≤ length (now columns)) ⌝ }
+    requires { ⌜ (n ≤ 1536) × (nc ≤ 4194304) × (no ≤ 4194303) × (4096 ≤ length (now columns))
+        × Noted (now source) n (now before) (now index) ⌝ }
     ensures { λ r. ⌜ SettlePlan (now (image .entry)) (now (source .entry)) (now (stands .entry)) n i g d records nc no (now (columns .entry)) r (now (columns .exit)) ⌝ }
 {
-    let time = time_of(image, source, stands, n, i, g, d, records);
+    let time = time_of(image, source, before, index, stands, n, i, g, d, records);
     match time {
         Time::Untimed => Settled {
             master: 0,

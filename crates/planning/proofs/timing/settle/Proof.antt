@@ -16,8 +16,8 @@ enum-told-2 c = search needs
 put-omission-requires : tie.Need-put-omission-requires
 put-omission-requires c κs = search needs
 
-add-t21 : tie.Need-add-t21
-add-t21 c = search needs
+add-t23 : tie.Need-add-t23
+add-t23 c = search needs
 
 enum-known-time : tie.Need-enum-known-time
 enum-known-time c = search needs
@@ -50,7 +50,7 @@ settle-spec =
     enum-told
     enum-told-2
     put-omission-requires
-    add-t21
+    add-t23
     enum-known-time
     add-time-requires
     returns
