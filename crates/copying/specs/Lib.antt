@@ -1,1 +1,3 @@
 pub mod CopyingLaws
+pub mod ChainIndex
+pub mod ChainIndexLaws

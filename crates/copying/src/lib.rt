@@ -1,9 +1,12 @@
 // A copied block, laid over a slice that begins at the block's place. What would lie past the slice's end is lost.
+pub mod history;
+
 use blocks::block::data_at;
 use blocks::block::kind_at;
 use blocks::block::link_at;
 use blocks::block::links_at;
 use blocks::block::size_at;
+use history::place_in;
 use placing::memo::link_by;
 use puts::copy;
 use puts::header;
@@ -18,6 +21,7 @@ ghost use Rattle.mdf.specs.Block.{sizeAt, linksAt};
 ghost use Rattle.work_words.specs.CopyWords.{historyAt};
 ghost use Rattle.placing.specs.Standing.{copiesIn};
 ghost use Rattle.placing.specs.Index.{Indexes};
+ghost use Rattle.copying.specs.ChainIndex.{ChainIndexes};
 ghost use Rattle.result.specs.Fill.{newLinks, historyLink, firstNew, copiedLinks, dataOf, copiedBytes, atBytes};
 
 const FH: u64 = 1212556067;
@@ -79,7 +83,8 @@ fn own_link(image: &[u8], memo: &[u64], index: &[u16; 4096], used: u64, a: u64) 
 }
 
 // The first link of the copy of the block at a: a block of the history chain leads to the copy of the next, the last to the new FH.
-fn first_link(
+// The block is sought from the chain's front.
+fn sought_link(
     image: &[u8],
     memo: &[u64],
     index: &[u16; 4096],
@@ -105,25 +110,59 @@ fn first_link(
     own_link(image, memo, index, used, a)
 }
 
+// The same by the index of the chain.
+fn first_link(
+    image: &[u8],
+    memo: &[u64],
+    index: &[u16; 4096],
+    chained: &[u16; 4096],
+    used: u64,
+    chain: u64,
+    fh: u64,
+    a: u64,
+) -> u64
+    ensures { λ r. ⌜ (Indexes (now (memo .entry)) used (now (index .entry)) → ChainIndexes (now (memo .entry)) chain (now (chained .entry))
+        → r ≡ firstNew (now (image .entry)) (copiesIn (now (memo .entry)) used) a
+        (historyLink a (part historyAt chain (now (memo .entry))) (copiesIn (now (memo .entry)) used) fh)) ⌝ }
+{
+    if 2048 < chain {
+        return sought_link(image, memo, index, used, chain, fh, a);
+    }
+    if memo.len() < 6400 {
+        return sought_link(image, memo, index, used, chain, fh, a);
+    }
+    let i = place_in(memo, chained, chain, a);
+    let left = chain as usize - i;
+    if left == 0 {
+        return own_link(image, memo, index, used, a);
+    }
+    if left == 1 {
+        return fh;
+    }
+    link_by(memo, index, used, memo[4352 + i + 1])
+}
+
 // The links of the copy of the block at a, n of them.
 fn put_copied_links(
     d: &mut [u8],
     image: &[u8],
     memo: &[u64],
     index: &[u16; 4096],
+    chained: &[u16; 4096],
     used: u64,
     chain: u64,
     fh: u64,
     a: u64,
     n: u64,
 )
-    ensures { λ _. ⌜ (Indexes (now (memo .entry)) used (now (index .entry)) → now (d .exit) ≡ blit 24 (copiedLinks (now (image .entry))
-        (part historyAt chain (now (memo .entry))) (copiesIn (now (memo .entry)) used) fh a n) (now (d .entry))) ⌝ }
+    ensures { λ _. ⌜ (Indexes (now (memo .entry)) used (now (index .entry)) → ChainIndexes (now (memo .entry)) chain (now (chained .entry))
+        → now (d .exit) ≡ blit 24 (copiedLinks (now (image .entry)) (part historyAt chain (now (memo .entry)))
+        (copiesIn (now (memo .entry)) used) fh a n) (now (d .entry))) ⌝ }
 {
     if n == 0 {
         return;
     }
-    put_u64(d, 24, first_link(image, memo, index, used, chain, fh, a));
+    put_u64(d, 24, first_link(image, memo, index, chained, used, chain, fh, a));
     put_links(d, 32, image, memo, index, used, a, n - 1);
 }
 
@@ -159,23 +198,25 @@ fn put_data(d: &mut [u8], at: usize, n: u64, image: &[u8], a: u64)
     copy(d, at + 8 * n as usize, image, from, size);
 }
 
-// The copy of the block at a, with its links led to the copies by their index; chain words of the history and the new FH's place.
+// The copy of the block at a, with its links led to the copies by their index; chain words of the history, their index and the new FH's place.
 pub fn put_copied(
     d: &mut [u8],
     image: &[u8],
     memo: &[u64],
     index: &[u16; 4096],
+    chained: &[u16; 4096],
     used: u64,
     chain: u64,
     fh: u64,
     a: u64,
 )
-    ensures { λ _. ⌜ (Indexes (now (memo .entry)) used (now (index .entry)) → now (d .exit) ≡ blit 0 (copiedBytes (now (image .entry))
-        (part historyAt chain (now (memo .entry))) (copiesIn (now (memo .entry)) used) fh a) (now (d .entry))) ⌝ }
+    ensures { λ _. ⌜ (Indexes (now (memo .entry)) used (now (index .entry)) → ChainIndexes (now (memo .entry)) chain (now (chained .entry))
+        → now (d .exit) ≡ blit 0 (copiedBytes (now (image .entry)) (part historyAt chain (now (memo .entry)))
+        (copiesIn (now (memo .entry)) used) fh a) (now (d .entry))) ⌝ }
 {
     let links = links_at(image, a);
     header(d, kind_at(image, a), size_at(image, a), links);
-    put_copied_links(d, image, memo, index, used, chain, fh, a, links);
+    put_copied_links(d, image, memo, index, chained, used, chain, fh, a, links);
     put_data(d, 24, links, image, a);
 }
 

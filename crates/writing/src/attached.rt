@@ -2,6 +2,7 @@
 use crate::copies::write_copies_by;
 use crate::gap::gap;
 use blocks::block::size_at;
+use copying::history::index_chain;
 use copying::put_at;
 use placing::memo::index_copies;
 ghost use mathlib.Core.List.{[], _∷_, _++_};
@@ -12,6 +13,7 @@ ghost use Rattle.mdf.specs.Block.{sizeAt};
 ghost use Rattle.work_words.specs.CopyWords.{historyAt};
 ghost use Rattle.placing.specs.Standing.{copiesIn};
 ghost use Rattle.placing.specs.Index.{Indexes};
+ghost use Rattle.copying.specs.ChainIndex.{ChainIndexes};
 ghost use Rattle.result.specs.Fill.{block, copiedBlocks, atBytes, attachmentBlocks};
 ghost use Rattle.copies_laws.specs.AttachLaws.{Moved, LaidAt, ownCopies};
 ghost use Rattle.writing.specs.Wrote.{Wrote};
@@ -56,6 +58,7 @@ pub(crate) fn write_attachment(
     image: &[u8],
     memo: &[u64],
     index: &[u16; 4096],
+    chained: &[u16; 4096],
     used: u64,
     chain: u64,
     fh: u64,
@@ -67,12 +70,12 @@ pub(crate) fn write_attachment(
 ) -> usize
     requires { ⌜ (own ≤ end) × (end ≤ used) × (used ≤ 2048) × (8192 ≤ length (now memo))
         × Placing (now image) at (part own (end - own) (copiesIn (now memo) used)) a place (length (now out))
-        × Indexes (now memo) used (now index) ⌝ }
+        × Indexes (now memo) used (now index) × ChainIndexes (now memo) chain (now chained) ⌝ }
     ensures { λ r. ⌜ Wrote at (copiedBlocks (now (image .entry)) (part historyAt chain (now (memo .entry))) (copiesIn (now (memo .entry)) used) fh
         (part own (end - own) (copiesIn (now (memo .entry)) used))
         ++ (block place (atBytes (now (image .entry)) (copiesIn (now (memo .entry)) used) a next) ∷ [])) r (now (out .entry)) (now (out .exit)) ⌝ }
 {
-    let p = write_copies_by(out, at, image, memo, index, used, chain, fh, own, end);
+    let p = write_copies_by(out, at, image, memo, index, chained, used, chain, fh, own, end);
     write_at(out, p, image, memo, index, used, a, place, next)
 }
 
@@ -94,6 +97,7 @@ pub(crate) fn write_attachments(
         (attachmentsIn (now (memo .entry)) first count)) r (now (out .entry)) (now (out .exit)) ⌝ }
 {
     let index = index_copies(memo, used);
+    let chained = index_chain(memo, chain);
     let mut i: u64 = 0;
     let mut own = first;
     let mut p = at;
@@ -109,6 +113,7 @@ pub(crate) fn write_attachments(
             image,
             memo,
             &index,
+            &chained,
             used,
             chain,
             fh,

@@ -26,12 +26,12 @@ same-length : tie.Need-same-length
 same-length c = search needs
 
 returns : tie.Need-returns
-returns c = λ t. copied-laid _ _ _ _ _ _
+returns c = λ t x. copied-laid _ _ _ _ _ _
     (c .before .before .before .before .before .before .before .before .before .before .before .before .before .before .links-at .ensures)
     (c .before .before .before .before .before .before .before .before .before .before .before .before .kind-at .ensures)
     (c .before .before .before .before .before .before .before .before .before .before .before .size-at .ensures)
     (c .before .before .before .before .before .before .before .before .before .before .header .ensures)
-    (c .before .before .before .before .before .before .put-copied-links .ensures t) (c .before .before .put-data .ensures)
+    (c .before .before .before .before .before .before .put-copied-links .ensures t x) (c .before .before .put-data .ensures)
 
 pub put-copied-spec : {M : Type 1} → statement M
 put-copied-spec =

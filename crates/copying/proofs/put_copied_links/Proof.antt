@@ -6,7 +6,7 @@ use Rattle.copying.proofs.put_copied_links.Statement.{statement}
 use Rattle.copying.proofs.put_copied_links.Tie as tie
 
 returns : tie.Need-returns
-returns c = λ t. copied-none _ _ _ _ _ _ _ (omega arith)
+returns c = λ t x. copied-none _ _ _ _ _ _ _ (omega arith)
 
 first-link-requires : tie.Need-first-link-requires
 first-link-requires c κs = search needs
@@ -24,8 +24,8 @@ same-length : tie.Need-same-length
 same-length c = search needs
 
 returns-2 : tie.Need-returns-2
-returns-2 c = λ t. copied-some _ _ _ _ _ _ _ (omega arith)
-    (c .before .before .before .before .before .before .before .first-link .ensures t)
+returns-2 c = λ t x. copied-some _ _ _ _ _ _ _ (omega arith)
+    (c .before .before .before .before .before .before .before .first-link .ensures t x)
     (c .before .before .before .before .before .before .put-u64 .ensures) (c .before .before .put-links .ensures t)
 
 pub put-copied-links-spec : {M : Type 1} → statement M

@@ -15,6 +15,7 @@ write-copies-by-requires c κs = (
   laid-to _ _ _ _ _
       (c .before .before .before .before .pre .4 .laid) (omega (arith, c .before .before .before .before .pre .4 .ends)),
   c .before .before .before .before .pre .5,
+  c .before .before .before .before .pre .6,
 )
 
 write-at-requires : tie.Need-write-at-requires

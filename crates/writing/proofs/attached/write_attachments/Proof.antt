@@ -13,19 +13,23 @@ use Rattle.writing.proofs.attached.write_attachments.Statement.{stateme
 use Rattle.writing.proofs.attached.write_attachments.Tie as tie
 
 abbrev Inv-loop : tie.InvT-loop
-Inv-loop out₀ at image memo used chain fh first count index i₀ own₀ p₀ out i own p =
+Inv-loop out₀ at image memo used chain fh first count index chained i₀ own₀ p₀ out i own p =
     AttachmentsLeft image memo (part historyAt chain memo) used fh at
     (attachmentBlocks image (part historyAt chain memo) (copiesIn memo used) fh (attachmentsIn memo first count)) out₀ count i
     own p out
 
 abbrev μ-loop : tie.MeasureT-loop
-μ-loop out₀ at image memo used chain fh first count index i₀ own₀ p₀ out i own p = count - i
+μ-loop out₀ at image memo used chain fh first count index chained i₀ own₀ p₀ out i own p = count - i
 
 index-copies-requires : tie.Need-index-copies-requires Inv-loop μ-loop
 index-copies-requires c κs = search needs
 
+index-chain-requires : tie.Need-index-chain-requires Inv-loop μ-loop
+index-chain-requires c κs = search needs
+
 loop-holds : tie.Need-loop-holds Inv-loop μ-loop
-loop-holds c = attachments-begin _ _ _ _ _ _ _ _ _ (c .before .before .before .before .pre .0) (c .before .before .before .before .pre .4)
+loop-holds c = attachments-begin _ _ _ _ _ _ _ _ _ (c .before .before .before .before .before .pre .0)
+    (c .before .before .before .before .before .pre .4)
 
 mul-j : tie.Need-mul-j Inv-loop μ-loop
 mul-j c = search needs
@@ -65,21 +69,22 @@ add-next-place c = search needs
 
 next-place-requires : tie.Need-next-place-requires Inv-loop μ-loop
 next-place-requires c κs = (
-  c .before .before .before .before .before .before .before .before .before .pre .2,
-  c .before .before .before .before .before .before .before .before .before .pre .3,
+  c .before .before .before .before .before .before .before .before .before .before .pre .2,
+  c .before .before .before .before .before .before .before .before .before .before .pre .3,
 )
 
 write-attachment-requires : tie.Need-write-attachment-requires Inv-loop μ-loop
 write-attachment-requires c κs = (
   omega arith,
-  next-end (c .before .before .before .before .before .before .before .loop .inv)
-      (c .before .before .before .before .before .before .loop-test .taken),
-  c .before .before .before .before .before .before .before .before .before .before .before .before .pre .1,
-  c .before .before .before .before .before .before .before .before .before .before .before .before .pre .3,
+  next-end (c .before .before .before .before .before .before .before .before .loop .inv)
+      (c .before .before .before .before .before .before .before .loop-test .taken),
+  c .before .before .before .before .before .before .before .before .before .before .before .before .before .before .pre .1,
+  c .before .before .before .before .before .before .before .before .before .before .before .before .before .before .pre .3,
   next-placing
-      (c .before .before .before .before .before .before .before .loop .inv) (c .before .before .before .before .before .before .loop-test .taken)
-      refl,
-  c .before .before .before .before .before .before .before .before .index-copies .ensures,
+      (c .before .before .before .before .before .before .before .before .loop .inv)
+      (c .before .before .before .before .before .before .before .loop-test .taken) refl,
+  c .before .before .before .before .before .before .before .before .before .before .index-copies .ensures,
+  c .before .before .before .before .before .before .before .before .before .index-chain .ensures,
 )
 
 add-i : tie.Need-add-i Inv-loop μ-loop
@@ -89,9 +94,9 @@ loop-less : tie.Need-loop-less Inv-loop μ-loop
 loop-less c = search needs
 
 loop-again : tie.Need-loop-again Inv-loop μ-loop
-loop-again c = attachments-turn (c .before .before .before .before .before .before .before .before .before .before .loop .inv)
-    (c .before .before .before .before .before .before .before .before .before .loop-test .taken) refl
-    (c .before .before .before .before .before .next-place .ensures) (c .before .before .write-attachment .ensures) (search needs)
+loop-again c = attachments-turn (c .before .before .before .before .before .before .before .before .before .before .before .loop .inv)
+    (c .before .before .before .before .before .before .before .before .before .before .loop-test .taken) refl
+    (c .before .before .before .before .before .before .next-place .ensures) (c .before .before .write-attachment .ensures) (search needs)
 
 same-length : tie.Need-same-length Inv-loop μ-loop
 same-length c = search needs
@@ -106,6 +111,7 @@ write-attachments-spec =
     Inv-loop
     μ-loop
     index-copies-requires
+    index-chain-requires
     loop-holds
     mul-j
     add-j

@@ -11,13 +11,13 @@ use Rattle.writing.proofs.copies.write_copies_by.Statement.{statement}
 use Rattle.writing.proofs.copies.write_copies_by.Tie as tie
 
 abbrev Inv-loop : tie.InvT-loop
-Inv-loop out₀ at image memo index used chain fh from to i₀ p₀ out i p =
+Inv-loop out₀ at image memo index chained used chain fh from to i₀ p₀ out i p =
     CopiesLeft image memo (part historyAt chain memo) (copiesIn memo used) fh at
     (copiedBlocks image (part historyAt chain memo) (copiesIn memo used) fh (part from (to - from) (copiesIn memo used))) out₀ to
     i p out
 
 abbrev μ-loop : tie.MeasureT-loop
-μ-loop out₀ at image memo index used chain fh from to i₀ p₀ out i p = to - i
+μ-loop out₀ at image memo index chained used chain fh from to i₀ p₀ out i p = to - i
 
 loop-holds : tie.Need-loop-holds Inv-loop μ-loop
 loop-holds c = copies-begin _ _ _ _ _ _ _ _ _ (c .before .before .before .pre .0) (c .before .before .before .pre .1)
@@ -44,7 +44,8 @@ shared-slice-read-place c = search needs
 write-copy-requires : tie.Need-write-copy-requires Inv-loop μ-loop
 write-copy-requires c κs =
     let n = next-copy (c .before .before .before .before .loop .inv) (c .before .before .before .loop-test .taken) in
-    (n .begins, n .whole, n .ends, c .before .before .before .before .before .before .before .before .pre .5)
+    (n .begins, n .whole, n .ends, c .before .before .before .before .before .before .before .before .pre .5,
+    c .before .before .before .before .before .before .before .before .pre .6)
 
 add-i : tie.Need-add-i Inv-loop μ-loop
 add-i c = search needs

@@ -39,7 +39,8 @@ returns c =
     (c .before .before .before .before .before .before .before .before .before .before .before .before .pre .1) ∙ sym
     (c .size-at .ensures))
     (c .before .before .before .before .before .before .before .gap .ensures) (lent-is _ _ _ _
-    (c .before .before .before .put-copied .ensures (c .before .before .before .before .before .before .before .before .before .before .before .before .pre .3)))
+    (c .before .before .before .put-copied .ensures (c .before .before .before .before .before .before .before .before .before .before .before .before .pre .3)
+    (c .before .before .before .before .before .before .before .before .before .before .before .before .pre .4)))
 
 pub write-copy-spec : {M : Type 1} → statement M
 write-copy-spec =
