@@ -24,7 +24,7 @@ extern "C" {
 #endif
 
 /* Of library and command. The command writes it into the history entry of each result. */
-#define SITAUNGO_VERSION "1.3.0"
+#define SITAUNGO_VERSION "1.4.0"
 
 /* ---- lengths of the slices */
 
@@ -107,7 +107,10 @@ enum {
     SITAUNGO_REFUSED_UNIT = 26,
     /* The table of treatments has a wrong count or length, a type over 6 or twice, a treatment over 2, or one that its type can't have; 0.
      * Of a conversion, after 26 and before 3. */
-    SITAUNGO_REFUSED_TYPES = 27
+    SITAUNGO_REFUSED_TYPES = 27,
+    /* A reference of a channel to an attachment leads to none of the header's, or the channel has fewer links than its count of references demands; offset
+     * of the CN. Of a conversion that keeps references, where the channel's column is planned. */
+    SITAUNGO_REFUSED_REFERENCE = 28
 };
 
 /* ---- why a channel is left out */
@@ -126,7 +129,7 @@ enum {
 /* What a conversion answers: where accepted, the report's seven counts, number and place 0; else number and place, the counts 0. */
 struct sitaungo_outcome {
     bool accepted;
-    uint64_t number;             /* the refusal: 1 to 21, 26, 27 */
+    uint64_t number;             /* the refusal: 1 to 21, 26 to 28 */
     uint64_t place;              /* its place */
     uint64_t source_groups;      /* groups of the recording, those of VLSD storage not counted */
     uint64_t time_groups;        /* time columns */
@@ -158,6 +161,7 @@ struct sitaungo_outcome sitaungo_convert(
 struct sitaungo_options {
     uint64_t unit; /* each column's first data block and each SD start on the next multiple of it: a power of two from 8 to 4096 (26); built in is 8 */
     bool share;    /* equal time columns of several groups become one; built in is false */
+    bool photos;   /* columns keep their channels' references to attachments, such as photos of a sensor (28); built in is false */
 };
 
 /* What a table of treatments says of a channel type. */
@@ -167,7 +171,7 @@ enum {
     SITAUNGO_STORE_AS_0 = 2 /* they become columns of type 0 with the same records, those of type 1 without their signal data */
 };
 
-/* The same by what is chosen: sitaungo_convert is this call with unit 8, nothing shared and no table.
+/* The same by what is chosen: sitaungo_convert is this call with unit 8, nothing shared, no references kept and no table.
  *
  * Payloads, signal data, omissions and the report but for `file_size` don't depend on the unit. Blocks of one column stay 24 bytes plus payload apart,
  * metadata and what follows the last block stay at multiples of 8, a column without blocks and SD moves nothing; gaps have under `unit` bytes and are
@@ -178,6 +182,14 @@ enum {
  * equal to none) and the same bytes in every record. The later ones get no time column: signals that have or use their time name the first one's, and what is linked
  * only to their masters isn't copied. `shared_time_groups` counts them. Then the units of all such masters are read before anything is planned (4 for one past
  * the recording's end or under 24 bytes), and the data of groups with equal keys is checked (4, 14, 15) also where no column needs it.
+ *
+ * With `photos` the CN of a column has the references of its channel to attachments: as many as the 16-bit number at data byte 22 of the recording's CN
+ * says, which stands at that byte of the result's too, and in the same order, from the ninth link on, each the place of the attachment in the result, 0
+ * where the recording has 0. Such a CN has 160 bytes and 8 for each reference, which `metadata_size` and `file_size` count; the rest of the report, the
+ * omissions and the listing are as without. Then the header's chain of attachments is looked through before anything is planned and before the units that
+ * `share` reads (of each AT its header 4, 18, the whole 4, 19), and every column is checked when it is planned (28): a signal after what it is omitted for
+ * and before its signal data is followed, a time column where it is first needed. Channels that are omitted or that another stands for aren't looked at; a
+ * column that stands for others has its own channel's references.
  *
  * `types` is the table of treatments: a count n from 1 to 7, then n channel types, then n treatments, a byte each. Types that it doesn't list are treated
  * as built in, and with a length of 0 all are: type 4 is omitted (reason 4), type 5 stored as type 0, any other kept. Types 2 and 3 can only be kept, type 5
@@ -202,7 +214,7 @@ size_t sitaungo_list(
     uint64_t *columns, size_t columns_length, uint64_t *copies, size_t copies_length,
     uint8_t *lines, size_t lines_length);
 
-/* The same of the conversion by what is chosen: sitaungo_list is this call with unit 8, nothing shared and no table. */
+/* The same of the conversion by what is chosen: sitaungo_list is this call with unit 8, nothing shared, no references kept and no table. */
 size_t sitaungo_list_with(
     const uint8_t *image, size_t image_length, uint64_t size,
     const uint8_t *ident, size_t ident_length, const uint8_t *text, size_t text_length, struct sitaungo_options options,

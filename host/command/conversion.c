@@ -91,7 +91,7 @@ uint8_t *map_output(int file, uint64_t size)
 
 static struct sitaungo_options options_of(const struct choices *c)
 {
-    return (struct sitaungo_options){.unit = c->unit, .share = c->share_time};
+    return (struct sitaungo_options){.unit = c->unit, .share = c->share_time, .photos = c->photos};
 }
 
 static struct sitaungo_outcome convert_with(

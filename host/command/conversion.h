@@ -15,7 +15,7 @@ enum { TYPES_KEPT = SITAUNGO_TYPES_BYTES + 1 };
 /* What the words choose of a result. */
 struct choices {
     uint64_t block_size, unit;
-    bool share_time;
+    bool share_time, photos;
     uint8_t types[TYPES_KEPT]; /* the table of treatments */
     size_t types_length;
 };

@@ -35,6 +35,12 @@ void json_number(FILE *to, const char *name, uint64_t value)
     fprintf(to, "%" PRIu64, value);
 }
 
+void json_bool(FILE *to, const char *name, bool value)
+{
+    json_name(to, name);
+    fputs(value ? "true" : "false", to);
+}
+
 void json_text(FILE *to, const char *name, const char *text)
 {
     json_name(to, name);

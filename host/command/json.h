@@ -2,6 +2,7 @@
 #ifndef JSON_H
 #define JSON_H
 
+#include <stdbool.h>
 #include <stddef.h>
 #include <stdint.h>
 #include <stdio.h>
@@ -12,6 +13,7 @@ void json_string(FILE *to, const void *bytes, size_t length);
 /* , "name": and a value. A text that is NULL is null. */
 void json_name(FILE *to, const char *name);
 void json_number(FILE *to, const char *name, uint64_t value);
+void json_bool(FILE *to, const char *name, bool value);
 void json_text(FILE *to, const char *name, const char *text);
 
 #endif

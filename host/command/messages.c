@@ -49,6 +49,8 @@ static const char *const refusals[] = {
     [SITAUNGO_REFUSED_UNIT] = "the unit is no power of two from 8 to 4096",
     [SITAUNGO_REFUSED_TYPES] = "the table of treatments has a wrong count or length, a type over 6 or twice, a treatment over 2, or one that its type "
         "can't have",
+    [SITAUNGO_REFUSED_REFERENCE] = "a channel's reference to an attachment leads to none of the recording's attachments, or the channel has fewer links than "
+        "it has references",
 };
 
 static const char *const reasons[] = {

@@ -30,6 +30,7 @@ static const char usage[] =
     "  --force             replace RESULT if it exists\n"
     "  --json FILE         write what was done, a line of JSON for each recording; - is standard output\n"
     "  --listing           print a line for each column and each channel left out\n"
+    "  --photos            keep references of channels to attachments\n"
     "  --quiet             print neither phases nor the line of success\n"
     "  --resume            pass over a RESULT that is there and is the conversion of RECORDING\n"
     "  --sha256            print the digest of the stored bytes, read back, as sha256sum does\n"
@@ -79,15 +80,15 @@ static void read_types(struct choices *c, const char *path)
     fclose(file);
 }
 
-enum { WORD = 1, BLOCK_SIZE = 256, CHECK, COMPLETE, FORCE, JSON, LISTING, QUIET, RESUME, SHA256, SHARE_TIME, TYPES, UNIT, VERIFY, HELP, VERSION };
+enum { WORD = 1, BLOCK_SIZE = 256, CHECK, COMPLETE, FORCE, JSON, LISTING, PHOTOS, QUIET, RESUME, SHA256, SHARE_TIME, TYPES, UNIT, VERIFY, HELP, VERSION };
 
 static const struct option known[] = {
     {"block-size", required_argument, NULL, BLOCK_SIZE}, {"check", no_argument, NULL, CHECK}, {"complete", no_argument, NULL, COMPLETE},
     {"folder", required_argument, NULL, 'd'}, {"force", no_argument, NULL, FORCE}, {"json", required_argument, NULL, JSON},
-    {"listing", no_argument, NULL, LISTING}, {"quiet", no_argument, NULL, QUIET}, {"resume", no_argument, NULL, RESUME},
-    {"sha256", no_argument, NULL, SHA256}, {"share-time", no_argument, NULL, SHARE_TIME}, {"types", required_argument, NULL, TYPES},
-    {"unit", required_argument, NULL, UNIT}, {"verify", no_argument, NULL, VERIFY}, {"help", no_argument, NULL, HELP},
-    {"version", no_argument, NULL, VERSION}, {NULL, 0, NULL, 0},
+    {"listing", no_argument, NULL, LISTING}, {"photos", no_argument, NULL, PHOTOS}, {"quiet", no_argument, NULL, QUIET},
+    {"resume", no_argument, NULL, RESUME}, {"sha256", no_argument, NULL, SHA256}, {"share-time", no_argument, NULL, SHARE_TIME},
+    {"types", required_argument, NULL, TYPES}, {"unit", required_argument, NULL, UNIT}, {"verify", no_argument, NULL, VERIFY},
+    {"help", no_argument, NULL, HELP}, {"version", no_argument, NULL, VERSION}, {NULL, 0, NULL, 0},
 };
 
 static void take(struct options *o, int option)
@@ -101,6 +102,7 @@ static void take(struct options *o, int option)
     case FORCE: o->force = true; break;
     case JSON: o->json = optarg; break;
     case LISTING: o->listing = true; break;
+    case PHOTOS: o->choices.photos = true; break;
     case QUIET: o->quiet = true; break;
     case RESUME: o->resume = true; break;
     case SHA256: o->digest = true; break;

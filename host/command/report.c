@@ -173,8 +173,8 @@ static void put_choices(FILE *to, const struct choices *c)
 {
     json_number(to, "block_size", c->block_size);
     json_number(to, "unit", c->unit);
-    json_name(to, "share_time");
-    fputs(c->share_time ? "true" : "false", to);
+    json_bool(to, "share_time", c->share_time);
+    json_bool(to, "photos", c->photos);
     json_name(to, "types");
     fputc('[', to);
     for (size_t i = 0; i < c->types_length; i++)

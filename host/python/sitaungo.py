@@ -780,7 +780,8 @@ def _option(name, value):
 
 def convert(recording, result, **choices):
     """Converts a recording into a column file by the command mdf-columns, and gives its report (README, --json). Choices are the command's options:
-    block_size, complete, force, resume, sha256, share_time (equal times of several groups become one column), types (the file of a table of treatments), unit, verify and what else it has.
+    block_size, complete, force, photos (columns keep references to attachments), resume, sha256, share_time (equal times of several groups become one
+    column), types (the file of a table of treatments), unit, verify and what else it has.
 
     A recording that is not accepted is Refused; any other end but status 0 is CommandFailed, with the status."""
     words = [word for name, value in choices.items() for word in _option(name, value)]

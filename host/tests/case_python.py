@@ -10,6 +10,7 @@ import sys
 
 import rows
 from case_damaged import damaged
+from case_photos import EVERY_FORM, Group, Recording
 from common import BIG, BUILT, EXAMPLE, LIBRARY, ROOT, SAMPLE, NotTried, Run, cc, compiler, converts, expect, folder, place, read, run, test, write
 from mdf import block
 
@@ -69,6 +70,14 @@ def python_records_over_blocks():
     with folder() as here:
         desk("columns", converted(SAMPLE, os.path.join(here, "r.mf4"), "--block-size", 64))
         return desk("split", converted(EXAMPLE, os.path.join(here, "s.mf4"), "--block-size", 64))
+
+
+@test
+def python_columns_with_references():
+    """A result whose CN are longer by references to attachments."""
+    with folder() as here:
+        recording = write(os.path.join(here, "a.mf4"), Recording(Group(EVERY_FORM)).image)
+        return desk("columns", converted(recording, os.path.join(here, "r.mf4"), "--photos"))
 
 
 @test

@@ -24,7 +24,8 @@ def report_of_a_conversion():
         size = os.path.getsize(os.path.join(here, "r.mf4"))
         expect(d["mdf-columns"] == run("--version").printed.split()[1] and d["outcome"] == "converted" and d["status"] == 0, d)
         expect((d["recording"], d["recording_bytes"], d["result"]) == (SAMPLE, os.path.getsize(SAMPLE), "r.mf4"), d)
-        expect((d["block_size"], d["unit"], d["share_time"], d["types"]) == (4194304, 8, False, []) and re.fullmatch(r"20\d\d-\d\d-\d\dT\d\d:\d\d:\d\d\.\d{9}Z", d["time"]), d)
+        expect((d["block_size"], d["unit"], d["share_time"], d["photos"], d["types"]) == (4194304, 8, False, False, []), d)
+        expect(re.fullmatch(r"20\d\d-\d\d-\d\dT\d\d:\d\d:\d\d\.\d{9}Z", d["time"]), d)
         expect(list(d["report"]) == COUNTS and d["report"]["file_size"] == size and d["report"]["signal_groups"] == 296, d["report"])
         check_columns(d["columns"])
         (left_out,) = d["omissions"]

@@ -533,8 +533,9 @@ def converting(recording, sample, refused, folder):
     table = os.path.join(folder, "table")
     with open(table, "wb") as file:
         file.write(bytes((1, 0, 1)))
-    report = sitaungo.convert(recording, result, force=True, types=table, unit=64, share_time=True)
-    expect(report["types"] == [1, 0, 1] and report["unit"] == 64 and report["share_time"] is True and [o["reason"] for o in report["omissions"]] == [8], report)
+    report = sitaungo.convert(recording, result, force=True, types=table, unit=64, share_time=True, photos=True)
+    expect(report["types"] == [1, 0, 1] and report["unit"] == 64 and report["share_time"] is True and report["photos"] is True, report)
+    expect([o["reason"] for o in report["omissions"]] == [8], report)
     why = raises(sitaungo.Refused, lambda: sitaungo.convert(recording, result, force=True, types=recording))
     expect(why.number == 27 and why.place == 0 and "table of treatments" in why.words, why)
     expect(sitaungo.convert(recording, result, force=True, unit=4096)["unit"] == 4096, "the unit")

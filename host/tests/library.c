@@ -11,6 +11,7 @@
 
 _Static_assert(sizeof(struct sitaungo_outcome) == 80, "the struct's size");
 _Static_assert(sizeof(struct sitaungo_options) == 16 && offsetof(struct sitaungo_options, share) == 8, "the choices' size");
+_Static_assert(offsetof(struct sitaungo_options, photos) == 9, "the choice of references");
 _Static_assert(sizeof(struct sitaungo_request) == 32 && sizeof(struct sitaungo_plotting) == 32, "a plot's structs");
 
 enum { ROOM = 4096, WIDE = 16384, GUARD = 0xA5 };
@@ -23,7 +24,7 @@ static int checks, wrong;
 struct call {
     size_t image, ident, text, work[4], out, list;
     uint64_t size, unit;
-    bool chooses, share;
+    bool chooses, share, photos;
     const uint8_t *types;
     size_t types_length;
 };
@@ -62,8 +63,8 @@ static struct sitaungo_outcome run(struct call c)
     memset(list, GUARD, sizeof list);
     memset(work, GUARD, sizeof work);
     if (c.chooses)
-        return sitaungo_convert_with(image, c.image, c.size, ident, c.ident, text, c.text, 0, (struct sitaungo_options){c.unit, c.share}, c.types, c.types_length,
-            work[0], c.work[0], work[1], c.work[1], work[2], c.work[2], work[3], c.work[3], out, c.out, list, c.list);
+        return sitaungo_convert_with(image, c.image, c.size, ident, c.ident, text, c.text, 0, (struct sitaungo_options){c.unit, c.share, c.photos},
+            c.types, c.types_length, work[0], c.work[0], work[1], c.work[1], work[2], c.work[2], work[3], c.work[3], out, c.out, list, c.list);
     return sitaungo_convert(image, c.image, c.size, ident, c.ident, text, c.text, 0, work[0], c.work[0], work[1], c.work[1], work[2], c.work[2],
         work[3], c.work[3], out, c.out, list, c.list);
 }
@@ -311,16 +312,23 @@ static void try_shared(void)
 
 /* ---- listings by what is chosen */
 
-static void lists_with(uint64_t unit, bool share, const struct table *t, uint64_t room, const char *expected)
+static void lists_by(struct sitaungo_options o, const struct table *t, uint64_t room, const char *expected)
 {
     size_t n = strlen(expected);
     memset(lines, GUARD, sizeof lines);
-    size_t length = sitaungo_list_with(image, image_length, 64, ident, SITAUNGO_IDENT_BYTES, text, 7, (struct sitaungo_options){unit, share}, t->bytes, t->length,
+    size_t length = sitaungo_list_with(image, image_length, 64, ident, SITAUNGO_IDENT_BYTES, text, 7, o, t->bytes, t->length,
         room, 2049, work[0], SITAUNGO_WORK_WORDS, work[1], SITAUNGO_WORK_WORDS, work[2], SITAUNGO_WORK_WORDS, work[3], SITAUNGO_WORK_WORDS, lines,
         sizeof lines);
     check(length == n && memcmp(lines, expected, n) == 0 && all(lines + n, sizeof lines - n, GUARD), expected);
     for (int i = 0; i < 4; i++)
         check(all(work[i], 8 * SITAUNGO_WORK_WORDS, 0), "work words after a listing");
+}
+
+/* The worked example has no attachments and no references. */
+static void lists_with(uint64_t unit, bool share, const struct table *t, uint64_t room, const char *expected)
+{
+    lists_by((struct sitaungo_options){unit, share, false}, t, room, expected);
+    lists_by((struct sitaungo_options){unit, share, true}, t, room, expected);
 }
 
 static void try_listed(const char *listing)
@@ -405,6 +413,179 @@ static void try_plot(void)
     check(ends(plot(file, 1, 80), 5, 0, 0) && served(plot(file, 0, 0)), "an image that is no file");
 }
 
+/* ---- references to attachments */
+
+/* Where blocks of the recording below stand, and those of its result. */
+enum { CHAINED = 168, OUTSIDE = 272, CHANNEL = 368, RESULT_CN = 424, RESULT_DL = 600, WITHOUT = 776, WITH = 792 };
+
+static void put64(uint8_t *to, uint64_t number)
+{
+    for (int i = 0; i < 8; i++)
+        to[i] = (uint8_t)(number >> 8 * i);
+}
+
+static uint64_t get64(const uint8_t *from)
+{
+    uint64_t number = 0;
+    for (int i = 7; i >= 0; i--)
+        number = number << 8 | from[i];
+    return number;
+}
+
+static void put_link(size_t block, size_t number, uint64_t to)
+{
+    put64(image + block + 24 + 8 * number, to);
+}
+
+/* A block whose links and data are 0; the place behind it. */
+static size_t put_block(size_t at, const char *kind, size_t links, size_t data)
+{
+    memset(image + at, 0, 24 + 8 * links + data);
+    memcpy(image + at, kind, 4);
+    put64(image + at + 8, 24 + 8 * links + data);
+    put64(image + at + 16, links);
+    return at + 24 + 8 * links + data;
+}
+
+/* A channel of this type with so many links and this count of references, of which the ninth and tenth link lead there. */
+struct photographed {
+    uint8_t type;
+    size_t links, count;
+    uint64_t references[2], signal;
+};
+
+/* One group of three records of a byte; the header's chain has the AT at 168, that at 272 stands outside. */
+static void record(struct photographed p)
+{
+    memset(image, 0, sizeof image);
+    memcpy(image, "MDF     4.10    ", 16);
+    put_block(64, "##HD", 6, 32);
+    put_block(CHAINED, "##AT", 4, 48);
+    memcpy(image + CHAINED + 96, "a photo", 7);
+    put_block(OUTSIDE, "##AT", 4, 40);
+    size_t data = CHANNEL + 24 + 8 * p.links;
+    size_t cg = put_block(CHANNEL, "##CN", p.links, 72);
+    size_t dg = put_block(cg, "##CG", 6, 32);
+    size_t dt = put_block(dg, "##DG", 4, 8);
+    image_length = put_block(dt, "##DT", 0, 3);
+    for (size_t i = 8; i < p.links && i < 10; i++)
+        put_link(CHANNEL, i, p.references[i - 8]);
+    put_link(CHANNEL, 5, p.signal);
+    image[data] = p.type;
+    image[data + 8] = 8;
+    image[data + 22] = (uint8_t)p.count;
+    image[data + 23] = (uint8_t)(p.count >> 8);
+    image[cg + 24 + 48 + 24] = 1;
+    put_link(cg, 1, CHANNEL);
+    put_link(dg, 1, cg);
+    put_link(dg, 2, dt);
+    put_link(64, 0, dg);
+    put_link(64, 3, CHAINED);
+}
+
+static struct call with_photos(void)
+{
+    struct call c = with_unit(8);
+    c.photos = true;
+    return c;
+}
+
+/* The CN of the result, that many references in it, and behind it a DL. */
+static int has_references(size_t count)
+{
+    const uint8_t *cn = out + RESULT_CN, *data = cn + 24 + 8 * (8 + count);
+    return memcmp(cn, "##CN", 4) == 0 && get64(cn + 8) == 160 + 8 * count && get64(cn + 16) == 8 + count && data[22] == count && data[23] == 0 &&
+        memcmp(cn + 160 + 8 * count, "##DL", 4) == 0;
+}
+
+static const struct photographed two_references = {.links = 10, .count = 2, .references = {CHAINED, 0}};
+
+/* A reference and a 0: 16 bytes more, a link to the moved AT; without the choice neither is looked at. */
+static void try_references(void)
+{
+    static uint8_t usual_bytes[WIDE];
+    record(two_references);
+    struct sitaungo_outcome a = run(usual());
+    check(a.accepted && a.metadata_size == 640 && a.file_size == WITHOUT && has_references(0), "references that aren't kept");
+    memcpy(usual_bytes, out, sizeof out);
+    check(run(with_unit(8)).accepted && memcmp(out, usual_bytes, sizeof out) == 0, "the choice off");
+    struct sitaungo_outcome b = run(with_photos());
+    check(b.accepted && b.metadata_size == 656 && b.file_size == WITH && has_references(2), "two references");
+    check(get64(out + RESULT_CN + 88) == 688 && get64(out + RESULT_CN + 96) == 0, "a reference and a 0");
+    check(memcmp(out + 688, image + CHAINED, 104) == 0 && get64(out + 64 + 24 + 24) == 688, "the moved attachment");
+    check(get64(out + RESULT_DL + 32) == 656 && memcmp(out + 656, usual_bytes + 640, 32) == 0, "the column's data");
+    check(all(out + WITH, sizeof out - WITH, GUARD) && list[0] == 0, "bytes past the result");
+    a.metadata_size = b.metadata_size, a.file_size = b.file_size;
+    check(memcmp(&a.source_groups, &b.source_groups, 7 * sizeof(uint64_t)) == 0, "the rest of the report");
+    for (int i = 0; i < 4; i++)
+        check(all(work[i], 8 * SITAUNGO_WORK_WORDS, 0), "work words after a conversion");
+    uint8_t records[3];
+    check(sitaungo_read_range(out, WITH, 0, 0, 3, records, 3).accepted && all(records, 3, 0), "records of a column with references");
+    lists_by((struct sitaungo_options){8, false, true}, &none, WITH, "columns 1\n0 s 1 0 3 1 3 -\nomitted 0\n");
+    lists_by((struct sitaungo_options){8, false, true}, &none, WITH - 1, "refused 20 place 792\n");
+    struct call c = with_photos();
+    c.out = WITH - 1;
+    refuses(c, SITAUNGO_REFUSED_OUTPUT, WITH, "an output one byte short for the references");
+    c = with_photos();
+    c.unit = 4096;
+    check(run(c).file_size == 4128 + 104 && get64(out + RESULT_CN + 88) == 4128 && memcmp(out + 4128, image + CHAINED, 104) == 0, "references with a unit");
+    c.unit = 12;
+    refuses(c, SITAUNGO_REFUSED_UNIT, 0, "a bad unit with references");
+    record((struct photographed){.links = 11, .count = 2, .references = {CHAINED, CHAINED}});
+    check(run(with_photos()).accepted && has_references(2), "a link more than the references");
+    check(get64(out + RESULT_CN + 88) == 688 && get64(out + RESULT_CN + 96) == 688, "one attachment twice");
+    record((struct photographed){.links = 10, .references = {OUTSIDE, 1 << 20}});
+    check(run(with_photos()).accepted && has_references(0), "links behind a count of 0");
+}
+
+/* 28 of both kinds; the same recordings are accepted without the choice. */
+static void try_bad_references(void)
+{
+    static const struct photographed bad[] = {
+        {.links = 10, .count = 2, .references = {CHAINED, OUTSIDE}}, {.links = 10, .count = 2, .references = {1 << 20, 0}},
+        {.links = 10, .count = 2, .references = {0, CHAINED + 8}}, {.links = 10, .count = 1, .references = {CHANNEL, CHAINED}},
+        {.links = 9, .count = 1, .references = {UINT64_MAX, 0}}, {.links = 9, .count = 2, .references = {CHAINED, 0}}, {.links = 8, .count = 1},
+        {.links = 10, .count = 3, .references = {0, 0}}, {.links = 10, .count = 65535}, {.links = 10, .count = 258, .references = {CHAINED, 0}},
+    };
+    for (size_t i = 0; i < sizeof bad / sizeof *bad; i++) {
+        record(bad[i]);
+        check(run(usual()).accepted && run(with_unit(8)).accepted && has_references(0), "bad references that aren't kept");
+        refuses(with_photos(), SITAUNGO_REFUSED_REFERENCE, CHANNEL, "bad references");
+        lists_by((struct sitaungo_options){8, false, true}, &none, WIDE, "refused 28 place 368\n");
+    }
+}
+
+/* The header's attachments first, then of a column 28 before its signal data is followed. */
+static void try_order_of_references(void)
+{
+    struct photographed p = two_references;
+    p.type = 1, p.signal = 64;
+    record(p);
+    refuses(with_unit(8), SITAUNGO_REFUSED_DATA_KIND, 64, "signal data that is none");
+    refuses(with_photos(), SITAUNGO_REFUSED_DATA_KIND, 64, "signal data that is none, references sound");
+    put_link(CHANNEL, 9, OUTSIDE);
+    refuses(with_photos(), SITAUNGO_REFUSED_REFERENCE, CHANNEL, "a reference before signal data");
+    put64(image + CHAINED + 16, 3);
+    refuses(with_unit(8), SITAUNGO_REFUSED_DATA_KIND, 64, "an attachment after signal data");
+    refuses(with_photos(), SITAUNGO_REFUSED_ATTACHMENT, CHAINED, "an attachment before references");
+    put64(image + CHAINED + 16, 4);
+    put64(image + CHAINED + 8, 1 << 20);
+    refuses(with_photos(), SITAUNGO_REFUSED_PAST_END, CHAINED, "an attachment past the end before references");
+    put64(image + CHAINED + 8, UINT64_C(1) << 40);
+    put64(image + CHAINED + 16, 33554429);
+    refuses(with_photos(), SITAUNGO_REFUSED_PAST_END, CHAINED, "links of an attachment up to 268,435,456");
+    put64(image + CHAINED + 16, 33554430);
+    refuses(with_photos(), SITAUNGO_REFUSED_ATTACHMENT, CHAINED, "links of an attachment past 268,435,456");
+    record(two_references);
+    put_link(64, 3, 0);
+    refuses(with_photos(), SITAUNGO_REFUSED_REFERENCE, CHANNEL, "no attachments");
+    put_link(64, 3, OUTSIDE);
+    put_link(OUTSIDE, 0, CHAINED);
+    accepts(with_photos(), "the second attachment");
+    put_link(OUTSIDE, 0, OUTSIDE);
+    refuses(with_photos(), SITAUNGO_REFUSED_REFERENCE, CHANNEL, "behind a chain that returns");
+}
+
 int main(int count, char **arguments)
 {
     FILE *file = count == 2 ? fopen(arguments[1], "rb") : NULL;
@@ -428,6 +609,9 @@ int main(int count, char **arguments)
     try_shared();
     try_listed(listing);
     try_plot();
+    try_references();
+    try_bad_references();
+    try_order_of_references();
     printf("%d checks, %d wrong\n", checks, wrong);
     return wrong != 0;
 }

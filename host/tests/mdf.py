@@ -79,6 +79,7 @@ class Column:
         self.source, self.conversion = f.links(cg)[3], f.links(cn)[4]
         _, self.records, self.flags, _, _, self.bytes, self.inval = struct.unpack_from("<QQHHIII", f.body(cg))
         self.type = f.body(cn)[0]
+        self.references, self.reference_count = f.links(cn)[8:], struct.unpack_from("<H", f.body(cn), 22)[0]
         self.payload, self.kinds = f.joined(f.links(dg)[2])
         self.signal = f.joined(f.links(cn)[5])[0]
         self.blocks, self.signals = f.blocks(f.links(dg)[2]), f.blocks(f.links(cn)[5])

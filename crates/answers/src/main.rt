@@ -178,7 +178,7 @@ fn compare(
         ident,
         text,
         time,
-        Choices { unit: 8, share: false },
+        Choices { unit: 8, share: false, photos: false },
         b"",
         &mut source,
         &mut fragments,

@@ -48,7 +48,7 @@ dueIn x (baseChecked.refused number place) = []
 
 -- the recording with its first sample changed
 abbrev pub other : resultResult.Args
-other = record { image = set image 192 9; blockSize = args .blockSize; ident = args .ident; text = args .text; time = args .time; unit = args .unit; table = args .table; share = args .share }
+other = record { image = set image 192 9; blockSize = args .blockSize; ident = args .ident; text = args .text; time = args .time; unit = args .unit; table = args .table; share = args .share; photos = args .photos }
 
 abbrev pub Excluded : Type 0
 Excluded =

@@ -7,3 +7,4 @@ pub mod Units
 pub mod Tables
 pub mod Treated
 pub mod Shared
+pub mod Photos

@@ -26,7 +26,7 @@ use Rattle.cases.specs.Excluded.{fileIn}
 use Rattle.cases.specs.Refuted.{Refuted, in-none}
 
 abbrev withImage : List ℕ → resultResult.Args
-withImage s = record { image = s; blockSize = args .blockSize; ident = args .ident; text = args .text; time = args .time; unit = args .unit; table = args .table; share = args .share }
+withImage s = record { image = s; blockSize = args .blockSize; ident = args .ident; text = args .text; time = args .time; unit = args .unit; table = args .table; share = args .share; photos = args .photos }
 
 -- a block of that kind, with so many links, all 0
 abbrev blockWith : ℕ → ℕ → ℕ → ℕ → List ℕ → List ℕ
@@ -76,7 +76,7 @@ loses = (
 -- ---- in the plan, whatever is omitted, placed, written and listed: no signal data, or none of its fragments
 
 abbrev signalled : planColumns.Signal → planColumns.Column → planColumns.Column
-signalled g c = record { group = c .group; channel = c .channel; isTime = c .isTime; master = c .master; signalOf = g }
+signalled g c = record { group = c .group; channel = c .channel; isTime = c .isTime; master = c .master; signalOf = g; photos = c .photos }
 
 abbrev pub allSignalled : planColumns.Signal → List planColumns.Column → List planColumns.Column
 allSignalled g [] = []

@@ -96,7 +96,7 @@ writes-other = (
 
 -- ---- a plan in which every column is a time column that names none: the signal is no master
 abbrev timed : planColumns.Column → planColumns.Column
-timed c = record { group = c .group; channel = c .channel; isTime = true; master = none; signalOf = c .signalOf }
+timed c = record { group = c .group; channel = c .channel; isTime = true; master = none; signalOf = c .signalOf; photos = c .photos }
 
 abbrev allTimed : List planColumns.Column → List planColumns.Column
 allTimed [] = []

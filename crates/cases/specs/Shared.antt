@@ -98,7 +98,7 @@ Refusals =
 
 -- a call that shares times, or doesn't
 abbrev call : Bool → List ℕ → Args
-call on s = record { image = s; blockSize = 64; ident = args .ident; text = args .text; time = 0; unit = 8; table = []; share = on }
+call on s = record { image = s; blockSize = 64; ident = args .ident; text = args .text; time = 0; unit = 8; table = []; share = on; photos = false }
 
 -- of each column the channel, and 1 and its master's number, 0 for none; then the report's time columns and shared time groups
 abbrev named : Option ℕ → ℕ
@@ -139,7 +139,7 @@ Planned =
     × (ends true (three (1 ∷ 2 ∷ 9 ∷ []) 592) ≡ 336 ∷ 0 ∷ 696 ∷ 0 ∷ 1064 ∷ 2 ∷ 2 ∷ 0 ∷ [])
 
 -- bookkeeping: as `evaluated`, with the definitions of sharing
-unfoldable shares : ℕ
+unfoldable pub shares : ℕ
 unfolding
     evaluated same textAt syncType dataType conversionOf unitOf keyOf timeKey unitsIn streamIn withKey isCompared anyCompared comparedIn timeCells isEqual
     firstEqual standsFor standsFrom sharedTimes sharing

@@ -10,6 +10,7 @@ use Rattle.mdf.specs.Block as mdfBlock
 use Rattle.mdf.specs.Identification as mdfIdentification
 use Rattle.plan.specs.Columns as planColumns
 use Rattle.plan.specs.Copies as planCopies
+use Rattle.plan.specs.Photos as planPhotos
 use Rattle.plan.specs.Geometry as planGeometry
 use Rattle.plan.specs.Layout as planLayout
 use Rattle.result.specs.Listing as resultListing
@@ -52,7 +53,7 @@ Kinds =
     × (baseField.le 4 planCopies.kindCC ≡ 35 ∷ 35 ∷ 67 ∷ 67 ∷ [])
     × (baseField.le 4 planCopies.kindSI ≡ 35 ∷ 35 ∷ 83 ∷ 73 ∷ [])
     × (baseField.le 4 planCopies.kindFH ≡ 35 ∷ 35 ∷ 70 ∷ 72 ∷ [])
-    × (baseField.le 4 planCopies.kindAT ≡ 35 ∷ 35 ∷ 65 ∷ 84 ∷ [])
+    × (baseField.le 4 planPhotos.kindAT ≡ 35 ∷ 35 ∷ 65 ∷ 84 ∷ [])
 
 -- one group with samples 6, one invalidation byte, 20 records, a 32-bit master at byte 0, a 16-bit signal at byte 4 with a kept bit
 abbrev pub image : List ℕ
@@ -84,7 +85,7 @@ image =
 
 -- `columns` lends block size 64, history text `convert`, time 0
 abbrev pub args : resultResult.Args
-args = record { image = image; blockSize = 64; ident = ident; text = 99 ∷ 111 ∷ 110 ∷ 118 ∷ 101 ∷ 114 ∷ 116 ∷ []; time = 0; unit = 8; table = []; share = false }
+args = record { image = image; blockSize = 64; ident = ident; text = 99 ∷ 111 ∷ 110 ∷ 118 ∷ 101 ∷ 114 ∷ 116 ∷ []; time = 0; unit = 8; table = []; share = false; photos = false }
   where
     ident : List ℕ
     ident = 77 ∷ 68 ∷ 70 ∷ 32 ∷ 32 ∷ 32 ∷ 32 ∷ 32 ∷ 52 ∷ 46 ∷ 50 ∷ 48 ∷ 32 ∷ 32 ∷ 32 ∷ 32 ∷ 83 ∷ 105 ∷ 116 ∷ 97 ∷ 117 ∷ 110 ∷ 103 ∷ 111 ∷ replicate 40 0

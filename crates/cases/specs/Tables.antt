@@ -50,9 +50,9 @@ Entries =
 -- "it follows 26"
 abbrev pub Order : Type 0
 Order =
-    (choicesIn (record { unit = 8; table = 1 ∷ 4 ∷ 0 ∷ []; share = false }) ≡ fine)
-    × (choicesIn (record { unit = 8; table = 0 ∷ []; share = false }) ≡ refused 27 0)
-    × (choicesIn (record { unit = 12; table = 0 ∷ []; share = false }) ≡ refused 26 0)
+    (choicesIn (record { unit = 8; table = 1 ∷ 4 ∷ 0 ∷ []; share = false; photos = false }) ≡ fine)
+    × (choicesIn (record { unit = 8; table = 0 ∷ []; share = false; photos = false }) ≡ refused 27 0)
+    × (choicesIn (record { unit = 12; table = 0 ∷ []; share = false; photos = false }) ≡ refused 26 0)
 
 -- types 0 to 6 by a table
 abbrev treatments : List ℕ → List ℕ

@@ -69,7 +69,7 @@ past t = set (plain t) 401 9
 
 -- block size, unit, table, image
 abbrev call : ℕ → ℕ → List ℕ → List ℕ → Args
-call size u table s = record { image = s; blockSize = size; ident = args .ident; text = args .text; time = 0; unit = u; table = table; share = false }
+call size u table s = record { image = s; blockSize = size; ident = args .ident; text = args .text; time = 0; unit = u; table = table; share = false; photos = false }
 
 -- a column, with type and link 6 of its CN in the file and the number of data blocks; an omission, with its reason; number and place of a refusal
 pub data Ending : Type 0 where

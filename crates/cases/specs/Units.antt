@@ -10,7 +10,7 @@ use Rattle.cases.specs.Starred.{args, placesOf}
 
 -- the recording's conversion with a unit and a block size
 abbrev chosen : ℕ → ℕ → Args
-chosen u size = record { image = args .image; blockSize = size; ident = args .ident; text = args .text; time = args .time; unit = u; table = args .table; share = args .share }
+chosen u size = record { image = args .image; blockSize = size; ident = args .ident; text = args .text; time = args .time; unit = u; table = args .table; share = args .share; photos = args .photos }
 
 -- the metadata's end, the file's size and the columns' starts, or number and place
 abbrev starts : Checked Decided → List ℕ

@@ -5,4 +5,4 @@ use Rattle.plan.specs.Rules.{Rules}
 use Rattle.choices.specs.declared.Choices.{Choices}
 
 abbrev pub rules : Choices → List ℕ → Rules
-rules c table = record { unit = c .unit; table = table; share = c .share }
+rules c table = record { unit = c .unit; table = table; share = c .share; photos = c .photos }

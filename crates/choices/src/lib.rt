@@ -8,10 +8,11 @@ ghost use Rattle.plan.specs.Table.{entryOf, isSized, isAllowed, isEntry, areEnt
 ghost use Rattle.plan.specs.Rules.{units, isAmong, choicesIn};
 ghost use Rattle.choices.specs.Chosen.{rules};
 
-// The unit on whose multiples columns start; whether equal time columns are shared.
+// The unit on whose multiples columns start; whether equal time columns are shared; whether references to attachments are kept.
 pub struct Choices {
     pub unit: u64,
     pub share: bool,
+    pub photos: bool,
 }
 
 // A power of two from 8 to 4096.

@@ -10,21 +10,8 @@ use Rattle.base.specs.ChoiceLaws.{lt-first, lt-back}
 use Rattle.base.specs.Checked.{ok}
 use Rattle.mdf.specs.Block.{kindAt, sizeAt, linksAt, firstLink, headerIn}
 use Rattle.plan.specs.Geometry.{align8}
-use Rattle.plan.specs.Copies.{
-  kindAT,
-  Copy,
-  Copies,
-  copyLinks,
-  copyRoot,
-  Attachment,
-  Attached,
-  mostAttachments,
-  isAttached,
-  attachmentIn,
-  attach,
-  attachmentsFrom,
-  attachmentsOf,
-}
+use Rattle.plan.specs.Copies.{Copy, Copies, copyLinks, copyRoot, Attachment, Attached, isAttached, attach, attachmentsFrom, attachmentsOf}
+use Rattle.plan.specs.Photos.{kindAT, mostAttachments, attachmentIn}
 use Rattle.copies_laws.specs.AnswerLaws.{refused≢ok, ok-same, then-ok, by-eq, by-pick}
 use Rattle.copies_laws.specs.Laid.{Laid, Tight, tight-from, tight-to, align-within, laid-from, laid-to, laid-ends, align-past, align-near, Grown}
 use Rattle.copies_laws.specs.CopyLaws.{links-grown, root-grown}

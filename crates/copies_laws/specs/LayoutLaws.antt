@@ -11,7 +11,7 @@ use Rattle.mdf.specs.Block.{linkAt}
 use Rattle.plan.specs.Columns.{Column}
 use Rattle.plan.specs.Data.{blocksIn}
 use Rattle.plan.specs.Geometry.{align8}
-use Rattle.plan.specs.Copies.{Copy, copies, copyRoot, historyOf, columnCopies, attachmentsOf}
+use Rattle.plan.specs.Copies.{Copy, copies, Attachment, copyRoot, historyOf, columnCopies, attachmentsOf}
 use Rattle.plan.specs.Rules.{Rules}
 use Rattle.plan.specs.Layout.{Placed, placedFrom, structureEnd, dataEnd, mdSize, Layout, pastCopies, fhPlace, layout}
 use Rattle.result.specs.Fill.{copiedBlocks, structureBlocks, dataBlocks, attachmentBlocks}
@@ -24,7 +24,7 @@ use Rattle.copies_laws.specs.CopyLaws.{root-grown, past-grown, columns-g
 use Rattle.copies_laws.specs.AttachLaws.{ownCopies, AllAttached, all-attached}
 use Rattle.copies_laws.specs.LengthLaws.{length-md, length-fh, length-hd, InImage}
 use Rattle.copies_laws.specs.OrderLaws.{ordered-to, ordered-append, ordered-cons, copied-ordered, attached-ordered, structure-ordered, placed-columns, }
-use Rattle.copies_laws.specs.PlacedLaws.{structures-near, Within, placed-within}
+use Rattle.copies_laws.specs.PlacedLaws.{FewPhotos, structures-near, Within, placed-within}
 
 -- the parts of a layout, for n bytes of history text
 pub record LaidOut (r : Rules) (s : List ℕ) (size n : ℕ) (cs : List Column) (l : Layout) : Type 0 where
@@ -111,10 +111,10 @@ module _ {r : Rules} {s : List ℕ} {size n : ℕ} {cs : List Column} {l : Layou
     attachments-ordered = rw (o .fileSize) (attached-ordered s chain memo fh _ _ (l .attached .attachments) (attachments-laid .laid))
 
   -- "Then per column DG 64, CG 104 (112 with a master), CN 160", DL
-  pub structures-ordered : (memo : List Copy) (all : List Placed) → ((c : Column) → In c cs → InImage s c)
-      → Ordered (pastCopies (l .metadata)) (structureBlocks r s size memo all (l .placed)) (l .metadataEnd)
-  structures-ordered memo all f =
-      rw (o .placed, o .metadataEnd) (structure-ordered r s size memo all (pastCopies (l .metadata)) _ cs f)
+  pub structures-ordered : (memo : List Copy) (ats : List Attachment) (all : List Placed) → ((c : Column) → In c cs → InImage s c)
+      → Ordered (pastCopies (l .metadata)) (structureBlocks r s size memo ats all (l .placed)) (l .metadataEnd)
+  structures-ordered memo ats all f =
+      rw (o .placed, o .metadataEnd) (structure-ordered r s size memo ats all (pastCopies (l .metadata)) _ cs f)
 
   -- the columns planned are those placed
   pub columns-placed : columnsPlaced (l .placed) ≡ cs
@@ -132,10 +132,10 @@ module _ {r : Rules} {s : List ℕ} {size n : ℕ} {cs : List Column} {l : Layou
       omega (arith, g .near, h .near, o .md, o .fh, align-near (l .past .made .next), md-near n)
 
   -- past the columns' DG, CG, CN and DL, under the limit of blocks
-  pub metadataEnd-near : {u : Unit {0}} → blocksIn s size cs ≡ ok u → l .metadataEnd ≤ 549755828494 + n + length cs * 34359738744
+  pub metadataEnd-near : {u : Unit {0}} → blocksIn s size cs ≡ ok u → FewPhotos cs → l .metadataEnd ≤ 549755828494 + n + length cs * 34628174200
   unfolding pastCopies
-  metadataEnd-near b =
-      omega (arith, o .metadataEnd, metadata-near, align-near (l .metadata .next), structures-near s size (pastCopies (l .metadata)) cs b)
+  metadataEnd-near b f =
+      omega (arith, o .metadataEnd, metadata-near, align-near (l .metadata .next), structures-near s size (pastCopies (l .metadata)) cs b f)
 
   -- every column's DG, CG, CN and DL stand between the metadata and its end
   pub columns-within : {p : Placed} → In p (l .placed) → Within s size (pastCopies (l .metadata)) (l .metadataEnd) p
@@ -164,5 +164,5 @@ blocks-ordered x cs l o i f d =
     (ordered-cons (l .md) (mdSize (length (x .text))) _ _ _ (le-refl _) (length-md (x .text))
     (ordered-cons _ 56 _ _ _ (omega (arith, o .fh)) (length-fh (l .md) (x .time))
     (ordered-append (l .fh + 56) _ _ _ _ (columns-ordered o (l .past .chain) (memoOf l) (l .fh))
-    (ordered-append _ (l .metadataEnd) _ _ _ (structures-ordered o (memoOf l) (l .placed) f)
+    (ordered-append _ (l .metadataEnd) _ _ _ (structures-ordered o (memoOf l) (l .attached .attachments) (l .placed) f)
     (ordered-append (l .metadataEnd) _ _ _ _ d (attachments-ordered o (l .past .chain) (memoOf l) (l .fh)))))))))

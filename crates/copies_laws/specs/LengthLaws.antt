@@ -1,6 +1,6 @@
 -- How many bytes each block of the result has.
 use Prim.Native.Nat.{ℕ, zero, suc, _+_, _*_, _-_, _≤_}
-use mathlib.Core.List.{List, _++_}
+use mathlib.Core.List.{List, [], _∷_, _++_}
 use mathlib.Core.Option.{Option, none, some}
 use mathlib.Core.Path.{_≡_, refl}
 use native.Mathlib.Omega.{arith}
@@ -11,9 +11,9 @@ use Rattle.base.specs.FieldLaws.{length-le}
 use Rattle.mdf.specs.Block.{sizeAt, linksAt, dataAt}
 use Rattle.plan.specs.Columns.{Column}
 use Rattle.plan.specs.Geometry.{align8}
-use Rattle.plan.specs.Copies.{Copy}
+use Rattle.plan.specs.Copies.{Copy, Attachment}
 use Rattle.plan.specs.Rules.{Rules}
-use Rattle.plan.specs.Layout.{columnBlocks, cgSize, dlSize, Placed, mdSize}
+use Rattle.plan.specs.Layout.{columnBlocks, cgSize, cnSize, dlSize, Placed, mdSize}
 use Rattle.result.specs.Fill.{
   newLinks,
   copiedLinks,
@@ -31,6 +31,8 @@ use Rattle.result.specs.Fill.{
   atBytes,
   hdData,
   hdBytes,
+  words,
+  photoLinks,
 }
 use Rattle.copies_laws.specs.AnswerLaws.{Whole}
 use Rattle.copies_laws.specs.AttachLaws.{Moved}
@@ -104,9 +106,9 @@ unfolding cgBytes
 length-cg s memo ps p i =
     simp (length-append, length-header, length-le, length-cgData s (p .column) (i .group)) (length-masterLink ps (p .column .master))
 
-length-cnData : (table s : List ℕ) (g c : ℕ) → dataAt s c + 72 ≤ length s → length (cnData table s g c) ≡ 72
+length-cnData : (table s : List ℕ) (g c n : ℕ) → dataAt s c + 72 ≤ length s → length (cnData table s g c n) ≡ 72
 unfolding cnData
-length-cnData table s g c h =
+length-cnData table s g c n h =
     simp (
       length-append,
       length-le,
@@ -116,10 +118,22 @@ length-cnData table s g c h =
       length-part (dataAt s c + 24) 48 s (omega arith),
     )
 
-pub length-cn : (o : Rules) (s : List ℕ) (memo : List Copy) (p : Placed) → InImage s (p .column) → length (cnBytes o s memo p) ≡ 160
-unfolding cnBytes
-length-cn o s memo p i =
-    simp (length-append, length-header, length-le, length-cnData (o .table) s (p .column .group .at) (p .column .channel) (i .channel))
+length-photoLinks : (ats : List Attachment) (as' : List ℕ) → length (words (photoLinks ats as')) ≡ 8 * length as'
+unfolding photoLinks words
+length-photoLinks ats [] = refl
+length-photoLinks ats (a ∷ as') = simp (length-append, length-le) (omega (arith, length-photoLinks ats as'))
+
+pub length-cn : (o : Rules) (s : List ℕ) (memo : List Copy) (ats : List Attachment) (p : Placed) → InImage s (p .column)
+    → length (cnBytes o s memo ats p) ≡ cnSize (p .column)
+unfolding cnBytes cnSize
+length-cn o s memo ats p i =
+    simp (
+      length-append,
+      length-header,
+      length-le,
+      length-photoLinks ats (p .column .photos),
+      length-cnData (o .table) s (p .column .group .at) (p .column .channel) (length (p .column .photos)) (i .channel),
+    ) (omega arith)
 
 pub length-dl : (s : List ℕ) (size : ℕ) (p : Placed) → (columnBlocks s size (p .column) ≡ 0 → ⊥)
     → length (dlBytes s size p) ≡ dlSize (columnBlocks s size (p .column))

@@ -3,6 +3,7 @@ pub mod Laid
 pub mod CopyLaws
 pub mod MemoLaws
 pub mod AttachLaws
+pub mod PhotoLaws
 pub mod LengthLaws
 pub mod OrderLaws
 pub mod PlacedLaws

@@ -18,39 +18,8 @@ use Rattle.mdf.specs.Block.{kindTX, kindMD, kindAt, sizeAt, linksAt, linkAt, fi
 use Rattle.mdf.specs.Chain.{isIn}
 use Rattle.plan.specs.Columns.{Column}
 use Rattle.plan.specs.Geometry.{align8}
-use Rattle.plan.specs.Copies.{
-  kindCC,
-  kindSI,
-  kindFH,
-  kindAT,
-  Copy,
-  Copies,
-  copyOf,
-  withCopy,
-  isCopied,
-  lostLinks,
-  copyLinks,
-  mostCopies,
-  onCopy,
-  copyAt,
-  depth,
-  copyRoot,
-  copyRoots,
-  History,
-  history,
-  historyFrom,
-  historyOf,
-  columnLinks,
-  columnCopies,
-  Attachment,
-  Attached,
-  mostAttachments,
-  isAttached,
-  attachmentIn,
-  attach,
-  attachmentsFrom,
-  attachmentsOf,
-}
+use Rattle.plan.specs.Copies.{kindCC, kindSI, kindFH, Copy, Copies, copyOf, withCopy, isCopied, lostLinks, copyLinks, mostCopies, onCopy, copyAt, depth, copyRoot, copyRoots, History, history, historyFrom, historyOf, columnLinks, columnCopies, Attachment, Attached, isAttached, attach, attachmentsFrom, attachmentsOf}
+use Rattle.plan.specs.Photos.{kindAT, mostAttachments, attachmentIn}
 use Rattle.result.specs.Names.{CopiedKind, isTX, isMD, isCC, isSI, isFH, Leads}
 use Rattle.result.specs.Guarantee.{In, here, there}
 use Rattle.copies_laws.specs.CopyLaws.{fresh}

@@ -27,6 +27,7 @@ use Rattle.plan.specs.Layout.{
   dlOf,
   placedFrom,
   structureEnd,
+  cnSize,
 }
 use Rattle.result.specs.Fill.{Block, block, copiedBlocks, nextDG, dlBlocks, structureBlocks, nextAttachment, attachmentBlocks}
 use Rattle.result.specs.Ordered.{Ordered}
@@ -89,27 +90,27 @@ dl-ordered s size p =
     (λ _. ordered-none _ _) (λ h. ordered-one _ _ _ (length-dl s size p h))
 
 -- DG, CG, CN and DL of one column, then the rest
-column-ordered : (r : Rules) (s : List ℕ) (size : ℕ) (memo : List Copy) (all ps : List Placed) (p : Placed) (e : ℕ) → InImage s (p .column)
-    → Ordered (p .dg + structureSize s size (p .column)) (structureBlocks r s size memo all ps) e
-    → Ordered (p .dg) (structureBlocks r s size memo all (p ∷ ps)) e
+column-ordered : (r : Rules) (s : List ℕ) (size : ℕ) (memo : List Copy) (ats : List Attachment) (all ps : List Placed) (p : Placed) (e : ℕ) → InImage s (p .column)
+    → Ordered (p .dg + structureSize s size (p .column)) (structureBlocks r s size memo ats all ps) e
+    → Ordered (p .dg) (structureBlocks r s size memo ats all (p ∷ ps)) e
 unfolding structureBlocks structureSize
-column-ordered r s size memo all ps p e i o =
+column-ordered r s size memo ats all ps p e i o =
     ordered-cons (p .dg) 64 e _ _ (le-refl _) (length-dg s size memo p (nextDG ps))
     (ordered-cons (cgOf p) (cgSize (p .column .master)) e _ _ (le-refl _) (length-cg s memo all p i)
-    (ordered-cons (cnOf p) 160 e _ _ (le-refl _) (length-cn r s memo p i)
+    (ordered-cons (cnOf p) (cnSize (p .column)) e _ _ (le-refl _) (length-cn r s memo ats p i)
     (ordered-append (dlOf p) (dlOf p + dlSize (columnBlocks s size (p .column))) e (dlBlocks s size p) _ (dl-ordered s size p)
     (ordered-from _ _ e _ (omega arith) o))))
 
 -- those of every column that is placed from a on, where every column's CG and CN lie in the image
-pub structure-ordered : (o : Rules) (s : List ℕ) (size : ℕ) (memo : List Copy) (all : List Placed) (a d : ℕ) (cs : List Column)
-    → ((c : Column) → In c cs → InImage s c) → Ordered a (structureBlocks o s size memo all (placedFrom o s size a d cs)) (structureEnd s size a cs)
+pub structure-ordered : (o : Rules) (s : List ℕ) (size : ℕ) (memo : List Copy) (ats : List Attachment) (all : List Placed) (a d : ℕ) (cs : List Column)
+    → ((c : Column) → In c cs → InImage s c) → Ordered a (structureBlocks o s size memo ats all (placedFrom o s size a d cs)) (structureEnd s size a cs)
 unfolding withPlaces placesFrom structuresEnd sizesOf structureBlocks Ordered
-structure-ordered o s size memo all a d [] f = le-refl a
-structure-ordered o s size memo all a d (c ∷ cs) f =
+structure-ordered o s size memo ats all a d [] f = le-refl a
+structure-ordered o s size memo ats all a d (c ∷ cs) f =
     let a1 : ℕ = a + structureSize s size c in
     let d1 : ℕ = pastData (o .unit) (columnSizes s size c) d in
-    column-ordered o s size memo all (placedFrom o s size a1 d1 cs) (placedAt c (placesAt (o .unit) a d (columnSizes s size c)))
-    (structureEnd s size a1 cs) (f c here) (structure-ordered o s size memo all a1 d1 cs (λ b i. f b (there i)))
+    column-ordered o s size memo ats all (placedFrom o s size a1 d1 cs) (placedAt c (placesAt (o .unit) a d (columnSizes s size c)))
+    (structureEnd s size a1 cs) (f c here) (structure-ordered o s size memo ats all a1 d1 cs (λ b i. f b (there i)))
 
 -- the columns placed are those that were to be placed
 pub placed-columns : (o : Rules) (s : List ℕ) (size a d : ℕ) (cs : List Column) → columnsPlaced (placedFrom o s size a d cs) ≡ cs

@@ -27,6 +27,7 @@ use Rattle.plan.specs.Layout.{
   Placed,
   placedFrom,
   structureEnd,
+  cnSize,
 }
 use Rattle.result.specs.Guarantee.{In, here, there}
 use Rattle.copies_laws.specs.AnswerLaws.{refused≢ok, on-eq}
@@ -39,21 +40,25 @@ dl-near : (n : ℕ) → dlSize n ≤ 48 + 8 * n
 unfolding dlSize
 dl-near n = on-eq (λ (x : ℕ). x ≤ 48 + 8 * n) n 0 _ _ (λ h. omega arith) (λ h. omega arith)
 
+-- each column refers to at most so many attachments as links fit a block
+abbrev pub FewPhotos : List Column → Type 0
+FewPhotos cs = (c : Column) → In c cs → length (c .photos) ≤ 33554432
+
 -- DG, CG, CN and DL of a column with at most 4,294,967,295 blocks
-pub structure-near : (s : List ℕ) (size : ℕ) (c : Column) → columnBlocks s size c ≤ 4294967295 → structureSize s size c ≤ 34359738744
-unfolding structureSize
-structure-near s size c h = omega (arith, cg-near (c .master), dl-near (columnBlocks s size c))
+pub structure-near : (s : List ℕ) (size : ℕ) (c : Column) → columnBlocks s size c ≤ 4294967295 → length (c .photos) ≤ 33554432 → structureSize s size c ≤ 34628174200
+unfolding structureSize cnSize
+structure-near s size c h f = omega (arith, cg-near (c .master), dl-near (columnBlocks s size c))
 
 -- those of all columns, under the limit of blocks
-pub structures-near : (s : List ℕ) (size a : ℕ) (cs : List Column) {u : Unit {0}} → blocksIn s size cs ≡ ok u
-    → structureEnd s size a cs ≤ a + length cs * 34359738744
+pub structures-near : (s : List ℕ) (size a : ℕ) (cs : List Column) {u : Unit {0}} → blocksIn s size cs ≡ ok u → FewPhotos cs
+    → structureEnd s size a cs ≤ a + length cs * 34628174200
 unfolding structuresEnd sizesOf blocksIn columnBlocks columnWidth
-structures-near s size a [] e = omega arith
-structures-near s size a (c ∷ cs) e =
+structures-near s size a [] e f = omega arith
+structures-near s size a (c ∷ cs) e f =
     let h = lt-back _ _ _ _ e refused≢ok in
-    let g : structureSize s size c ≤ 34359738744 = structure-near s size c (h .0) in
-    let k : structureEnd s size (a + structureSize s size c) cs ≤ a + structureSize s size c + length cs * 34359738744 =
-    structures-near s size (a + structureSize s size c) cs (h .1) in
+    let g : structureSize s size c ≤ 34628174200 = structure-near s size c (h .0) (f c here) in
+    let k : structureEnd s size (a + structureSize s size c) cs ≤ a + structureSize s size c + length cs * 34628174200 =
+    structures-near s size (a + structureSize s size c) cs (h .1) (λ b i. f b (there i)) in
     omega arith
 
 pub structure-grows : (s : List ℕ) (size a : ℕ) (cs : List Column) → a ≤ structureEnd s size a cs

@@ -25,6 +25,7 @@ use Rattle.plan.specs.Table as planTable
 use Rattle.plan.specs.Channel as planChannel
 use Rattle.plan.specs.Columns as planColumns
 use Rattle.plan.specs.Copies as planCopies
+use Rattle.plan.specs.Photos as planPhotos
 use Rattle.plan.specs.Data as planData
 use Rattle.plan.specs.Geometry as planGeometry
 use Rattle.plan.specs.Rules as planRules
@@ -85,19 +86,20 @@ unfolding
     planChannel.invalPosition planChannel.channelBytes planChannel.fits planChannel.isMasterType planChannel.keepsInval planChannel.width
     planChannel.invalBit planTable.countIn planTable.typeAt planTable.treatedAt planTable.entryOf planTable.isSized planTable.isAllowed planTable.isEntry
     planTable.areEntries planTable.tableIn planTable.builtInFor planTable.chosenBy planTable.treatment planColumns.withCounts planColumns.srcGroups planColumns.firstMaster planColumns.masterOf
-    planColumns.remoteLink planColumns.groupAt planColumns.standIn planColumns.standing planColumns.remoteTime planColumns.timeOf planColumns.timeColumn planColumns.withTime
+    planColumns.remoteLink planColumns.groupAt planColumns.standIn planColumns.standing planColumns.remoteTime planColumns.timeOf planColumns.timeColumn planColumns.withTime planColumns.newTimeIn
     planColumns.unfit planColumns.furtherMaster planColumns.omittedType planColumns.composed planColumns.signalLink planColumns.storedAt
     planColumns.decideChain planColumns.unless planColumns.decide planColumns.planChannels planColumns.planGroup
     planColumns.planGroups planColumns.plan planColumns.omissionAddresses planColumns.omissionReasons planColumns.omissionWords planCopies.copyOf
     planCopies.withCopy planCopies.isCopied planCopies.lostLinks planCopies.copyLinks planCopies.copyAt planCopies.copyRoot planCopies.copyRoots
-    planCopies.historyFrom planCopies.historyOf planCopies.columnCopies planCopies.isAttached planCopies.attachmentIn planCopies.attach
+    planCopies.historyFrom planCopies.historyOf planCopies.columnCopies planCopies.isAttached planPhotos.attachmentIn planPhotos.headerFrom planPhotos.headerChain planPhotos.headerAttachments planPhotos.photosFirst planPhotos.photoCount
+    planPhotos.linksFrom planPhotos.references planPhotos.photosOf planPhotos.areAttached planPhotos.photosIn planCopies.attach
     planCopies.attachmentsFrom planCopies.attachmentsOf planData.isNonempty planData.anyNonempty planData.signalsIn planData.dataIn
     planData.allDataIn planData.blocksIn planGeometry.align8 planGeometry.alignTo planGeometry.powerIn planGeometry.stepOf planGeometry.perBlock
     planGeometry.fullPayload planGeometry.blockCount planGeometry.perFull planGeometry.blockPayload planLayout.columnWidth planLayout.columnBlocks
-    planLayout.dlSize planLayout.structureSize planLayout.payloadSize planLayout.blocksEnd planRules.isAmong planRules.unitIn planRules.choicesIn planLayout.firstAt planLayout.placesFrom planLayout.structuresEnd planLayout.placesEnd planLayout.sizesOf planLayout.withPlaces planLayout.mdSize planLayout.pastCopies planLayout.fhPlace planLayout.layout resultFill.header
+    planLayout.dlSize planLayout.cnSize planLayout.structureSize planLayout.payloadSize planLayout.blocksEnd planRules.isAmong planRules.unitIn planRules.choicesIn planLayout.firstAt planLayout.placesFrom planLayout.structuresEnd planLayout.placesEnd planLayout.sizesOf planLayout.withPlaces planLayout.mdSize planLayout.pastCopies planLayout.fhPlace planLayout.layout resultFill.header
     resultFill.words resultFill.newLink resultFill.newLinks resultFill.historyLink resultFill.copiedLinks resultFill.dataOf resultFill.copiedBytes
     resultFill.copiedBlocks resultFill.mdBytes resultFill.fhBytes resultFill.dgBytes resultFill.cgAt resultFill.cgData resultFill.cgBytes
-    resultFill.storedType resultFill.cnData resultFill.cnBytes resultFill.blockLinks resultFill.columnPayload resultFill.dlBytes resultFill.dlBlocks
+    resultFill.storedType resultFill.cnData resultFill.movedTo resultFill.photoLinks resultFill.cnBytes resultFill.blockLinks resultFill.columnPayload resultFill.dlBytes resultFill.dlBlocks
     resultFill.structureBlocks resultFill.blockOf resultFill.payloadBlocks resultFill.dataBlocks resultFill.atBytes resultFill.attachmentBlocks
     resultFill.hdData resultFill.hdBytes resultListing.digitsOf resultListing.decimal resultListing.columnLine resultListing.columnLines
     resultListing.omissionLines resultListing.planLines resultPayload.recordsOf resultPayload.cell resultPayload.cells resultPayload.payloads

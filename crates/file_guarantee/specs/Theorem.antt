@@ -33,7 +33,7 @@ use Rattle.shown_laws.specs.Final.{file-filled}
 use Rattle.guarantee.specs.Front.{front-due}
 use Rattle.guarantee.specs.Named.{new-small}
 use Rattle.guarantee.specs.Copied.{copy-stands}
-use Rattle.guarantee.specs.Theorem.{AllBytes, o, sized, in-image, ordered, column-in, file-below, sound}
+use Rattle.guarantee.specs.Theorem.{AllBytes, o, sized, in-image, ordered, column-in, file-below, sound, refers}
 use Rattle.file.specs.Form.{FileColumn, cycles}
 use Rattle.file.specs.Opened.{opened}
 use Rattle.file.specs.Range.{fileColumnAt, startOf, bytesOf, rangeOf, ranged, readInto}
@@ -110,7 +110,7 @@ module _ (x : Args) (d : Decided) (k : Known x d) (out : List ℕ) (room : d .la
   abbrev placed' : List Placed
   placed' = placedFrom (rulesOf x) (x .image) (x .blockSize) (pastCopies (l .metadata)) (l .metadataEnd) (d .planned .columns)
 
-  made : (b : Block) → In b (structureBlocks (rulesOf x) (x .image) (x .blockSize) (memoOf l) (l .placed) (l .placed)) → Stands f (b .at) (b .bytes)
+  made : (b : Block) → In b (structureBlocks (rulesOf x) (x .image) (x .blockSize) (memoOf l) (l .attached .attachments) (l .placed) (l .placed)) → Stands f (b .at) (b .bytes)
   made b i = filled b (in-structure x l i)
 
   dataIn : (b : Block) → In b (dataBlocks (x .image) (x .blockSize) (l .placed)) → Stands f (b .at) (b .bytes)
@@ -122,11 +122,11 @@ module _ (x : Args) (d : Decided) (k : Known x d) (out : List ℕ) (room : d .la
       let copied = copy-stands x (d .planned .columns) l (o x d k) f bytes (ordered x d k) (file-below x d k) filled in
       subst (λ (ps : List Placed). AllStand f 0 (fileColumns (x .image) (x .blockSize) ps)) (sym e)
       (stand-from f 0 (pastCopies (l .metadata)) (fileColumns (x .image) (x .blockSize) placed') (omega arith)
-      (columns-stand (rulesOf x) (x .image) (x .blockSize) (memoOf l) (l .placed)
+      (columns-stand (rulesOf x) (x .image) (x .blockSize) (memoOf l) (l .attached .attachments) (l .placed)
       (new-small (x .image) f bytes (l .past .chain) (memoOf l) (l .fh) copied) (names-fine (x .image) f (l .past .chain) (memoOf l) (l .fh) copied)
       (d .planned .columns) (pastCopies (l .metadata)) (l .metadataEnd)
-      (λ p i. good p (subst (In p) (sym e) i))
-      (λ b i. made b (subst (λ (ps : List Placed). In b (structureBlocks (rulesOf x) (x .image) (x .blockSize) (memoOf l) (l .placed) ps)) (sym e) i))
+      (λ p i. good p (subst (In p) (sym e) i)) (λ p i. refers x d k (p .column) (column-in x d k p (subst (In p) (sym e) i)))
+      (λ b i. made b (subst (λ (ps : List Placed). In b (structureBlocks (rulesOf x) (x .image) (x .blockSize) (memoOf l) (l .attached .attachments) (l .placed) ps)) (sym e) i))
       (λ b i. dataIn b (subst (λ (ps : List Placed). In b (dataBlocks (x .image) (x .blockSize) ps)) (sym e) i))))
 
   many : length (l .placed) ≡ length (d .planned .columns)
@@ -168,7 +168,7 @@ module _ (x : Args) (d : Decided) (k : Known x d) (out : List ℕ) (room : d .la
   at n c e = placed-at (x .image) (x .blockSize) (l .placed) n c (rw (columns-placed (o x d k)) e)
 
   read : (p : Placed) → In p (l .placed) → ColumnRead f (x .image) (x .blockSize) p
-  read = columns-read (rulesOf x) (x .image) (x .blockSize) (memoOf l) (l .placed) (l .placed) good made dataIn
+  read = columns-read (rulesOf x) (x .image) (x .blockSize) (memoOf l) (l .attached .attachments) (l .placed) (l .placed) good made dataIn
 
   range-is : (p : Placed) → In p (l .placed) → (first count : ℕ) → rangeOf f first count (fileColumn (x .image) (x .blockSize) p)
       ≡ part (first * columnWidth (x .image) (p .column)) (count * columnWidth (x .image) (p .column)) (duePayload (x .image) (p .column))

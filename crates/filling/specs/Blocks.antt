@@ -47,23 +47,25 @@ unfoldable pub cgFrom : List ℕ → ℕ → ℕ → ℕ → ℕ → ℕ → Boo
 cgFrom s g cn name source comment remote master records bytes inval =
     cgFront remote cn name source comment ++ pick remote (le 8 master) [] ++ cgDataFrom s g remote records bytes inval
 
--- header and all links but the last
-unfoldable pub cnLinks : ℕ → ℕ → ℕ → ℕ → ℕ → List ℕ
-cnLinks name source conversion sd unit =
-    header kindCN 160 8 ++ le 8 0 ++ le 8 0 ++ le 8 name ++ le 8 source ++ le 8 conversion ++ le 8 sd ++ le 8 unit
+-- a CN of so many bytes and links: header and the first seven links, then the eighth
+unfoldable pub cnLinks : ℕ → ℕ → ℕ → ℕ → ℕ → ℕ → ℕ → List ℕ
+cnLinks size links name source conversion sd unit =
+    header kindCN size links ++ le 8 0 ++ le 8 0 ++ le 8 name ++ le 8 source ++ le 8 conversion ++ le 8 sd ++ le 8 unit
+
+unfoldable pub cnFront : ℕ → ℕ → ℕ → ℕ → ℕ → ℕ → ℕ → ℕ → List ℕ
+cnFront size links name source conversion sd unit comment = cnLinks size links name source conversion sd unit ++ le 8 comment
 
 -- the data up to the bit count, with the type stored, and from the flags on
 unfoldable pub cnTypes : List ℕ → ℕ → ℕ → List ℕ
 cnTypes s c stored = le 1 stored ++ part (dataAt s c + 1) 3 s ++ le 4 0 ++ part (dataAt s c + 8) 4 s
 
-unfoldable pub cnRest : List ℕ → ℕ → Bool → List ℕ
-cnRest s c keeps =
-    le 4 (cnFlags (channelFlags s c) keeps) ++ le 4 0 ++ part (dataAt s c + 20) 2 s ++ le 2 0 ++ part (dataAt s c + 24) 48 s
+unfoldable pub cnRest : List ℕ → ℕ → Bool → ℕ → List ℕ
+cnRest s c keeps photos =
+    le 4 (cnFlags (channelFlags s c) keeps) ++ le 4 0 ++ part (dataAt s c + 20) 2 s ++ le 2 photos ++ part (dataAt s c + 24) 48 s
 
--- the CN that is made from the CN at c
-unfoldable pub cnFrom : List ℕ → ℕ → ℕ → Bool → ℕ → ℕ → ℕ → ℕ → ℕ → ℕ → List ℕ
-cnFrom s c stored keeps name source conversion sd unit comment =
-    cnLinks name source conversion sd unit ++ le 8 comment ++ cnTypes s c stored ++ cnRest s c keeps
+-- the data of the CN that is made from the CN at c
+unfoldable pub cnDataFrom : List ℕ → ℕ → ℕ → Bool → ℕ → List ℕ
+cnDataFrom s c stored keeps photos = cnTypes s c stored ++ cnRest s c keeps photos
 
 -- the DL of n blocks, the first at a
 unfoldable pub dlFrom : ℕ → ℕ → ℕ → List ℕ

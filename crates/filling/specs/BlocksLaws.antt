@@ -155,9 +155,9 @@ pub flags-lost : (s : List ℕ) (c f : ℕ) (keeps : Bool) → Field 4 s (dataAt
 unfolding channelFlags
 flags-lost s c f keeps k e = rw (e, ← k .is)
 
-pub length-cn-links : (name source conversion sd unit : ℕ) → length (cnLinks name source conversion sd unit) ≡ 80
+pub length-cn-links : (size links name source conversion sd unit : ℕ) → length (cnLinks size links name source conversion sd unit) ≡ 80
 unfolding cnLinks
-length-cn-links name source conversion sd unit = simp (length-append, length-header, length-le)
+length-cn-links size links name source conversion sd unit = simp (length-append, length-header, length-le)
 
 -- ---- DL
 pub dl-none : (n : ℕ) → n ≡ 0 → le 8 0 ≡ le 8 (dlSize n)

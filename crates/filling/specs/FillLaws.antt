@@ -4,6 +4,7 @@ use mathlib.Core.List.{List, _++_, append-assoc}
 use mathlib.Core.Bool.{Bool, true, false}
 use mathlib.Core.Option.{Option, none, some}
 use mathlib.Core.Path.{_≡_, refl}
+use lib.ListN.{length}
 use Rattle.base.specs.Choice.{ifEq}
 use Rattle.base.specs.Field.{le}
 use Rattle.base.specs.Blit.{part}
@@ -11,10 +12,10 @@ use Rattle.mdf.specs.Block.{kindCG, linkAt, dataAt}
 use Rattle.mdf.specs.Group.{groupFlags}
 use Rattle.plan.specs.Rules.{Rules}
 use Rattle.plan.specs.Channel.{channelType, channelBytes, keepsInval}
-use Rattle.plan.specs.Copies.{Copy}
-use Rattle.plan.specs.Layout.{columnBlocks, cgLinks, cgSize, Placed, cgOf, cnOf, dlOf}
-use Rattle.result.specs.Fill.{header, newLink, dgBytes, cgFlags, cgAt, masterLink, cgData, cgBytes, sdLink, storedType, cnData, cnBytes, columnPayload, dlBytes, one}
-use Rattle.filling.specs.Blocks.{dgFrom, cgHeader, cgFront, cgCounts, cgDataFrom, cgFrom, cnLinks, cnTypes, cnRest, cnFrom, dlFrom}
+use Rattle.plan.specs.Copies.{Copy, Attachment}
+use Rattle.plan.specs.Layout.{columnBlocks, cgLinks, cgSize, cnSize, Placed, cgOf, cnOf, dlOf}
+use Rattle.result.specs.Fill.{header, words, newLink, dgBytes, cgFlags, cgAt, masterLink, cgData, cgBytes, sdLink, storedType, cnData, photoLinks, cnBytes, columnPayload, dlBytes, one}
+use Rattle.filling.specs.Blocks.{dgFrom, cgHeader, cgFront, cgCounts, cgDataFrom, cgFrom, cnLinks, cnFront, cnTypes, cnRest, cnDataFrom, dlFrom}
 
 -- whether a column has a master, and its CG
 abbrev pub hasMaster : Option ℕ → Bool
@@ -35,14 +36,17 @@ module _ (s : List ℕ) (size : ℕ) (memo : List Copy) (p : Placed) where
   unfolding dlBytes dlFrom
   dl-from = refl
 
--- its CN, at the type that is stored
-pub cn-from : (o : Rules) (s : List ℕ) (memo : List Copy) (p : Placed) (stored : ℕ) → stored ≡ storedType (o .table) (channelType s (p .column .channel))
-    → cnBytes o s memo p
-    ≡ cnFrom s (p .column .channel) stored (keepsInval s (p .column .group .at) (p .column .channel)) (newLink memo (linkAt s (p .column .channel) 2))
+-- its CN, at the type that is stored: up to the eighth link, the references, the data
+pub cn-from : (o : Rules) (s : List ℕ) (memo : List Copy) (ats : List Attachment) (p : Placed) (stored : ℕ)
+    → stored ≡ storedType (o .table) (channelType s (p .column .channel))
+    → cnBytes o s memo ats p
+    ≡ cnFront (cnSize (p .column)) (8 + length (p .column .photos)) (newLink memo (linkAt s (p .column .channel) 2))
     (newLink memo (linkAt s (p .column .channel) 3)) (newLink memo (linkAt s (p .column .channel) 4)) (sdLink (p .column .signalOf) (p .sd))
     (newLink memo (linkAt s (p .column .channel) 6)) (newLink memo (linkAt s (p .column .channel) 7))
-unfolding cnBytes cnData cnFrom cnLinks cnTypes cnRest
-cn-from o s memo p stored e = rw e (simp append-assoc)
+    ++ words (photoLinks ats (p .column .photos))
+    ++ cnDataFrom s (p .column .channel) stored (keepsInval s (p .column .group .at) (p .column .channel)) (length (p .column .photos))
+unfolding cnBytes cnData cnFront cnLinks cnTypes cnRest cnDataFrom
+cn-from o s memo ats p stored e = rw e (simp append-assoc)
 
 -- with the master's number taken apart
 cg-made : (s : List ℕ) (ps : List Placed) (g cn name source comment records bytes : ℕ) (inval : Bool) (m : Option ℕ)

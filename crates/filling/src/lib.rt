@@ -30,7 +30,7 @@ ghost use Rattle.plan.specs.Channel.{channelFlags};
 ghost use Rattle.plan.specs.Layout.{dlSize};
 ghost use Rattle.result.specs.Fill.{one, mdBytes, fhBytes, hdData, hdBytes, cnFlags, blockLinks};
 ghost use Rattle.filling.specs.Blocks.{Laid, dgFrom, flagsFrom, cgHeader, cgFront, cgCounts, cgDataFrom, cgFrom};
-ghost use Rattle.filling.specs.Blocks.{cnLinks, cnTypes, cnRest, cnFrom, dlFrom};
+ghost use Rattle.filling.specs.Blocks.{cnLinks, cnTypes, cnRest, cnFront, cnDataFrom, dlFrom};
 
 const FH: u64 = 1212556067;
 
@@ -242,11 +242,20 @@ fn cn_flags(image: &[u8], c: u64, keeps: bool) -> u64
     f - f / 4096 % 2 * 4096 - f / 2 % 2 * 2
 }
 
-// Its header and all links but the last.
-fn put_cn_links(d: &mut [u8], name: u64, source: u64, conversion: u64, sd: u64, unit: u64)
-    ensures { λ _. ⌜ now (d .exit) ≡ blit 0 (cnLinks name source conversion sd unit) (now (d .entry)) ⌝ }
+// Its header, of so many bytes and links, and the first seven links.
+fn put_cn_links(
+    d: &mut [u8],
+    size: u64,
+    links: u64,
+    name: u64,
+    source: u64,
+    conversion: u64,
+    sd: u64,
+    unit: u64,
+)
+    ensures { λ _. ⌜ now (d .exit) ≡ blit 0 (cnLinks size links name source conversion sd unit) (now (d .entry)) ⌝ }
 {
-    header(d, CN, 160, 8);
+    header(d, CN, size, links);
     put_u64(d, 24, 0);
     put_u64(d, 32, 0);
     put_u64(d, 40, name);
@@ -256,35 +265,11 @@ fn put_cn_links(d: &mut [u8], name: u64, source: u64, conversion: u64, sd: u64, 
     put_u64(d, 72, unit);
 }
 
-// Its data up to the bit count, with the type stored; the index past that.
-fn put_cn_types(d: &mut [u8], image: &[u8], c: u64, stored: u64) -> usize
-    ensures { λ r. ⌜ Laid 88 (cnTypes (now (image .entry)) c stored) 100 (now (d .entry)) (now (d .exit)) r ⌝ }
-{
-    put_u8(d, 88, stored);
-    let p = put_data(d, 89, image, c, 1, 3);
-    put_u32(d, p, 0);
-    put_data(d, p + 4, image, c, 8, 4)
-}
-
-// Its data from the flags on.
-fn put_cn_rest(d: &mut [u8], at: usize, image: &[u8], c: u64, keeps: bool)
-    requires { ⌜ at ≤ 100 ⌝ }
-    ensures { λ _. ⌜ now (d .exit) ≡ blit at (cnRest (now (image .entry)) c keeps) (now (d .entry)) ⌝ }
-{
-    put_u32(d, at, cn_flags(image, c, keeps));
-    put_u32(d, at + 4, 0);
-    let p = put_data(d, at + 8, image, c, 20, 2);
-    put_u16(d, p, 0);
-    put_data(d, p + 2, image, c, 24, 48);
-}
-
-// A column's CN, from the CN at c, with the type stored.
+// A column's CN up to its eighth link; it has so many bytes and links.
 pub fn put_cn(
     d: &mut [u8],
-    image: &[u8],
-    c: u64,
-    stored: u64,
-    keeps: bool,
+    size: u64,
+    links: u64,
     name: u64,
     source: u64,
     conversion: u64,
@@ -292,12 +277,40 @@ pub fn put_cn(
     unit: u64,
     comment: u64,
 )
-    ensures { λ _. ⌜ now (d .exit) ≡ blit 0 (cnFrom (now (image .entry)) c stored keeps name source conversion sd unit comment) (now (d .entry)) ⌝ }
+    ensures { λ _. ⌜ now (d .exit) ≡ blit 0 (cnFront size links name source conversion sd unit comment) (now (d .entry)) ⌝ }
 {
-    put_cn_links(d, name, source, conversion, sd, unit);
+    put_cn_links(d, size, links, name, source, conversion, sd, unit);
     put_u64(d, 80, comment);
+}
+
+// Its data up to the bit count, with the type stored; the index past that.
+fn put_cn_types(d: &mut [u8], image: &[u8], c: u64, stored: u64) -> usize
+    ensures { λ r. ⌜ Laid 0 (cnTypes (now (image .entry)) c stored) 12 (now (d .entry)) (now (d .exit)) r ⌝ }
+{
+    put_u8(d, 0, stored);
+    let p = put_data(d, 1, image, c, 1, 3);
+    put_u32(d, p, 0);
+    put_data(d, p + 4, image, c, 8, 4)
+}
+
+// Its data from the flags on, with the number of references to attachments.
+fn put_cn_rest(d: &mut [u8], at: usize, image: &[u8], c: u64, keeps: bool, photos: u64)
+    requires { ⌜ at ≤ 12 ⌝ }
+    ensures { λ _. ⌜ now (d .exit) ≡ blit at (cnRest (now (image .entry)) c keeps photos) (now (d .entry)) ⌝ }
+{
+    put_u32(d, at, cn_flags(image, c, keeps));
+    put_u32(d, at + 4, 0);
+    let p = put_data(d, at + 8, image, c, 20, 2);
+    put_u16(d, p, photos);
+    put_data(d, p + 2, image, c, 24, 48);
+}
+
+// A column's data of the CN, from the CN at c, with the type stored and the number of references to attachments.
+pub fn put_cn_data(d: &mut [u8], image: &[u8], c: u64, stored: u64, keeps: bool, photos: u64)
+    ensures { λ _. ⌜ now (d .exit) ≡ blit 0 (cnDataFrom (now (image .entry)) c stored keeps photos) (now (d .entry)) ⌝ }
+{
     let p = put_cn_types(d, image, c, stored);
-    put_cn_rest(d, p, image, c, keeps);
+    put_cn_rest(d, p, image, c, keeps, photos);
 }
 
 // The length of a DL of n blocks, modulo 2^64.

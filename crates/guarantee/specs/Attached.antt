@@ -1,5 +1,5 @@
 -- The result's attachments: the AT of the recording in order, as they were but for their links, which lead to copies.
-use Prim.Native.Nat.{ℕ, suc, _+_, _*_, _-_, _^_, _≤_, _<_}
+use Prim.Native.Nat.{ℕ, zero, suc, _+_, _*_, _-_, _^_, _≤_, _<_}
 use mathlib.Core.List.{List, [], _∷_, _++_, append-assoc}
 use mathlib.Core.Path.{_≡_, refl, ap, _∙_}
 use native.Mathlib.Omega.{arith}
@@ -12,10 +12,11 @@ use Rattle.mdf.specs.Block.{kindAt, sizeAt, linksAt, linkAt, dataAt}
 use Rattle.plan.specs.Copies.{Copy, Attachment}
 use Rattle.result.specs.Fill.{Block, words, newLink, newLinks, dataOf, nextAttachment, atBytes, copiedBlocks, attachmentBlocks}
 use Rattle.result.specs.Links.{headAt}
-use Rattle.result.specs.Names.{SameBlock, AttachmentsDue}
+use Rattle.result.specs.Names.{SameBlock, AttachmentsDue, chainPlace}
 use Rattle.result.specs.Recording.{attachedFrom}
 use Rattle.result.specs.Guarantee.{Stands, In, here, there}
 use Rattle.copies_laws.specs.AttachLaws.{Moved, LaidAt}
+use Rattle.copies_laws.specs.PhotoLaws.{attachedTo}
 use Rattle.copies_laws.specs.LengthLaws.{length-dataOf}
 use Rattle.copies_laws.specs.MemoLaws.{OtherLinks}
 use Rattle.shown_laws.specs.Flat.{in-back}
@@ -122,3 +123,22 @@ module _ (s f : List ℕ) (bytes : (i : ℕ) → getD s i 0 < 256) (chain : List
             (link-due s f bytes chain memo fh all k _ (other t here i h)),
         rw (at-next (t .from) (t .to) (nextAttachment ts) (laid .1) (above _ here') small (stands _ here')) more,
       )
+
+  -- attachment number k by first links
+  pub attached-place : (ts : List Attachment) (n e : ℕ) → LaidAt s n ts e
+      → ((c : Block) → In c (attachmentBlocks s chain memo fh ts) → 0 < c .at)
+      → ((c : Block) → In c (attachmentBlocks s chain memo fh ts) → c .at < 256 ^ 8)
+      → ((c : Block) → In c (attachmentBlocks s chain memo fh ts) → Stands f (c .at) (c .bytes))
+      → (k : ℕ) → k < length (attachedFrom ts)
+      → (chainPlace f (nextAttachment ts) k ≡ getD (attachedTo ts) k 0) × (getD (attachedTo ts) k 0 < 256 ^ 8)
+  unfolding chainPlace attachedFrom attachedTo attachmentBlocks LaidAt
+  attached-place [] n e laid above below stands k h = absurd (omega arith)
+  attached-place (t ∷ ts) n e laid above below stands zero h =
+      (refl, below _ (in-back (copiedBlocks s chain memo fh (t .own)) here))
+  attached-place (t ∷ ts) n e laid above below stands (suc k) h =
+      let rest : (c : Block) → In c (attachmentBlocks s chain memo fh ts) → In c (attachmentBlocks s chain memo fh (t ∷ ts)) =
+      λ c i. in-back (copiedBlocks s chain memo fh (t .own)) (there i) in
+      let here' = in-back (copiedBlocks s chain memo fh (t .own)) here in
+      let small : nextAttachment ts < 256 ^ 8 = next-small ts (λ c i. below c (rest c i)) in
+      let more = attached-place ts _ e (laid .2) (λ c i. above c (rest c i)) (λ c i. below c (rest c i)) (λ c i. stands c (rest c i)) k (omega arith) in
+      (rw (at-next (t .from) (t .to) (nextAttachment ts) (laid .1) (above _ here') small (stands _ here')) (more .0), more .1)

@@ -97,32 +97,32 @@ module _ (u : ℕ) (i : IsUnit u) where
       (λ h. near-none u i (dlOf p) _ (rw (dl-none (columnBlocks s size (p .column)) h) (omega (arith, here-near (dlOf p)))))
       (λ h. near-cons u i (dlOf p) _ _ _ [] (here-near (dlOf p)) (length-dl s size p h) (near-none u i _ _ (here-near _)))
 
-  column-near : (r : Rules) (s : List ℕ) (size : ℕ) (memo : List Copy) (all ps : List Placed) (p : Placed) (e : ℕ) → InImage s (p .column)
-      → Near u (p .dg + structureSize s size (p .column)) (structureBlocks r s size memo all ps) e
-      → Near u (p .dg) (structureBlocks r s size memo all (p ∷ ps)) e
+  column-near : (r : Rules) (s : List ℕ) (size : ℕ) (memo : List Copy) (ats : List Attachment) (all ps : List Placed) (p : Placed) (e : ℕ) → InImage s (p .column)
+      → Near u (p .dg + structureSize s size (p .column)) (structureBlocks r s size memo ats all ps) e
+      → Near u (p .dg) (structureBlocks r s size memo ats all (p ∷ ps)) e
   unfolding structureBlocks structureSize
-  column-near r s size memo all ps p e j o =
+  column-near r s size memo ats all ps p e j o =
       let w : dlOf p + dlSize (columnBlocks s size (p .column)) ≡ p .dg + structureSize s size (p .column) = omega arith in
       near-cons u i (p .dg) _ e _ _ (here-near _) (length-dg s size memo p (nextDG ps))
       (near-cons u i (cgOf p) (cgSize (p .column .master)) e _ _ (here-near _) (length-cg s memo all p j)
-      (near-cons u i (cnOf p) _ e _ _ (here-near _) (length-cn r s memo p j)
+      (near-cons u i (cnOf p) _ e _ _ (here-near _) (length-cn r s memo ats p j)
       (near-append u i (dlOf p) (dlOf p + dlSize (columnBlocks s size (p .column))) e (dlBlocks s size p) _ (dl-near s size p) (rw w o))))
 
-  structure-near : (o : Rules) (s : List ℕ) (size : ℕ) (memo : List Copy) (all : List Placed) (a d : ℕ) (cs : List Column)
-      → ((c : Column) → In c cs → InImage s c) → Near u a (structureBlocks o s size memo all (placedFrom o s size a d cs)) (structureEnd s size a cs)
+  structure-near : (o : Rules) (s : List ℕ) (size : ℕ) (memo : List Copy) (ats : List Attachment) (all : List Placed) (a d : ℕ) (cs : List Column)
+      → ((c : Column) → In c cs → InImage s c) → Near u a (structureBlocks o s size memo ats all (placedFrom o s size a d cs)) (structureEnd s size a cs)
   unfolding withPlaces placesFrom structuresEnd sizesOf structureBlocks Near
-  structure-near o s size memo all a d [] f = here-near a
-  structure-near o s size memo all a d (c ∷ cs) f =
+  structure-near o s size memo ats all a d [] f = here-near a
+  structure-near o s size memo ats all a d (c ∷ cs) f =
       let z : Sizes = columnSizes s size c in
-      column-near o s size memo all (placedFrom o s size (a + z .structure) (pastData (o .unit) z d) cs) (placedAt c (placesAt (o .unit) a d z))
+      column-near o s size memo ats all (placedFrom o s size (a + z .structure) (pastData (o .unit) z d) cs) (placedAt c (placesAt (o .unit) a d z))
       (structureEnd s size (a + z .structure) cs) (f c here)
-      (structure-near o s size memo all (a + z .structure) (pastData (o .unit) z d) cs (λ b j. f b (there j)))
+      (structure-near o s size memo ats all (a + z .structure) (pastData (o .unit) z d) cs (λ b j. f b (there j)))
 
 structures-near : (u : ℕ) → IsUnit u → {r : Rules} {s : List ℕ} {size n : ℕ} {cs : List Column} {l : Layout} → LaidOut r s size n cs l
-    → (memo : List Copy) (all : List Placed) → ((c : Column) → In c cs → InImage s c)
-    → Near u (pastCopies (l .metadata)) (structureBlocks r s size memo all (l .placed)) (l .metadataEnd)
-structures-near u i {r} {s} {size} {n} {cs} {l} o memo all f =
-    rw (o .placed, o .metadataEnd) (structure-near u i r s size memo all (pastCopies (l .metadata)) _ cs f)
+    → (memo : List Copy) (ats : List Attachment) (all : List Placed) → ((c : Column) → In c cs → InImage s c)
+    → Near u (pastCopies (l .metadata)) (structureBlocks r s size memo ats all (l .placed)) (l .metadataEnd)
+structures-near u i {r} {s} {size} {n} {cs} {l} o memo ats all f =
+    rw (o .placed, o .metadataEnd) (structure-near u i r s size memo ats all (pastCopies (l .metadata)) _ cs f)
 
 -- ---- all blocks, where those with the columns' data are near
 pub blocks-close : (x : Args) → IsUnit (x .unit) → (cs : List Column) (l : Layout) → LaidOut (rulesOf x) (x .image) (x .blockSize) (length (x .text)) cs l
@@ -142,8 +142,8 @@ blocks-close x i cs l o m f d =
     let copied : Near u (l .fh + 56) (copiedBlocks s chain memo (l .fh) own) (align8 (l .metadata .next)) =
     copied-near u i s chain memo (l .fh) (l .fh + 56) (align8 (l .metadata .next)) own
     (laid-to s _ _ _ own (columns-laid o) (align-past _)) (tight-to s _ _ own (grown-tight (columns-after-history o))) in
-    let structures : Near u (align8 (l .metadata .next)) (structureBlocks (rulesOf x) s (x .blockSize) memo (l .placed) (l .placed)) (l .metadataEnd) =
-    structures-near u i o memo (l .placed) f in
+    let structures : Near u (align8 (l .metadata .next)) (structureBlocks (rulesOf x) s (x .blockSize) memo (l .attached .attachments) (l .placed) (l .placed)) (l .metadataEnd) =
+    structures-near u i o memo (l .attached .attachments) (l .placed) f in
     let attached : Near u (dataEnd (rulesOf x) s (x .blockSize) (l .metadataEnd) cs) (attachmentBlocks s chain memo (l .fh) (l .attached .attachments)) (l .fileSize) =
     rw (o .fileSize) (attached-near u i s chain memo (l .fh) _ _ (l .attached .attachments) (attachments-laid o .laid) (attachments-laid o .tight)) in
     near-close u i 0 (l .fileSize) (blocksOf x l)

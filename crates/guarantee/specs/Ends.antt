@@ -14,7 +14,8 @@ use Rattle.base.specs.ChoiceLaws.{lt-first}
 use Rattle.base.specs.Checked.{Checked, ok, refused, andThen}
 use Rattle.mdf.specs.Block.{kindAt, sizeAt, linksAt, firstLink, headerIn, wholeAt}
 use Rattle.mdf.specs.Chain.{isIn}
-use Rattle.plan.specs.Copies.{kindAT, Copy, Copies, copyOf, withCopy, isCopied, lostLinks, copyLinks, onCopy, copyAt, copyRoot, mostCopies, History, history, historyFrom, historyOf, Attachment, Attached, mostAttachments, isAttached, attachmentIn, attach, attachmentsFrom, attachmentsOf}
+use Rattle.plan.specs.Copies.{Copy, Copies, copyOf, withCopy, isCopied, lostLinks, copyLinks, onCopy, copyAt, copyRoot, mostCopies, History, history, historyFrom, historyOf, Attachment, Attached, isAttached, attach, attachmentsFrom, attachmentsOf}
+use Rattle.plan.specs.Photos.{kindAT, mostAttachments, attachmentIn}
 use Rattle.result.specs.Member.{In, here, there}
 use Rattle.result.specs.Recording.{Leads, Followed, isAT, attachedFrom}
 use Rattle.copies_laws.specs.Laid.{Grown}

@@ -13,6 +13,7 @@ use Rattle.plan.specs.Rules.{builtIn}
 use Rattle.plan.specs.Layout.{
   columnBlocks,
   cgSize,
+  cnSize,
   dlSize,
   structureSize,
   Sizes,
@@ -86,7 +87,7 @@ unfolding dlSize
 dl-eights n = on-eq (λ (x : ℕ). x % 8 ≡ 0) n 0 0 (24 + 8 * (n + 1) + 16) (λ _. refl) (λ _. omega arith)
 
 structure-eights : (s : List ℕ) (size : ℕ) (c : Column) → structureSize s size c % 8 ≡ 0
-unfolding structureSize
+unfolding structureSize cnSize
 structure-eights s size c = omega (arith, cg-eights (c .master), dl-eights (columnBlocks s size c))
 
 structures-eights : (s : List ℕ) (size a : ℕ) (cs : List Column) → a % 8 ≡ 0 → structureEnd s size a cs % 8 ≡ 0

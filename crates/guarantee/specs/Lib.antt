@@ -5,6 +5,7 @@ pub mod Named
 pub mod Front
 pub mod Past
 pub mod Attached
+pub mod Photos
 pub mod Copied
 pub mod Close
 pub mod Theorem

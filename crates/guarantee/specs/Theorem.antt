@@ -1,15 +1,17 @@
 -- Demand 3: whatever the definitions accept has the guarantee.
 use Prim.Native.Nat.{ℕ, _+_, _^_, _≤_, _<_}
 use mathlib.Core.List.{List, []}
+use mathlib.Core.Bool.{Bool}
 use mathlib.Core.Path.{_≡_, refl, sym, _∙_, ap, subst}
 use native.Mathlib.Omega.{arith}
 use lib.ListN.{length, getD}
 use Rattle.base.specs.Blit.{blit}
 use Rattle.base.specs.Checked.{ok, fine}
-use Rattle.base.specs.CheckedLaws.{ok-same}
-use Rattle.mdf.specs.Block.{CG, CN}
+use Rattle.base.specs.CheckedLaws.{ok-same, then-ok}
+use Rattle.mdf.specs.Block.{CG, CN, wholeAt, blockAt}
 use Rattle.mdf.specs.Group.{dataGroups}
 use Rattle.mdf.specs.Walk.{Source, walk}
+use Rattle.plan.specs.Photos.{photosIn}
 use Rattle.plan.specs.Columns.{srcGroups, Column, Signal, noSignal, signalData, omissionWords}
 use Rattle.plan.specs.Data.{signalIn}
 use Rattle.plan.specs.Layout.{Placed, placedFrom, pastCopies, structureSize, dataEnd, payloadSize, dlOf}
@@ -20,7 +22,9 @@ use Rattle.result.specs.Result.{Args, Decided, answer, fileOf, blocksOf, rulesO
 use Rattle.result.specs.Due.{duePayload}
 use Rattle.result.specs.Recording.{Met, signalSize}
 use Rattle.result.specs.Guarantee.{In, Guaranteed, Starts}
+use Rattle.copies_laws.specs.AnswerLaws.{Whole, whole-fits}
 use Rattle.copies_laws.specs.LengthLaws.{InImage}
+use Rattle.copies_laws.specs.PlacedLaws.{FewPhotos}
 use Rattle.copies_laws.specs.CopyLaws.{root-grown}
 use Rattle.copies_laws.specs.LayoutLaws.{LaidOut, laid-out, columns-placed, columns-within, metadataEnd-near, file-near, columns-ordered, blocks-ordered}
 use Rattle.copies_laws.specs.OrderLaws.{ordered-ends}
@@ -36,12 +40,13 @@ use Rattle.plan_laws.specs.Known.{Known, answer-known}
 use Rattle.plan_laws.specs.TableLaws.{treats, choices-unit, choices-table}
 use Rattle.plan_laws.specs.PlanLaws.{made-kinded}
 use Rattle.plan_laws.specs.FileOrderLaws.{plan-in-order}
-use Rattle.shown_laws.specs.ColumnShown.{ColumnSound}
+use Rattle.shown_laws.specs.ColumnShown.{ColumnSound, Refers}
 use Rattle.shown_laws.specs.Final.{file-apart, file-filled, file-shows}
 use Rattle.guarantee.specs.List.{listed}
 use Rattle.guarantee.specs.Ends.{history-followed, attachments-followed}
 use Rattle.guarantee.specs.Places.{equal-even, flatten-together, data-inside, fragments-few, signal-small, Sized, DataWithin, data-within, data-ends, in-column}
-use Rattle.guarantee.specs.Copied.{comment-due, past-due, newest-due, attached-due, names-due}
+use Rattle.guarantee.specs.Copied.{comment-due, past-due, newest-due, attached-due, names-due, column-photos}
+use Rattle.guarantee.specs.Photos.{photos-few, photos-many, photos-small, photos-kept}
 use Rattle.guarantee.specs.Front.{front-due}
 
 -- the elements of an image are bytes
@@ -78,6 +83,22 @@ module _ (x : Args) (d : Decided) (k : Known x d) where
         channel = data-inside CN (x .image) (c .channel) (f .channels (c .channel) (k .source c i .2));
       }
 
+  -- its CN is a whole block
+  whole-channel : (c : Column) → In c (d .planned .columns) → Whole (x .image) (c .channel)
+  unfolding blockAt
+  whole-channel c i =
+      let f = k .groups .checked (c .group) (k .source c i .0) in
+      whole-fits (x .image) (c .channel) (then-ok (wholeAt (x .image) (c .channel)) _ (f .channels (c .channel) (k .source c i .2)) .1)
+
+  -- and its references are few
+  pub few-photos : FewPhotos (d .planned .columns)
+  few-photos c i =
+      let n = k .planned .sourced c i in
+      rw (n .refers) (photos-few (x .photos) (x .image) (c .channel) (n .referred) (whole-channel c i))
+
+  pub refers : (c : Column) → In c (d .planned .columns) → Refers (rulesOf x) (x .image) c
+  refers c i = rw (k .planned .sourced c i .refers) (photos-many (x .photos) (x .image) (c .channel))
+
   unit : IsUnit (x .unit)
   unit = unit-is (x .unit) (choices-unit (rulesOf x) (k .steps .chosen))
 
@@ -111,8 +132,8 @@ module _ (x : Args) (d : Decided) (k : Known x d) where
   column-in p i = in-column (rulesOf x) (x .image) (x .blockSize) _ _ (d .planned .columns) p (in-placed p i)
 
   -- metadata ends below 2^45
-  pub metadata-small : d .laidOut .metadataEnd ≤ 18200000000000
-  metadata-small = omega (arith, metadataEnd-near o (k .steps .blocksFine), k .fewColumns, k .steps .lent .textLength)
+  pub metadata-small : d .laidOut .metadataEnd ≤ 18300000000000
+  metadata-small = omega (arith, metadataEnd-near o (k .steps .blocksFine) few-photos, k .fewColumns, k .steps .lent .textLength)
 
   -- and begins past the header
   pub metadata-above : 0 < pastCopies (d .laidOut .metadata)
@@ -146,6 +167,7 @@ module _ (x : Args) (d : Decided) (k : Known x d) where
           records = records-small (c .group) (member (x .image) (dataGroups (k .steps .source)) (k .steps .counted) (c .group) (in-source c j)) (k .steps .imageLength) (z .few);
           few = omega (arith, blocks-few (x .image) (x .blockSize) (d .planned .columns) (k .steps .blocksFine) c j);
           short = omega (arith, small, full-bound (x .image) (x .blockSize) c);
+          fewPhotos = photos-small (x .photos) (x .image) c bytes (k .planned .sourced c j .refers);
           equal = equal-even _ _ (column-even (x .image) (x .blockSize) c (z .ready));
           whole = flatten-together (columnPayloads (x .image) (x .blockSize) c) ∙ q;
           dgAbove = omega (arith, w .begins, metadata-above);
@@ -189,7 +211,7 @@ guaranteed x out list d bytes e =
     let filled = file-filled x (d .laidOut) out (ordered x d k) (a .outputFits) in
     record {
       planned = columns-placed (o x d k);
-      shows = file-shows x (d .laidOut) out (ordered x d k) (a .outputFits) (sound x d k bytes);
+      shows = file-shows x (d .laidOut) out (ordered x d k) (a .outputFits) (sound x d k bytes) (λ p i. refers x d k (p .column) (column-in x d k p i));
       front = front-due x (d .laidOut) _ filled (k .steps .lent);
       comment = λ n. comment-due x (d .planned .columns) (d .laidOut) (o x d k) _ bytes (ordered x d k) (file-below x d k) filled n;
       names = λ p i n. names-due x (d .planned .columns) (d .laidOut) (o x d k) _ bytes (ordered x d k) (file-below x d k) filled p i
@@ -197,6 +219,10 @@ guaranteed x out list d bytes e =
       historyKept = past-due x (d .planned .columns) (d .laidOut) (o x d k) _ bytes (ordered x d k) (file-below x d k) filled;
       historyNew = newest-due x (d .planned .columns) (d .laidOut) (o x d k) _ bytes (ordered x d k) (file-below x d k) filled;
       attachments = attached-due x (d .planned .columns) (d .laidOut) (o x d k) _ bytes (ordered x d k) (file-below x d k) filled;
+      photos = λ b p i.
+          let n = k .planned .sourced (p .column) (column-in x d k p i) in
+          column-photos x (d .planned .columns) (d .laidOut) (o x d k) _ bytes (ordered x d k) (file-below x d k) filled p i (column-in x d k p i)
+          (sound x d k bytes p i) (photos-kept (x .photos) (x .image) (p .column) b (n .refers)) (subst (λ (t : Bool). photosIn t (x .image) (p .column .channel) ≡ fine) b (n .referred));
       filled = filled;
       apart = file-apart x (d .laidOut) out (ordered x d k);
       starts = starts x d k;

@@ -19,7 +19,7 @@ use Rattle.work_words.specs.PlanWords.{signalFragments, laidPlan}
 use Rattle.result.specs.Listing.{planLines, listing}
 use Rattle.result.specs.Result.{Args, Decided, decided, lentIn, answer, workIn}
 use Rattle.plan_laws.specs.Known.{Known, decided-known}
-use Rattle.guarantee.specs.Theorem.{sized}
+use Rattle.guarantee.specs.Theorem.{sized, few-photos}
 use Rattle.placing.specs.declared.layout.Numbers.{Numbers}
 use Rattle.placing.specs.declared.decide.Decision.{Decision}
 use Rattle.placing.specs.declared.decide.Decision.the-variants.{Refused, Done}
@@ -101,7 +101,7 @@ module _ {x : Args} {i f k o : ℕ} {n : Numbers} {a b c d a' b' c' d' : List �
 
   bounded : AllBounded (x .image) (x .blockSize) (t .told .planned .columns)
   bounded = all-bounded (x .image) (x .blockSize) (t .told .planned .columns) (known .steps .imageLength) (known .steps .blocksFine)
-      (λ c j. let z = sized x (t .told) known c j in record { ready = z .ready; signals = z .signals; few = z .few; fewSignals = z .fewSignals })
+      (λ c j. let z = sized x (t .told) known c j in record { ready = z .ready; signals = z .signals; few = z .few; fewSignals = z .fewSignals; fewPhotos = few-photos x (t .told) known c j })
 
   few-fragments : length (t .source .fragments) + length (signalFragments (t .told .planned .columns)) ≤ 1024
   few-fragments =
@@ -113,7 +113,7 @@ module _ {x : Args} {i f k o : ℕ} {n : Numbers} {a b c d a' b' c' d' : List �
       let l = t .longC in
       let m = t .longB in
       rw (t .inColumns, t .inFragments, t .columns) (laid-counts (t .told .planned) (t .source .fragments) c b (known .fewColumns) (known .fewOmissions)
-      (omega arith) few-fragments (omega arith) (x .image) (x .blockSize) bounded)
+      (omega arith) few-fragments (omega arith) (x .photos) (x .image) (x .blockSize) bounded (record { each = λ c j. known .planned .sourced c j .refers }))
 
   -- its lines are those of the answer
   pub done-answer : (out list : ℕ) → answerIn (x .image) (x .blockSize) c' b' k o (n .«file_size») out list ≡ listing x (answer x out list)

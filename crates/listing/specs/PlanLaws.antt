@@ -19,7 +19,7 @@ use Rattle.work_words.specs.PlanWords.{timeWord, columnWords, columnsWords, sig
 use Rattle.plan.specs.Layout.{columnBlocks}
 use Rattle.payload_laws.specs.SignalLaws.{length-signal}
 use Rattle.planning.specs.TimeWordLaws.{blit-among}
-use Rattle.placing.specs.InWords.{blocksAt, Columns, signalBytesOf, AllBounded}
+use Rattle.placing.specs.InWords.{blocksAt, Columns, signalBytesOf, AllBounded, Referring}
 use Rattle.placing.specs.ColumnsLaws.{Reads, stand-reads, stand-rest, blocks-of, payload-of, signal-of, all-within, columns-stand}
 use Rattle.result.specs.Guarantee.{In, here, there}
 use Rattle.result.specs.Payload.{signalBytes}
@@ -171,10 +171,10 @@ module _ (p : Plan) (fs : List Fragment) (w f : List ℕ) (few : length (p .colu
       omittedWord (decimal (length (p .omissions))) (10 ∷ []) (omissionLines (p .omissions)))
 
   -- bounds of columns are bounds of their words
-  pub laid-counts : (s : List ℕ) (size : ℕ) → AllBounded s size (p .columns) → AllCount s columnsLaid fragmentsLaid (length (p .columns))
+  pub laid-counts : (ph : Bool) (s : List ℕ) (size : ℕ) → AllBounded s size (p .columns) → Referring ph s (p .columns) → AllCount s columnsLaid fragmentsLaid (length (p .columns))
   unfolding bytesAt
-  laid-counts s size b =
-      let a = all-within s size columnsLaid fragmentsLaid (length fs) 0 (p .columns) stand b in
+  laid-counts ph s size b r =
+      let a = all-within ph s size columnsLaid fragmentsLaid (length fs) 0 (p .columns) stand b r in
       record { each = λ k l. let e : 0 + 8 * k ≡ 8 * k = omega arith in let v = rw e at (a .each k l) in omega (arith, v .payload, v .signal) }
 
 -- ---- a refusal

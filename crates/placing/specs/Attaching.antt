@@ -5,11 +5,10 @@ use mathlib.Core.Path.{_≡_}
 use mathlib.Core.Bool.{Bool, true, false}
 use lib.Dec.{eqb}
 use lib.ListN.{length, getD}
-use Rattle.base.specs.Choice.{pick, ifLt, ifEq}
-use Rattle.base.specs.Checked.{Checked, ok, refused, andThen}
+use Rattle.base.specs.Choice.{pick}
+use Rattle.base.specs.Checked.{Checked, ok, refused}
 use Rattle.base.specs.Blit.{blit}
-use Rattle.mdf.specs.Block.{kindAt, headerIn}
-use Rattle.plan.specs.Copies.{kindAT, Attached, mostAttachments, attachmentIn}
+use Rattle.plan.specs.Copies.{Attached}
 use Rattle.work_words.specs.CopyWords.{attachmentWords, attachmentsAt}
 use Rattle.placing.specs.declared.memo.Copying.{Copying}
 use Rattle.placing.specs.declared.attachments.Moved.{Moved}
@@ -20,14 +19,6 @@ use Rattle.placing.specs.Standing.{standing, Past}
 unfoldable pub attachedIn : List ℕ → ℕ → ℕ → ℕ → Bool
 attachedIn w p zero a = false
 attachedIn w p (suc k) a = let more = attachedIn w (p + 3) k a in pick (eqb (getD w p 0) a) true more
-
--- whether the chain goes on at a, where it was met or not, after n attachments; a refusal; in the order of `attachmentsFrom`
-unfoldable pub attachesAt : List ℕ → ℕ → Bool → ℕ → Checked Bool
-attachesAt s a met n =
-    let limited = ifLt n mostAttachments (ok true) (refused 19 a) in
-    let checked = andThen (attachmentIn s a) (λ _. limited) in
-    let unseen = andThen (headerIn s a) (λ _. ifEq (kindAt s a) kindAT checked (ok false)) in
-    ifEq a 0 (ok false) (pick met (ok false) unseen)
 
 abbrev pub onAttaches : Checked Bool → Attached → Checked Attached → Checked Attached
 onAttaches (ok true) t more = more

@@ -11,14 +11,13 @@ use lib.Dec.{eqb, ltb}
 use lib.ListN.{length, drop, set, getD, length-append, length-drop, length-set}
 use lib.Seq.{getD-drop, getD-set-same, getD-set-other}
 use Rattle.base.specs.Choice.{pick, ifLt, ifEq}
-use Rattle.base.specs.ChoiceLaws.{lt-yes, lt-no, lt-back, lt-first, eq-yes, eq-no, eq-first}
-use Rattle.base.specs.Checked.{Checked, ok, refused, andThen, Verdict, fine}
+use Rattle.base.specs.Checked.{Checked, ok, refused, andThen, Verdict}
 use Rattle.base.specs.Blit.{blit}
 use Rattle.base.specs.BlitLaws.{blit-append, length-blit}
-use Rattle.blocks.specs.AnswerLaws.{refused≢ok, then-fine}
 use Rattle.mdf.specs.Block.{kindAt, sizeAt, linksAt, firstLink, headerIn}
 use Rattle.plan.specs.Geometry.{align8}
-use Rattle.plan.specs.Copies.{kindAT, Copies, copies, copyRoot, copyLinks, Attachment, Attached, isAttached, mostAttachments, attachmentIn, attach, attachmentsFrom, attachmentsOf}
+use Rattle.plan.specs.Copies.{Copies, copies, copyRoot, copyLinks, Attachment, Attached, isAttached, attach, attachmentsFrom, attachmentsOf}
+use Rattle.plan.specs.Photos.{kindAT, mostAttachments, attachmentIn}
 use Rattle.work_words.specs.CopyWords.{attachmentWords, attachmentsAt}
 use Rattle.placing.specs.declared.memo.Copying.{Copying}
 use Rattle.placing.specs.declared.copier.Got.{Got}
@@ -31,7 +30,10 @@ use Rattle.placing.specs.TurnLaws.{copied-at, copied-refused, after-at}
 use Rattle.placing.specs.HistoryLaws.{past-both}
 use Rattle.placing.specs.Index.{Indexed}
 use Rattle.placing.specs.IndexLaws.{indexed-same}
-use Rattle.placing.specs.Attaching.{attachedIn, attachesAt, onAttaches, Moving, MovedAll}
+use Rattle.photos.specs.declared.Going.{Going}
+use Rattle.photos.specs.Followed.{goesOn, goingAs}
+use Rattle.photos.specs.FollowedLaws.{goes-fits}
+use Rattle.placing.specs.Attaching.{attachedIn, onAttaches, Moving, MovedAll}
 
 -- ---- the search: what is left of the attachments gives what all give
 attached-none : (w : List ℕ) (p k a : ℕ) → k ≡ 0 → attachedIn w p k a ≡ false
@@ -116,101 +118,6 @@ pub attached-state : (used n size : ℕ) {x y : ℕ} → x ≡ align8 n → y �
     → _≡_ {A = Copying} (record { used = used; next = y }) (record { used = used; next = align8 (align8 n + size) })
 attached-state used n size p q = rw (q, p)
 
--- ---- the checks of an AT: 18 for its links, its length and the most bytes; its range
-module _ (s : List ℕ) (a : ℕ) where
-  pub at-few : linksAt s a < 4 → refused 18 a ≡ attachmentIn s a
-  unfolding attachmentIn
-  at-few h = lt-yes _ _ _ _ h refl
-
-  module _ (h : 4 ≤ linksAt s a) where
-    pub at-short : sizeAt s a < 24 + 8 * linksAt s a → refused 18 a ≡ attachmentIn s a
-    unfolding attachmentIn
-    at-short k = lt-no _ _ _ _ h (lt-yes _ _ _ _ k refl)
-
-    module _ (k : 24 + 8 * linksAt s a ≤ sizeAt s a) where
-      pub at-long : 268435456 < 24 + 8 * linksAt s a → refused 18 a ≡ attachmentIn s a
-      unfolding attachmentIn
-      at-long l = lt-no _ _ _ _ h (lt-no _ _ _ _ k (lt-yes _ _ _ _ l refl))
-
-      pub at-past : 24 + 8 * linksAt s a ≤ 268435456 → length s < a + sizeAt s a → refused 4 a ≡ attachmentIn s a
-      unfolding attachmentIn
-      at-past l r = lt-no _ _ _ _ h (lt-no _ _ _ _ k (lt-no _ _ _ _ l (lt-yes _ _ _ _ r refl)))
-
-      pub at-fine : 24 + 8 * linksAt s a ≤ 268435456 → a + sizeAt s a ≤ length s → fine ≡ attachmentIn s a
-      unfolding attachmentIn
-      at-fine l r = lt-no _ _ _ _ h (lt-no _ _ _ _ k (lt-no _ _ _ _ l (lt-no _ _ _ _ r refl)))
-
--- ---- whether the chain goes on, one law for each way of the code
-pub attaches-none : (s : List ℕ) (a : ℕ) (met : Bool) (n : ℕ) → a ≡ 0 → ok false ≡ attachesAt s a met n
-unfolding attachesAt
-attaches-none s a met n z = eq-yes _ _ _ _ z refl
-
-module _ (s : List ℕ) (a : ℕ) (met : Bool) (n : ℕ) (link : a ≡ 0 → ⊥) where
-  pub attaches-met : met ≡ true → ok false ≡ attachesAt s a met n
-  unfolding attachesAt
-  attaches-met i = eq-no _ _ _ _ link (rw i)
-
-  module _ (i : met ≡ false) where
-    pub attaches-header : {k p : ℕ} → headerIn s a ≡ refused k p → refused k p ≡ attachesAt s a met n
-    unfolding attachesAt
-    attaches-header v = eq-no _ _ _ _ link (rw (i, v))
-
-    module _ (v : headerIn s a ≡ ok tt) where
-      pub attaches-other : (kindAt s a ≡ kindAT → ⊥) → ok false ≡ attachesAt s a met n
-      unfolding attachesAt
-      attaches-other k = eq-no _ _ _ _ link (rw (i, v) (eq-no _ _ _ _ k refl))
-
-      module _ (k : kindAt s a ≡ kindAT) where
-        pub attaches-refused : {q p : ℕ} → attachmentIn s a ≡ refused q p → refused q p ≡ attachesAt s a met n
-        unfolding attachesAt
-        attaches-refused f = eq-no _ _ _ _ link (rw (i, v) (eq-yes _ _ _ _ k (rw f)))
-
-        pub attaches-full : attachmentIn s a ≡ ok tt → 64 ≤ n → refused 19 a ≡ attachesAt s a met n
-        unfolding attachesAt
-        attaches-full f h = eq-no _ _ _ _ link (rw (i, v) (eq-yes _ _ _ _ k (rw f (lt-no _ _ _ _ h refl))))
-
-        pub attaches-on : attachmentIn s a ≡ ok tt → n < 64 → ok true ≡ attachesAt s a met n
-        unfolding attachesAt
-        attaches-on f h = eq-no _ _ _ _ link (rw (i, v) (eq-yes _ _ _ _ k (rw f (lt-yes _ _ _ _ h refl))))
-
--- what is known where it goes on
-pub record Fitting (s : List ℕ) (a n : ℕ) : Type 0 where
-  pub linked : 4 ≤ linksAt s a
-  pub within : 24 + 8 * linksAt s a ≤ sizeAt s a
-  pub range : a + sizeAt s a ≤ length s
-  pub few : n < 64
-
-false≢true : _≡_ {A = Checked Bool} (ok false) (ok true) → ⊥
-false≢true e = let z : _≡_ {A = ℕ} 0 1 = cc in omega arith
-
-at-fits : (s : List ℕ) (a n : ℕ) → attachmentIn s a ≡ fine → n < 64 → Fitting s a n
-unfolding attachmentIn
-at-fits s a n e h =
-    let b = lt-back _ _ _ _ e refused≢ok in
-    let c = lt-back _ _ _ _ (b .1) refused≢ok in
-    let d = lt-back _ _ _ _ (c .1) refused≢ok in
-    let f = lt-back _ _ _ _ (d .1) refused≢ok in
-    record { linked = b .0; within = c .0; range = f .0; few = h }
-
-not-zero : (a : ℕ) (x : Checked Bool) → ifEq a 0 (ok false) x ≡ ok true → x ≡ ok true
-unfolding ifEq
-not-zero a x e = go (eqb a 0) e
-  where
-    go : (b : Bool) → pick b (ok false) x ≡ ok true → x ≡ ok true
-    go true e = absurd (false≢true e)
-    go false e = e
-
-not-met : (met : Bool) (x : Checked Bool) → pick met (ok false) x ≡ ok true → x ≡ ok true
-not-met true x e = absurd (false≢true e)
-not-met false x e = e
-
-pub attaches-fits : (s : List ℕ) (a : ℕ) (met : Bool) (n : ℕ) → attachesAt s a met n ≡ ok true → Fitting s a n
-unfolding attachesAt
-attaches-fits s a met n e =
-    let header = then-fine (headerIn s a) _ (not-met met _ (not-zero a _ e)) in
-    let checked = then-fine (attachmentIn s a) _ (eq-first _ _ _ _ (header .1) false≢true .1) in
-    at-fits s a n (checked .0) (lt-first _ _ _ _ (checked .1) refused≢ok .0)
-
 -- ---- the next AT: whether the chain goes on, then the blocks that its links lead to, then itself and the rest
 attachMore : ℕ → List ℕ → ℕ → Attached → Checked Attached
 attachMore turns s a t =
@@ -218,8 +125,8 @@ attachMore turns s a t =
     (λ m. attachmentsFrom turns s (firstLink s a) (attach a (sizeAt s a) (t .made) m t))
 
 attach-open : (turns : ℕ) (s : List ℕ) (a : ℕ) (t : Attached) → 0 < turns
-    → attachmentsFrom turns s a t ≡ onAttaches (attachesAt s a (isAttached a (t .attachments)) (length (t .attachments))) t (attachMore (turns - 1) s a t)
-unfolding attachmentsFrom attachesAt ifEq ifLt attachMore
+    → attachmentsFrom turns s a t ≡ onAttaches (goesOn s a (isAttached a (t .attachments)) (length (t .attachments))) t (attachMore (turns - 1) s a t)
+unfolding attachmentsFrom goesOn ifEq ifLt attachMore
 attach-open zero s a t h = absurd (omega arith)
 attach-open (suc turns) s a t h =
     rw (sub-one (suc turns))
@@ -237,6 +144,9 @@ attach-open (suc turns) s a t h =
     go false false (ok u) true (refused n p) l = refl
     go false false (ok u) true (ok x) true = refl
     go false false (ok u) true (ok x) false = refl
+
+pub goes-by : (s : List ℕ) (a n : ℕ) {m b : Bool} {g h : Going} → b ≡ m → goingAs g ≡ goesOn s a b n → g ≡ h → goingAs h ≡ goesOn s a m n
+goes-by s a n e i q = rw (← q, ← e) i
 
 -- ---- the walk along the chain
 pub record Chaining (s w₀ : List ℕ) (a : ℕ) (st₀ : Copying) (w : List ℕ) (at count turns : ℕ) (st : Copying) : Type 0 where
@@ -287,21 +197,21 @@ module _ {s w₀ : List ℕ} {a : ℕ} {st₀ : Copying} {w : List ℕ} {at coun
       ∙ attached-blit (m .told .attachments) w₀ 4096 at (omega arith)
 
   module _ (h : 0 < turns) where
-    opened : {v : Checked Bool} → attachesAt s at (attachedIn w 4096 count at) count ≡ v
+    opened : {v : Checked Bool} → goesOn s at (attachedIn w 4096 count at) count ≡ v
         → onAttaches v (u .moving .told) (attachMore (turns - 1) s at (u .moving .told)) ≡ attachmentsOf s a (standing w₀ st₀)
     opened e =
         ap (λ (v : Checked Bool). onAttaches v (u .moving .told) (attachMore (turns - 1) s at (u .moving .told)))
-        (sym e ∙ ap (λ (b : Bool). attachesAt s at b count) met-told
-        ∙ ap (λ (n : ℕ). attachesAt s at (isAttached at (u .moving .told .attachments)) n) (sym (u .moving .counted)))
+        (sym e ∙ ap (λ (b : Bool). goesOn s at b count) met-told
+        ∙ ap (λ (n : ℕ). goesOn s at (isAttached at (u .moving .told .attachments)) n) (sym (u .moving .counted)))
         ∙ sym (attach-open turns s at (u .moving .told) h) ∙ u .rest
 
-    pub chain-ends : attachesAt s at (attachedIn w 4096 count at) count ≡ ok false → MovedAll count w₀ w st₀ st (attachmentsOf s a (standing w₀ st₀))
+    pub chain-ends : goesOn s at (attachedIn w 4096 count at) count ≡ ok false → MovedAll count w₀ w st₀ st (attachmentsOf s a (standing w₀ st₀))
     chain-ends e = record { moving = u .moving; is = sym (opened e) }
 
-    pub chain-refused : {n p : ℕ} → attachesAt s at (attachedIn w 4096 count at) count ≡ refused n p → attachmentsOf s a (standing w₀ st₀) ≡ refused n p
+    pub chain-refused : {n p : ℕ} → goesOn s at (attachedIn w 4096 count at) count ≡ refused n p → attachmentsOf s a (standing w₀ st₀) ≡ refused n p
     chain-refused e = sym (opened e)
 
-    module _ (e : attachesAt s at (attachedIn w 4096 count at) count ≡ ok true) {n : ℕ} (l : n ≡ linksAt s at) {w' : List ℕ} {g : Got}
+    module _ (e : goesOn s at (attachedIn w 4096 count at) count ≡ ok true) {n : ℕ} (l : n ≡ linksAt s at) {w' : List ℕ} {g : Got}
         (c : Copied w w' g (copyLinks (copyRoot s) s (n - 1) (at + 32) (standing w st))) where
       followed : {v : Checked Copies} → v ≡ copyLinks (copyRoot s) s (n - 1) (at + 32) (standing w st)
           → copyLinks (copyRoot s) s (linksAt s at - 1) (at + 32) (standing w st) ≡ v
@@ -320,7 +230,7 @@ module _ {s w₀ : List ℕ} {a : ℕ} {st₀ : Copying} {w : List ℕ} {at coun
           let d = copied-at c q in
           let k' = after-at f q in
           let m = u .moving in
-          let g = attaches-fits s at (attachedIn w 4096 count at) count e in
+          let g = goes-fits s at (attachedIn w 4096 count at) count e in
           let new : Attachment = record { from = at; to = align8 (t .next); own = drop (length (copiesIn w (st .used))) (copiesIn w' (t .used)) } in
           let own : length (new .own) ≡ t .used - st .used = simp (length-drop, length-copies) in
           let told : Attached = record { attachments = m .told .attachments ++ (new ∷ []); made = copies (copiesIn w' (t .used)) (align8 (align8 (t .next) + sizeAt s at)) } in

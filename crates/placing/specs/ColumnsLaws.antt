@@ -1,6 +1,7 @@
 -- Columns that stand in words: what is taken out of the words is what is defined of the columns; the words that planning leaves hold its columns.
 use Prim.Native.Nat.{ℕ, zero, suc, _+_, _*_, _-_, _≤_, _<_}
 use mathlib.Core.List.{List, [], _∷_, _++_}
+use mathlib.Core.Bool.{Bool}
 use mathlib.Core.Path.{_≡_, refl, sym, ap, _∙_}
 use mathlib.Core.Option.{Option, none, some}
 use native.Mathlib.Nat.{add-zero}
@@ -12,12 +13,13 @@ use Rattle.base.specs.Checked.{Checked, ok, refused, andThen}
 use Rattle.base.specs.Blit.{blit}
 use Rattle.mdf.specs.Chain.{Fragment}
 use Rattle.work_words.specs.Words.{fragmentWords}
+use Rattle.plan.specs.Photos.{photosOf}
 use Rattle.plan.specs.Columns.{Column, Signal, noSignal, signalData, sizeOfSignal, Plan}
 use Rattle.work_words.specs.PlanWords.{masterWord, signalWord, columnWords, columnsWords, fragmentsIn, signalFragments, omissionPairs, laidPlan}
 use Rattle.plan.specs.Copies.{Copies, copyRoots, columnLinks, columnCopies}
 use Rattle.work_words.specs.CopyWords.{placedWords}
 use Rattle.plan.specs.Rules.{Rules}
-use Rattle.plan.specs.Layout.{columnWidth, columnBlocks, cgSize, structureSize, payloadSize, Sizes, firstAt, blocksEnd, signalEnd, placesAt, pastData, placesFrom, structuresEnd, placesEnd, signalSizes, columnSizes, sizesOf, withPlaces, placedFrom, structureEnd, dataEnd}
+use Rattle.plan.specs.Layout.{columnWidth, columnBlocks, cgSize, cnSize, structureSize, payloadSize, Sizes, firstAt, blocksEnd, signalEnd, placesAt, pastData, placesFrom, structuresEnd, placesEnd, signalSizes, columnSizes, sizesOf, withPlaces, placedFrom, structureEnd, dataEnd}
 use Rattle.plan.specs.Layout as layout
 use Rattle.result.specs.Guarantee.{here, there}
 use Rattle.planning.specs.Sizes.{signalSize}
@@ -44,6 +46,7 @@ use Rattle.placing.specs.InWords.{
   copiesOf,
   Within,
   AllWithin,
+  Referring,
   Columns,
   signalBytesOf,
   AllBounded,
@@ -141,9 +144,12 @@ module _ {w f : List ℕ} {m p : ℕ} {c : Column} (r : Reads w f m p c) where
   unfolding payloadAt payloadSize
   payload-of s = rw (width-of s, r .records)
 
-  pub structure-of : (s : List ℕ) (size : ℕ) → structureAt s size w p ≡ structureSize s size c
-  unfolding structureAt structureSize
-  structure-of s size = rw (r .master, cg-of (c .master), blocks-of s size)
+  photos-at : (ph : Bool) (s : List ℕ) → c .photos ≡ photosOf ph s (c .channel) → length (photosOf ph s (getD w p 0)) ≡ length (c .photos)
+  photos-at ph s e = rw (r .channel, e)
+
+  pub structure-of : (ph : Bool) (s : List ℕ) (size : ℕ) → c .photos ≡ photosOf ph s (c .channel) → structureAt ph s size w p ≡ structureSize s size c
+  unfolding structureAt structureSize cnSize
+  structure-of ph s size e = rw (r .master, cg-of (c .master), blocks-of s size, photos-at ph s e)
 
   pub blocks-end-of : (s : List ℕ) (size d : ℕ) → blocksEndAt s size w p d ≡ blocksEnd (columnSizes s size c) d
   unfolding blocksEndAt blocksEnd
@@ -206,13 +212,17 @@ then-same : {A B : Type 0} (v : Checked A) (f g : A → Checked B) → ((x : A) 
 then-same (ok x) f g e = e x
 then-same (refused a b) f g e = refl
 
-module _ (s : List ℕ) (size : ℕ) (w f : List ℕ) where
-  pub structures-of : (m p a : ℕ) (cs : List Column) → Columns w f m p cs → structuresIn s size w p (length cs) a ≡ structureEnd s size a cs
+-- of the rest too
+rest-referring : {ph : Bool} {s : List ℕ} {c : Column} {cs : List Column} → Referring ph s (c ∷ cs) → Referring ph s cs
+rest-referring h = record { each = λ d i. h .each d (there i) }
+
+module _ (ph : Bool) (s : List ℕ) (size : ℕ) (w f : List ℕ) where
+  pub structures-of : (m p a : ℕ) (cs : List Column) → Columns w f m p cs → Referring ph s cs → structuresIn ph s size w p (length cs) a ≡ structureEnd s size a cs
   unfolding structuresIn structuresEnd sizesOf
-  structures-of m p a [] h = refl
-  structures-of m p a (c ∷ cs) h =
-      ap (λ (x : ℕ). structuresIn s size w (p + 8) (length cs) (a + x)) (structure-of (stand-reads w f m p c cs h) s size)
-      ∙ structures-of (m + sizeOfSignal (c .signalOf)) (p + 8) (a + structureSize s size c) cs (stand-rest w f m p c cs h)
+  structures-of m p a [] h g = refl
+  structures-of m p a (c ∷ cs) h g =
+      ap (λ (x : ℕ). structuresIn ph s size w (p + 8) (length cs) (a + x)) (structure-of (stand-reads w f m p c cs h) ph s size (g .each c here))
+      ∙ structures-of (m + sizeOfSignal (c .signalOf)) (p + 8) (a + structureSize s size c) cs (stand-rest w f m p c cs h) (rest-referring g)
 
   pub data-of : (o : Rules) (m p d : ℕ) (cs : List Column) → Columns w f m p cs → dataIn (o .unit) s size w f p (length cs) d ≡ dataEnd o s size d cs
   unfolding dataIn placesEnd sizesOf
@@ -222,17 +232,17 @@ module _ (s : List ℕ) (size : ℕ) (w f : List ℕ) where
       ap (λ (x : ℕ). dataIn (o .unit) s size w f (p + 8) (length cs) x) (column-end r (o .unit) s size d)
       ∙ data-of o (m + sizeOfSignal (c .signalOf)) (p + 8) (pastData (o .unit) (columnSizes s size c) d) cs (stand-rest w f m p c cs h)
 
-  pub placed-of : (o : Rules) (m p a d : ℕ) (cs : List Column) → Columns w f m p cs
-      → placedIn (o .unit) s size w f p (length cs) a d ≡ placedWords (placedFrom o s size a d cs)
+  pub placed-of : (o : Rules) (m p a d : ℕ) (cs : List Column) → Columns w f m p cs → Referring ph s cs
+      → placedIn (o .unit) ph s size w f p (length cs) a d ≡ placedWords (placedFrom o s size a d cs)
   unfolding placedIn withPlaces placesFrom sizesOf placedWords
-  placed-of o m p a d [] h = refl
-  placed-of o m p a d (c ∷ cs) h =
+  placed-of o m p a d [] h g = refl
+  placed-of o m p a d (c ∷ cs) h g =
       let r = stand-reads w f m p c cs h in
       let u : ℕ = o .unit in
       let z : Sizes = columnSizes s size c in
-      rw (first-of r u s size d, sd-of r u s size d, structure-of r s size, column-end r u s size d)
+      rw (first-of r u s size d, sd-of r u s size d, structure-of r ph s size (g .each c here), column-end r u s size d)
       (ap (λ (l : List ℕ). a ∷ firstAt u z d ∷ placesAt u 0 d z .sd ∷ l)
-      (placed-of o (m + sizeOfSignal (c .signalOf)) (p + 8) (a + structureSize s size c) (pastData u z d) cs (stand-rest w f m p c cs h)))
+      (placed-of o (m + sizeOfSignal (c .signalOf)) (p + 8) (a + structureSize s size c) (pastData u z d) cs (stand-rest w f m p c cs h) (rest-referring g)))
 
   pub copies-of : (m p : ℕ) (cs : List Column) (x : Copies) → Columns w f m p cs → copiesOf s w p (length cs) x ≡ columnCopies s cs x
   unfolding copiesOf columnCopies
@@ -242,26 +252,27 @@ module _ (s : List ℕ) (size : ℕ) (w f : List ℕ) where
       ∙ then-same (copyRoots s (columnLinks s c) x) _ _ (λ y. copies-of (m + sizeOfSignal (c .signalOf)) (p + 8) cs y (stand-rest w f m p c cs h))
 
   -- bounds of columns are bounds of their words
-  pub all-within : (m p : ℕ) (cs : List Column) → Columns w f m p cs → AllBounded s size cs
-      → AllWithin s size w f p (length cs)
-  all-within m p cs h b = record { each = λ k i. at m p cs k h b i }
+  pub all-within : (m p : ℕ) (cs : List Column) → Columns w f m p cs → AllBounded s size cs → Referring ph s cs
+      → AllWithin ph s size w f p (length cs)
+  all-within m p cs h b g = record { each = λ k i. at m p cs k h b g i }
     where
-      at : (m p : ℕ) (cs : List Column) (k : ℕ) → Columns w f m p cs → AllBounded s size cs → k < length cs
-          → Within s size w f (p + 8 * k)
-      at m p [] k h b i = absurd (omega arith)
-      at m p (c ∷ cs) zero h b i =
+      at : (m p : ℕ) (cs : List Column) (k : ℕ) → Columns w f m p cs → AllBounded s size cs → Referring ph s cs → k < length cs
+          → Within ph s size w f (p + 8 * k)
+      at m p [] k h b q i = absurd (omega arith)
+      at m p (c ∷ cs) zero h b q i =
           let r = stand-reads w f m p c cs h in
           let g = b .each c here in
           let e : p + 8 * 0 ≡ p = omega arith in
           rw e (record {
             blocks = omega (arith, blocks-of r s size, g .blocks);
+            photos = omega (arith, photos-at r ph s (q .each c here), g .photos);
             payload = omega (arith, payload-of r s, g .payload);
             signal = omega (arith, signal-of r, g .signal);
           })
-      at m p (c ∷ cs) (suc k) h b i =
+      at m p (c ∷ cs) (suc k) h b q i =
           let e : p + 8 * suc k ≡ p + 8 + 8 * k = omega arith in
           rw e (at (m + sizeOfSignal (c .signalOf)) (p + 8) cs k (stand-rest w f m p c cs h)
-          (record { each = λ x j. b .each x (there j) }) (omega arith))
+          (record { each = λ x j. b .each x (there j) }) (rest-referring q) (omega arith))
 
 -- ---- the words that planning leaves
 blit-among : (bs : List ℕ) (j k : ℕ) (l : List ℕ) → k < length bs → j + k < length l → getD (blit j bs l) (j + k) 0 ≡ getD bs k 0

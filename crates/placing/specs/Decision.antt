@@ -23,7 +23,7 @@ use Rattle.placing.specs.declared.decide.Decision.the-variants.{Refused,
 
 -- a call's arguments but the time
 abbrev pub untimed : List ℕ → ℕ → List ℕ → List ℕ → Rules → Args
-untimed image size ident text rs = record { image = image; blockSize = size; ident = ident; text = text; time = 0; unit = rs .unit; table = rs .table; share = rs .share }
+untimed image size ident text rs = record { image = image; blockSize = size; ident = ident; text = text; time = 0; unit = rs .unit; table = rs .table; share = rs .share; photos = rs .photos }
 
 -- the four work slices
 abbrev pub four : List ℕ → List ℕ → List ℕ → List ℕ → List (List ℕ)

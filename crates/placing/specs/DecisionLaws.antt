@@ -1,6 +1,7 @@
 -- Laws of what is decided before anything is written.
 use Prim.Native.Nat.{ℕ, _+_, _≤_, _<_}
 use mathlib.Core.List.{List, [], _∷_, _++_}
+use mathlib.Core.Bool.{Bool}
 use mathlib.Core.Path.{_≡_, refl, sym, ap, subst, _∙_}
 use native.Mathlib.Omega.{arith}
 use lib.ListN.{length, length-append, replicate}
@@ -10,11 +11,13 @@ use Rattle.base.specs.ChoiceLaws.{lt-yes, lt-no, lt-back, eq-yes, eq-no, eq-fir
 use Rattle.base.specs.Checked.{Checked, ok, refused, andThen, Verdict, fine}
 use Rattle.base.specs.CheckedLaws.{refused≢ok, ok-same, then-ok, then-fine}
 use Rattle.base.specs.Field.{leAt}
+use Rattle.mdf.specs.Block.{CN, wholeAt, blockAt}
 use Rattle.mdf.specs.Identification.{identified}
 use Rattle.mdf.specs.Walk.{walk}
 use Rattle.mdf.specs.Group.{dataGroups}
 use Rattle.mdf.specs.Count.{counts}
 use Rattle.work_words.specs.Words.{countsAt, laidItems, fragmentWords}
+use Rattle.plan.specs.Photos.{photosOf, photosIn, photosFirst}
 use Rattle.plan.specs.Columns.{SrcGroup, srcGroups, Column, Signal, noSignal, signalData, sizeOfSignal, plan}
 use Rattle.work_words.specs.PlanWords.{fragmentsIn, signalFragments, laidPlan}
 use Rattle.plan.specs.Data.{allDataIn, blocksIn}
@@ -32,11 +35,13 @@ use Rattle.plan_laws.specs.SourceLaws.{Groups, groups-known}
 use Rattle.plan_laws.specs.ColumnLaws.{signalsOf}
 use Rattle.plan_laws.specs.DecideLaws.{Sound}
 use Rattle.plan_laws.specs.StandLaws.{sharing-standing}
-use Rattle.plan_laws.specs.PlanLaws.{Planned, plan-known, plan-source, plan-fits, plan-few, plan-signals}
+use Rattle.plan_laws.specs.PlanLaws.{Planned, Sourced, plan-known, plan-source, plan-fits, plan-few, plan-signals}
 use Rattle.payload_laws.specs.CountLaws.{member}
 use Rattle.payload_laws.specs.ColumnLaws.{ready}
 use Rattle.payload_laws.specs.SignalLaws.{column-signal}
 use Rattle.guarantee.specs.Places.{fragments-few}
+use Rattle.guarantee.specs.Photos.{photos-few}
+use Rattle.copies_laws.specs.AnswerLaws.{Whole, whole-fits}
 use Rattle.planning.specs.Answer.{Arranged, plannedOf, planLeft, leftBy, planInto}
 use Rattle.planning.specs.declared.recording.Planned as answer
 use Rattle.planning.specs.declared.recording.Planned.the-variants as planned
@@ -46,7 +51,7 @@ use Rattle.placing.specs.declared.layout.Laid.the-variants as laid
 use Rattle.placing.specs.declared.decide.Decision.{Decision}
 use Rattle.placing.specs.declared.decide.Decision.the-variants.{Refused, Done}
 use Rattle.placing.specs.Laying.{onUnit, LaidOut, Lays, LaysOut}
-use Rattle.placing.specs.InWords.{AllWithin}
+use Rattle.placing.specs.InWords.{AllWithin, Referring}
 use Rattle.placing.specs.BoundedLaws.{Known, all-bounded, plan-within, plan-laid}
 use Rattle.placing.specs.Decision.{untimed, four, rest, Shares, DecidedIn, RestIn, RefusedIn, Decides, DecidesRest}
 
@@ -74,12 +79,13 @@ decided-rest x =
     steps (identified s) _ k ∙ same-steps (identified s) _ _ (λ _.
     steps (walk s) _ k ∙ same-steps (walk s) _ _ (λ st.
     steps (counts s (dataGroups st)) _ k ∙ same-steps (counts s (dataGroups st)) _ _ (λ ns.
+    steps (photosFirst (x .photos) s) _ k ∙ same-steps (photosFirst (x .photos) s) _ _ (λ _.
     steps (sharing (x .share) s (dataGroups st) (srcGroups (dataGroups st) ns)) _ k
     ∙ same-steps (sharing (x .share) s (dataGroups st) (srcGroups (dataGroups st) ns)) _ _ (λ bys.
     steps (plan (rulesOf x) s (length (st .fragments)) (srcGroups (dataGroups st) ns) bys) _ k
     ∙ same-steps (plan (rulesOf x) s (length (st .fragments)) (srcGroups (dataGroups st) ns) bys) _ _ (λ p.
     steps (allDataIn s (p .columns) (dataGroups st)) _ k ∙ same-steps (allDataIn s (p .columns) (dataGroups st)) _ _ (λ _.
-    steps (blocksIn s (x .blockSize) (p .columns)) _ k)))))))))))
+    steps (blocksIn s (x .blockSize) (p .columns)) _ k))))))))))))
 
 -- ---- the lent slices
 module _ (ident text : List ℕ) where
@@ -153,6 +159,15 @@ module _ (rs : Rules) (s : List ℕ) (size : ℕ) (w f c w' f' c' : List ℕ) (r
   pub plans-refused : {x y : ℕ} → r ≡ planned.Refused x y → plannedOf rs s size ≡ refused x y
   plans-refused {x} {y} q = refused-by rs s size x y w f c w' f' c' (plannedOf rs s size) refl (rw q at (e ∙ sym (plan-into rs s size w f c l m n)))
 
+-- ---- a channel's references are few
+whole-channel : (s : List ℕ) (c : ℕ) → blockAt CN s c ≡ fine → Whole s c
+unfolding blockAt
+whole-channel s c e = whole-fits s c (then-fine (wholeAt s c) _ e .0)
+
+column-photos : (ph : Bool) (s : List ℕ) (c : Column) → Whole s (c .channel) → photosIn ph s (c .channel) ≡ fine → c .photos ≡ photosOf ph s (c .channel)
+    → length (c .photos) ≤ 33554432
+column-photos ph s c w e q = rw q (photos-few ph s (c .channel) e w)
+
 -- ---- the steps of planning
 pub record ArrangedBy (rs : Rules) (s : List ℕ) (size : ℕ) (a : Arranged) : Type 0 where
   pub walked : walk s ≡ ok (a .source)
@@ -168,7 +183,8 @@ arranged-by rs s size a e =
     let b = then-fine (identified s) _ e in
     let c = then-ok (walk s) _ (b .1) in
     let d = then-ok (counts s (dataGroups (c .0))) _ (c .2) in
-    let j = then-ok (sharing (rs .share) s (dataGroups (c .0)) (srcGroups (dataGroups (c .0)) (d .0))) _ (d .2) in
+    let o = then-fine (photosFirst (rs .photos) s) _ (d .2) in
+    let j = then-ok (sharing (rs .share) s (dataGroups (c .0)) (srcGroups (dataGroups (c .0)) (d .0))) _ (o .1) in
     let f = then-ok (plan rs s (length (c .0 .fragments)) (srcGroups (dataGroups (c .0)) (d .0)) (j .0)) _ (j .2) in
     let g = then-fine (allDataIn s (f .0 .columns) (dataGroups (c .0))) _ (f .2) in
     let h = then-fine (blocksIn s size (f .0 .columns)) _ (g .1) in
@@ -209,6 +225,14 @@ module _ {rs : Rules} {s : List ℕ} {size i nf nc no' sh : ℕ} {w f c w' f' c'
       let p = plan-known rs s all (t .told .stands) (length (t .told .source .fragments)) (t .told .planned) one (known .nonzero) sound (known .fewFragments) (by .planned) in
       omega (arith, signals-length (t .told .planned .columns), p .signals, p .few)
 
+  -- its references
+  column-sourced : (c : Column) → In c (t .told .planned .columns) → Sourced rs s all (t .told .stands) c
+  column-sourced =
+      plan-known rs s all (t .told .stands) (length (t .told .source .fragments)) (t .told .planned) one (known .nonzero) sound (known .fewFragments) (by .planned) .sourced
+
+  referring : Referring (rs .photos) s (t .told .planned .columns)
+  referring = record { each = λ c j. column-sourced c j .refers }
+
   -- a column whose data was read
   column-known : (c : Column) → In c (t .told .planned .columns) → Known s c
   unfolding dataGroups
@@ -222,6 +246,7 @@ module _ {rs : Rules} {s : List ℕ} {size i nf nc no' sh : ℕ} {w f c w' f' c'
         signals = column-signal s (dataGroups (t .told .source)) (t .told .planned .columns) (by .counted) (by .dataFine) c j (source .0);
         few = omega (arith, fragments-few (t .told .source .fragments) (t .told .source .items) (c .group .dataGroup) (m .listed), known .fewFragments);
         fewSignals = omega (arith, plan-signals rs s all (t .told .stands) n (t .told .planned) one (known .nonzero) sound (known .fewFragments) (by .planned) c j);
+        fewPhotos = column-photos (rs .photos) s c (whole-channel s (c .channel) (known .checked (c .group) (source .0) .channels (c .channel) (source .2))) (column-sourced c j .referred) (column-sourced c j .refers);
       }
 
   module _ (h : length s ≤ 4294967296) (lf : 8192 ≤ length f) (lc : 8192 ≤ length c) where
@@ -229,18 +254,18 @@ module _ {rs : Rules} {s : List ℕ} {size i nf nc no' sh : ℕ} {w f c w' f' c'
     pub lays-few : nc ≤ 512
     lays-few = omega (arith, t .columns, few-columns)
 
-    pub lays-within : AllWithin s size c' f' 0 nc
+    pub lays-within : AllWithin (rs .photos) s size c' f' 0 nc
     lays-within =
         rw (t .columns, t .inColumns, t .inFragments)
-        (plan-within s size (t .told .planned) (t .told .source .fragments) c f few-columns (omega arith) few-fragments (omega arith)
-        (all-bounded s size (t .told .planned .columns) h (by .blocksFine) column-known))
+        (plan-within (rs .photos) s size (t .told .planned) (t .told .source .fragments) c f few-columns (omega arith) few-fragments (omega arith)
+        (all-bounded s size (t .told .planned .columns) h (by .blocksFine) column-known) referring)
 
     -- what it gives
-    pub laid-plan : {u text : ℕ} {m m' : List ℕ} {r : Laid} → LaysOut u s size text c' f' nc m m' r → Lays m m' r (layout (onUnit u) s size text (t .told .planned .columns))
+    pub laid-plan : {u text : ℕ} {m m' : List ℕ} {r : Laid} → LaysOut u (rs .photos) s size text c' f' nc m m' r → Lays m m' r (layout (onUnit u) s size text (t .told .planned .columns))
     laid-plan {u} {text} {m} {m'} {r} z =
-        plan-laid u s size text (t .told .planned) (t .told .source .fragments) c f nc few-columns (omega arith) few-fragments (omega arith) (sym (t .columns))
-        (subst (λ (x : List ℕ). LaysOut u s size text x (blit 0 (fragmentWords (t .told .source .fragments ++ signalFragments (t .told .planned .columns))) f) nc m m' r) (t .inColumns)
-        (subst (λ (y : List ℕ). LaysOut u s size text c' y nc m m' r) (t .inFragments) z))
+        plan-laid u (rs .photos) s size text (t .told .planned) (t .told .source .fragments) c f nc few-columns (omega arith) few-fragments (omega arith) (sym (t .columns)) referring
+        (subst (λ (x : List ℕ). LaysOut u (rs .photos) s size text x (blit 0 (fragmentWords (t .told .source .fragments ++ signalFragments (t .told .planned .columns))) f) nc m m' r) (t .inColumns)
+        (subst (λ (y : List ℕ). LaysOut u (rs .photos) s size text c' y nc m m' r) (t .inFragments) z))
 
 -- ---- the choices
 pub chosen-refused : (rs : Rules) {r : Check} → verdictOf r ≡ choicesIn rs → {n p : ℕ} → r ≡ check.Refused n p → choicesIn rs ≡ refused n p

@@ -2,12 +2,14 @@
 use Prim.Native.Nat.{ℕ, zero, suc, _+_, _*_, _≤_, _<_}
 use mathlib.Core.List.{List, [], _∷_, _++_}
 use mathlib.Core.Path.{_≡_}
+use mathlib.Core.Bool.{Bool}
 use lib.ListN.{length, getD}
 use Rattle.base.specs.Choice.{ifEq}
 use Rattle.base.specs.Checked.{Checked, ok, andThen}
 use Rattle.work_words.specs.Words.{fragmentWords}
 use Rattle.mdf.specs.Records.{sizeOf}
 use Rattle.plan.specs.Channel.{width}
+use Rattle.plan.specs.Photos.{photosOf}
 use Rattle.plan.specs.Columns.{Column, Signal, noSignal, signalData}
 use Rattle.work_words.specs.PlanWords.{columnsWords, signalFragments}
 use Rattle.plan.specs.Geometry.{align8, alignTo, blockCount}
@@ -34,8 +36,8 @@ unfoldable pub cgBytes : ℕ → ℕ
 cgBytes m = ifEq m 0 104 112
 
 -- DG, CG, CN and DL
-unfoldable pub structureAt : List ℕ → ℕ → List ℕ → ℕ → ℕ
-structureAt s size w p = 64 + cgBytes (getD w (p + 5) 0) + 160 + dlSize (blocksAt s size w p)
+unfoldable pub structureAt : Bool → List ℕ → ℕ → List ℕ → ℕ → ℕ
+structureAt ph s size w p = 64 + cgBytes (getD w (p + 5) 0) + (160 + 8 * length (photosOf ph s (getD w p 0))) + dlSize (blocksAt s size w p)
 
 -- past its data blocks, which begin at d
 unfoldable pub blocksEndAt : List ℕ → ℕ → List ℕ → ℕ → ℕ → ℕ
@@ -67,9 +69,9 @@ pastIn u s size w f p d = signalEndAt w f p (sdIn u s size w p d)
 -- ---- so many columns
 
 -- past the blocks that make up columns
-unfoldable pub structuresIn : List ℕ → ℕ → List ℕ → ℕ → ℕ → ℕ → ℕ
-structuresIn s size w p zero a = a
-structuresIn s size w p (suc n) a = structuresIn s size w (p + 8) n (a + structureAt s size w p)
+unfoldable pub structuresIn : Bool → List ℕ → ℕ → List ℕ → ℕ → ℕ → ℕ → ℕ
+structuresIn ph s size w p zero a = a
+structuresIn ph s size w p (suc n) a = structuresIn ph s size w (p + 8) n (a + structureAt ph s size w p)
 
 -- past the data of columns
 unfoldable pub dataIn : ℕ → List ℕ → ℕ → List ℕ → List ℕ → ℕ → ℕ → ℕ → ℕ
@@ -77,11 +79,11 @@ dataIn u s size w f p zero d = d
 dataIn u s size w f p (suc n) d = dataIn u s size w f (p + 8) n (pastIn u s size w f p d)
 
 -- three words for each: the places of its DG, of its first data block and of its SD
-unfoldable pub placedIn : ℕ → List ℕ → ℕ → List ℕ → List ℕ → ℕ → ℕ → ℕ → ℕ → List ℕ
-placedIn u s size w f p zero a d = []
-placedIn u s size w f p (suc n) a d =
+unfoldable pub placedIn : ℕ → Bool → List ℕ → ℕ → List ℕ → List ℕ → ℕ → ℕ → ℕ → ℕ → List ℕ
+placedIn u ph s size w f p zero a d = []
+placedIn u ph s size w f p (suc n) a d =
     (a ∷ firstIn u s size w p d ∷ sdIn u s size w p d ∷ [])
-    ++ placedIn u s size w f (p + 8) n (a + structureAt s size w p) (pastIn u s size w f p d)
+    ++ placedIn u ph s size w f (p + 8) n (a + structureAt ph s size w p) (pastIn u s size w f p d)
 
 -- the blocks that columns refer to
 unfoldable pub rootsAt : List ℕ → List ℕ → ℕ → List ℕ
@@ -92,17 +94,18 @@ copiesOf s w p zero m = ok m
 copiesOf s w p (suc n) m = andThen (copyRoots s (rootsAt s w p) m) (λ m'. copiesOf s w (p + 8) n m')
 
 -- ---- bounds: no sum of layout passes 64 bits
-pub record Within (s : List ℕ) (size : ℕ) (w f : List ℕ) (p : ℕ) : Type 0 where
+pub record Within (ph : Bool) (s : List ℕ) (size : ℕ) (w f : List ℕ) (p : ℕ) : Type 0 where
   pub blocks : blocksAt s size w p ≤ 4294967295
+  pub photos : length (photosOf ph s (getD w p 0)) ≤ 33554432
   pub payload : payloadAt s w p ≤ 4398046511104
   pub signal : signalAt w f p ≤ 4398046511104
 
-pub record AllWithin (s : List ℕ) (size : ℕ) (w f : List ℕ) (p n : ℕ) : Type 0 where
-  pub each : (k : ℕ) → k < n → Within s size w f (p + 8 * k)
+pub record AllWithin (ph : Bool) (s : List ℕ) (size : ℕ) (w f : List ℕ) (p n : ℕ) : Type 0 where
+  pub each : (k : ℕ) → k < n → Within ph s size w f (p + 8 * k)
 
--- of the number of blocks alone
-pub record AllFew (s : List ℕ) (size : ℕ) (w : List ℕ) (p n : ℕ) : Type 0 where
-  pub each : (k : ℕ) → k < n → blocksAt s size w (p + 8 * k) ≤ 4294967295
+-- of the numbers of blocks and of references alone
+pub record AllFew (ph : Bool) (s : List ℕ) (size : ℕ) (w : List ℕ) (p n : ℕ) : Type 0 where
+  pub each : (k : ℕ) → k < n → (blocksAt s size w (p + 8 * k) ≤ 4294967295) × (length (photosOf ph s (getD w (p + 8 * k) 0)) ≤ 33554432)
 
 -- ---- columns that stand in words
 
@@ -111,6 +114,10 @@ pub record Columns (w f : List ℕ) (m p : ℕ) (cs : List Column) : Type 0 wher
   pub at : (j : ℕ) → j < 8 * length cs → getD w (p + j) 0 ≡ getD (columnsWords m cs) j 0
   pub fragmentsAt : (j : ℕ) → j < 3 * length (signalFragments cs) → getD f (3 * m + j) 0 ≡ getD (fragmentWords (signalFragments cs)) j 0
 
+-- each column keeps the references that it is to keep
+pub record Referring (ph : Bool) (s : List ℕ) (cs : List Column) : Type 0 where
+  pub each : (c : Column) → In c cs → c .photos ≡ photosOf ph s (c .channel)
+
 -- what planning and the data stage give of a column
 abbrev pub signalBytesOf : Signal → ℕ
 signalBytesOf noSignal = 0
@@ -118,6 +125,7 @@ signalBytesOf (signalData fs) = sizeOf fs
 
 pub record Bounded (s : List ℕ) (size : ℕ) (c : Column) : Type 0 where
   pub blocks : columnBlocks s size c ≤ 4294967295
+  pub photos : length (c .photos) ≤ 33554432
   pub payload : payloadSize s c ≤ 4398046511104
   pub signal : signalBytesOf (c .signalOf) ≤ 4398046511104
 

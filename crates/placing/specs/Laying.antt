@@ -1,7 +1,7 @@
 -- The whole layout, in words: what the code answers at each stage.
 use Prim.Native.Nat.{ℕ, _*_, _≤_}
 use mathlib.Core.List.{List, []}
-use mathlib.Core.Bool.{false}
+use mathlib.Core.Bool.{Bool, false}
 use mathlib.Core.Path.{_≡_}
 use lib.ListN.{length}
 use Rattle.base.specs.Checked.{Checked, ok, refused, andThen}
@@ -24,7 +24,7 @@ use Rattle.placing.specs.declared.layout.Laid.the-variants as laid
 use Rattle.placing.specs.Standing.{copiesIn, standing, Past}
 use Rattle.placing.specs.Got.{After}
 use Rattle.placing.specs.History.{chainIn}
-use Rattle.placing.specs.InWords.{structuresIn, dataIn, placedIn, Columns}
+use Rattle.placing.specs.InWords.{structuresIn, dataIn, placedIn, Columns, Referring}
 
 -- ---- the HD comment and the history chain
 
@@ -48,28 +48,28 @@ Begins s m m' (chain.Refused number place) =
 -- ---- places of columns, and attachments
 
 -- past the columns' DG, CG, CN and DL, and past their data, after copies
-abbrev pub metadataEndIn : List ℕ → ℕ → List ℕ → ℕ → Copying → ℕ
-metadataEndIn s size w n st = structuresIn s size w 0 n (align8 (st .next))
+abbrev pub metadataEndIn : Bool → List ℕ → ℕ → List ℕ → ℕ → Copying → ℕ
+metadataEndIn ph s size w n st = structuresIn ph s size w 0 n (align8 (st .next))
 
-abbrev pub attachedIn : ℕ → List ℕ → ℕ → List ℕ → List ℕ → ℕ → List ℕ → Copying → Checked Attached
-attachedIn u s size w f n m st =
-    attachmentsOf s (linkAt s 64 3) (copies (copiesIn m (st .used)) (dataIn u s size w f 0 n (metadataEndIn s size w n st)))
+abbrev pub attachedIn : ℕ → Bool → List ℕ → ℕ → List ℕ → List ℕ → ℕ → List ℕ → Copying → Checked Attached
+attachedIn u ph s size w f n m st =
+    attachmentsOf s (linkAt s 64 3) (copies (copiesIn m (st .used)) (dataIn u s size w f 0 n (metadataEndIn ph s size w n st)))
 
-pub record Rested (u : ℕ) (s : List ℕ) (size : ℕ) (w f : List ℕ) (n : ℕ) (m m' : List ℕ) (st : Copying) (count end : ℕ) (t : Copying) : Type 0 where
+pub record Rested (u : ℕ) (ph : Bool) (s : List ℕ) (size : ℕ) (w f : List ℕ) (n : ℕ) (m m' : List ℕ) (st : Copying) (count end : ℕ) (t : Copying) : Type 0 where
   pub told : Attached
-  pub is : attachedIn u s size w f n m st ≡ ok told
+  pub is : attachedIn u ph s size w f n m st ≡ ok told
   pub made : told .made ≡ standing m' t
   pub counted : length (told .attachments) ≡ count
-  pub ends : end ≡ metadataEndIn s size w n st
+  pub ends : end ≡ metadataEndIn ph s size w n st
   pub few : count ≤ 64
   pub more : st .used ≤ t .used
   pub most : t .used ≤ 2048
   pub past : Past (2 * t .used) (blit attachmentsAt (attachmentWords (told .attachments))
-      (blit placedAt (placedIn u s size w f 0 n (align8 (st .next)) (metadataEndIn s size w n st)) m)) m'
+      (blit placedAt (placedIn u ph s size w f 0 n (align8 (st .next)) (metadataEndIn ph s size w n st)) m)) m'
 
-abbrev pub Rests : ℕ → List ℕ → ℕ → List ℕ → List ℕ → ℕ → List ℕ → List ℕ → Copying → Rest → Type 0
-Rests u s size w f n m m' st (rest.At count end t) = Rested u s size w f n m m' st count end t
-Rests u s size w f n m m' st (rest.Refused number place) = attachedIn u s size w f n m st ≡ refused number place
+abbrev pub Rests : ℕ → Bool → List ℕ → ℕ → List ℕ → List ℕ → ℕ → List ℕ → List ℕ → Copying → Rest → Type 0
+Rests u ph s size w f n m m' st (rest.At count end t) = Rested u ph s size w f n m m' st count end t
+Rests u ph s size w f n m m' st (rest.Refused number place) = attachedIn u ph s size w f n m st ≡ refused number place
 
 -- ---- the whole
 
@@ -98,8 +98,8 @@ Lays m m' (laid.Refused number place) v = v ≡ refused number place
 
 -- what placement takes of the choices
 abbrev pub onUnit : ℕ → Rules
-onUnit u = record { unit = u; table = []; share = false }
+onUnit u = record { unit = u; table = []; share = false; photos = false }
 
 -- of all columns that stand in the words
-pub record LaysOut (u : ℕ) (s : List ℕ) (size text : ℕ) (w f : List ℕ) (n : ℕ) (m m' : List ℕ) (r : Laid) : Type 0 where
-  pub is : (k : ℕ) (cs : List Column) → Columns w f k 0 cs → length cs ≡ n → Lays m m' r (layout (onUnit u) s size text cs)
+pub record LaysOut (u : ℕ) (ph : Bool) (s : List ℕ) (size text : ℕ) (w f : List ℕ) (n : ℕ) (m m' : List ℕ) (r : Laid) : Type 0 where
+  pub is : (k : ℕ) (cs : List Column) → Columns w f k 0 cs → length cs ≡ n → Referring ph s cs → Lays m m' r (layout (onUnit u) s size text cs)

@@ -1,27 +1,25 @@
 // The attachment chain: each AT is placed after the blocks newly copied for it; three words each from 4096 on.
-use crate::copier::AT;
 use crate::copier::Begun;
 use crate::copier::Got;
 use crate::copier::follow;
 use crate::memo::Copying;
 use crate::memo::aligned;
 use blocks::block::first_link;
-use blocks::block::header_in;
-use blocks::block::kind_at;
 use blocks::block::links_at;
 use blocks::block::size_at;
-use fields::Check;
+use photos::Going;
+use photos::goes_on;
 ghost use mathlib.Core.Path.{_≡_};
 ghost use mathlib.Core.List.{[], _∷_};
 ghost use Prim.Native.Nat.{_+_, _*_, _≤_, _<_};
 ghost use lib.ListN.{length};
 ghost use Rattle.base.specs.Blit.{blit};
-ghost use Rattle.fields.specs.Answer.{verdictOf};
 ghost use Rattle.plan.specs.Geometry.{align8};
-ghost use Rattle.plan.specs.Copies.{attachmentIn, attachmentsOf};
+ghost use Rattle.plan.specs.Copies.{attachmentsOf};
 ghost use Rattle.placing.specs.Standing.{standing, Room};
 ghost use Rattle.placing.specs.Got.{begunOf};
-ghost use Rattle.placing.specs.Attaching.{attachedIn, attachesAt, Moves};
+ghost use Rattle.photos.specs.Followed.{goesOn};
+ghost use Rattle.placing.specs.Attaching.{attachedIn, Moves};
 ghost use Rattle.placing.specs.Index.{Indexed};
 
 // The number of attachments and what is placed, or document 01's refusal.
@@ -47,81 +45,18 @@ fn is_attached(memo: &[u64], count: u64, a: u64) -> bool
     false
 }
 
-// 18, then the whole range (4).
-pub fn attachment_in(image: &[u8], a: u64) -> Check
-    ensures { λ r. ⌜ verdictOf r ≡ attachmentIn (now (image .entry)) a ⌝ }
-{
-    let links = links_at(image, a);
-    if links < 4 {
-        return Check::Refused {
-            number: 18,
-            place: a,
-        };
-    }
-    let size = size_at(image, a);
-    if size < 24 {
-        return Check::Refused {
-            number: 18,
-            place: a,
-        };
-    }
-    if (size - 24) / 8 < links {
-        return Check::Refused {
-            number: 18,
-            place: a,
-        };
-    }
-    if 33554429 < links {
-        return Check::Refused {
-            number: 18,
-            place: a,
-        };
-    }
-    let n = image.len() as u64;
-    if n < a {
-        return Check::Refused {
-            number: 4,
-            place: a,
-        };
-    }
-    if n - a < size {
-        return Check::Refused {
-            number: 4,
-            place: a,
-        };
-    }
-    Check::Fine
-}
-
 // Whether the chain goes on at a: it ends at 0, at an AT met before and at another kind; header range (4), 18, whole range (4), 19.
 fn attaches(image: &[u8], memo: &[u64], a: u64, count: u64) -> Begun
     requires { ⌜ (count ≤ 64) × (8192 ≤ length (now memo)) ⌝ }
-    ensures { λ r. ⌜ begunOf r ≡ attachesAt (now (image .entry)) a (attachedIn (now (memo .entry)) 4096 count a) count ⌝ }
+    ensures { λ r. ⌜ begunOf r ≡ goesOn (now (image .entry)) a (attachedIn (now (memo .entry)) 4096 count a) count ⌝ }
 {
-    if a == 0 {
-        return Begun::Nothing;
+    let met = is_attached(memo, count, a);
+    let going = goes_on(image, a, met, count);
+    match going {
+        Going::Refused { number, place } => Begun::Refused { number, place },
+        Going::Ends => Begun::Nothing,
+        Going::On => Begun::Links,
     }
-    if is_attached(memo, count, a) {
-        return Begun::Nothing;
-    }
-    let header = header_in(image, a);
-    if let Check::Refused { number, place } = header {
-        return Begun::Refused { number, place };
-    }
-    if kind_at(image, a) == AT {
-        let passed = attachment_in(image, a);
-        if let Check::Refused { number, place } = passed {
-            return Begun::Refused { number, place };
-        }
-        if count < 64 {
-            return Begun::Links;
-        }
-        return Begun::Refused {
-            number: 19,
-            place: a,
-        };
-    }
-    Begun::Nothing
 }
 
 // The AT at a of so many bytes, after what is placed, with so many copies of its own.

@@ -5,6 +5,7 @@ use crate::memo::aligned;
 use crate::roots::column_roots;
 use channels::block_count;
 use channels::width_of;
+use photos::photos_of;
 use planning::sizes::signal_size;
 ghost use mathlib.Core.Path.{_≡_};
 ghost use mathlib.Core.List.{[], _∷_};
@@ -61,13 +62,14 @@ fn blocks_at(image: &[u8], size: u64, columns: &[u64], p: u64) -> u64
 }
 
 // Its DG, CG, CN and DL.
-fn structure_at(image: &[u8], size: u64, columns: &[u64], p: u64) -> u64
+fn structure_at(image: &[u8], photos: bool, size: u64, columns: &[u64], p: u64) -> u64
     requires { ⌜ (p ≤ 4096) × (blocksAt (now image) size (now columns) p ≤ 4294967295) ⌝ }
-    ensures { λ r. ⌜ r ≡ structureAt (now (image .entry)) size (now (columns .entry)) p ⌝ }
+    ensures { λ r. ⌜ r ≡ structureAt photos (now (image .entry)) size (now (columns .entry)) p ⌝ }
 {
     let cg = cg_bytes(word(columns, p + 5));
+    let references = photos_of(photos, image, word(columns, p));
     let dl = dl_bytes(blocks_at(image, size, columns, p));
-    64 + cg + 160 + dl
+    64 + cg + (160 + 8 * references) + dl
 }
 
 // Past its data blocks, which begin at d.
@@ -127,15 +129,15 @@ fn signal_end(fragments: &[u64], columns: &[u64], p: u64, d: u64) -> u64
 }
 
 // Past the DG, CG, CN and DL of n columns, which begin at a.
-pub(crate) fn structure_end(image: &[u8], size: u64, columns: &[u64], n: u64, a: u64) -> u64
-    requires { ⌜ (n ≤ 512) × (a ≤ 1125899906842624) × AllFew (now image) size (now columns) 0 n ⌝ }
-    ensures { λ r. ⌜ r ≡ structuresIn (now (image .entry)) size (now (columns .entry)) 0 n a ⌝ }
+pub(crate) fn structure_end(image: &[u8], photos: bool, size: u64, columns: &[u64], n: u64, a: u64) -> u64
+    requires { ⌜ (n ≤ 512) × (a ≤ 1125899906842624) × AllFew photos (now image) size (now columns) 0 n ⌝ }
+    ensures { λ r. ⌜ r ≡ structuresIn photos (now (image .entry)) size (now (columns .entry)) 0 n a ⌝ }
 {
     let mut p: u64 = 0;
     let mut left = n;
     let mut end = a;
     while 0 < left {
-        end += structure_at(image, size, columns, p);
+        end += structure_at(image, photos, size, columns, p);
         p += 8;
         left -= 1;
     }
@@ -156,6 +158,7 @@ fn put_place(memo: &mut [u64], q: usize, dg: u64, first: u64, sd: u64)
 pub(crate) fn place_columns(
     image: &[u8],
     unit: u64,
+    photos: bool,
     size: u64,
     fragments: &[u64],
     columns: &[u64],
@@ -165,9 +168,9 @@ pub(crate) fn place_columns(
     d: u64,
 ) -> u64
     requires { ⌜ (n ≤ 512) × (a ≤ 1125899906842624) × (d ≤ 1125899906842624) × (8192 ≤ length (now memo))
-        × AllWithin (now image) size (now columns) (now fragments) 0 n × (8 ≤ unit) × (unit ≤ 4096) ⌝ }
+        × AllWithin photos (now image) size (now columns) (now fragments) 0 n × (8 ≤ unit) × (unit ≤ 4096) ⌝ }
     ensures end { λ r. ⌜ r ≡ dataIn unit (now (image .entry)) size (now (columns .entry)) (now (fragments .entry)) 0 n d ⌝ }
-    ensures words { λ r. ⌜ now (memo .exit) ≡ blit 6656 (placedIn unit (now (image .entry)) size (now (columns .entry)) (now (fragments .entry)) 0 n a d) (now (memo .entry)) ⌝ }
+    ensures words { λ r. ⌜ now (memo .exit) ≡ blit 6656 (placedIn unit photos (now (image .entry)) size (now (columns .entry)) (now (fragments .entry)) 0 n a d) (now (memo .entry)) ⌝ }
 {
     let mut p: u64 = 0;
     let mut q: usize = 6656;
@@ -179,7 +182,7 @@ pub(crate) fn place_columns(
         let end = blocks_end(image, size, columns, p, first);
         let sd = sd_of(unit, columns, p, end);
         put_place(memo, q, dg, first, sd);
-        dg += structure_at(image, size, columns, p);
+        dg += structure_at(image, photos, size, columns, p);
         past = signal_end(fragments, columns, p, sd);
         q += 3;
         p += 8;

@@ -28,8 +28,6 @@ pub const SI: u64 = 1230185251;
 
 pub const FH: u64 = 1212556067;
 
-pub const AT: u64 = 1413554979;
-
 // What was copied, or document 01's refusal with number and place.
 pub enum Got {
     At(Copying),

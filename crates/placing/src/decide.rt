@@ -111,7 +111,8 @@ fn decide_rest(
             omissions,
             shared,
         } => {
-            let laid = lay_out(image, choices.unit, size, text, fragments, columns, n, copies);
+            let photos = choices.photos;
+            let laid = lay_out(image, choices.unit, photos, size, text, fragments, columns, n, copies);
             match laid {
                 Laid::Refused { number, place } => Decision::Refused { number, place },
                 Laid::Done(numbers) => Decision::Done {

@@ -88,6 +88,7 @@ fn first_copies(image: &[u8], memo: &mut [u64], index: &mut [u16; 4096]) -> Chai
 fn place_rest(
     image: &[u8],
     unit: u64,
+    photos: bool,
     size: u64,
     fragments: &[u64],
     columns: &[u64],
@@ -97,13 +98,13 @@ fn place_rest(
     state: Copying,
 ) -> Rest
     requires { ⌜ (n ≤ 512) × (8192 ≤ length (now memo)) × (length (now image) ≤ 4294967296) × (state .used ≤ 2048)
-        × (state .next ≤ 562949953421312) × AllWithin (now image) size (now columns) (now fragments) 0 n × (8 ≤ unit) × (unit ≤ 4096)
+        × (state .next ≤ 562949953421312) × AllWithin photos (now image) size (now columns) (now fragments) 0 n × (8 ≤ unit) × (unit ≤ 4096)
         × Indexed (now memo) (state .used) (now index) ⌝ }
-    ensures { λ r. ⌜ Rests unit (now (image .entry)) size (now (columns .entry)) (now (fragments .entry)) n (now (memo .entry)) (now (memo .exit)) state r ⌝ }
+    ensures { λ r. ⌜ Rests unit photos (now (image .entry)) size (now (columns .entry)) (now (fragments .entry)) n (now (memo .entry)) (now (memo .exit)) state r ⌝ }
 {
     let a = aligned(state.next);
-    let end = structure_end(image, size, columns, n, a);
-    let data = place_columns(image, unit, size, fragments, columns, n, memo, a, end);
+    let end = structure_end(image, photos, size, columns, n, a);
+    let data = place_columns(image, unit, photos, size, fragments, columns, n, memo, a, end);
     let moved = attachments(
         image,
         memo,
@@ -128,6 +129,7 @@ fn place_rest(
 pub(crate) fn lay_out(
     image: &[u8],
     unit: u64,
+    photos: bool,
     size: u64,
     text: u64,
     fragments: &[u64],
@@ -136,8 +138,8 @@ pub(crate) fn lay_out(
     memo: &mut [u64],
 ) -> Laid
     requires { ⌜ (n ≤ 512) × (8192 ≤ length (now memo)) × (length (now image) ≤ 4294967296) × (text ≤ 4096)
-        × AllWithin (now image) size (now columns) (now fragments) 0 n × (8 ≤ unit) × (unit ≤ 4096) ⌝ }
-    ensures { λ r. ⌜ LaysOut unit (now (image .entry)) size text (now (columns .entry)) (now (fragments .entry)) n (now (memo .entry)) (now (memo .exit)) r ⌝ }
+        × AllWithin photos (now image) size (now columns) (now fragments) 0 n × (8 ≤ unit) × (unit ≤ 4096) ⌝ }
+    ensures { λ r. ⌜ LaysOut unit photos (now (image .entry)) size text (now (columns .entry)) (now (fragments .entry)) n (now (memo .entry)) (now (memo .exit)) r ⌝ }
 {
     let mut index = [0u16; 4096];
     let begun = first_copies(image, memo, &mut index);
@@ -161,6 +163,7 @@ pub(crate) fn lay_out(
                     let rest = place_rest(
                         image,
                         unit,
+                        photos,
                         size,
                         fragments,
                         columns,

@@ -6,13 +6,14 @@ use mathlib.Core.Option.{Option, none, some}
 use lib.ListN.{length, drop}
 use lib.Dec.{eqb}
 use Rattle.base.specs.Choice.{pick, ifLt, ifEq}
-use Rattle.base.specs.Checked.{Checked, ok, refused, andThen}
+use Rattle.base.specs.Checked.{Checked, ok, refused, andThen, Verdict, fine}
 use Rattle.mdf.specs.Block.{kind, kindCG, kindCN, kindAt, linksAt, linkAt, headerIn}
 use Rattle.mdf.specs.Chain.{Fragment, Chain.signal, Found, found, stopped, limits, chain}
 use Rattle.mdf.specs.Group.{Group, DataGroup, groupFlags, isStorage}
 use Rattle.plan.specs.Rules.{Rules}
 use Rattle.plan.specs.Table.{treatment}
 use Rattle.plan.specs.Channel.{channelType, fits, isMasterType, bit, both}
+use Rattle.plan.specs.Photos.{photosOf, photosIn}
 
 -- "CN link 2 leads to CA"
 abbrev pub kindCA : ℕ
@@ -104,13 +105,15 @@ pub data Signal : Type 0 where
   noSignal : Signal
   signalData : List Fragment → Signal
 
--- bookkeeping: a planned column: the group and the channel it comes from, whether it is a time column, the column of its master, its signal data
+-- bookkeeping: a planned column: the group and the channel it comes from, whether it is a time column, the column of its master, its signal data, the
+-- references to attachments that it keeps
 pub record Column : Type 0 where
   pub group : SrcGroup
   pub channel : ℕ
   pub isTime : Bool
   pub master : Option ℕ
   pub signalOf : Signal
+  pub photos : List ℕ
 
 -- "n addresses, then n reasons": of one omission
 pub record Omission : Type 0 where
@@ -135,16 +138,22 @@ unfoldable pub timeColumn : ℕ → ℕ → List Column → Option ℕ
 timeColumn g k [] = none
 timeColumn g k (c ∷ cs) = let later = timeColumn g (k + 1) cs in pick (both (c .isTime) (eqb (c .group .at) g)) (some k) later
 
--- bookkeeping: the new plan where no column was found, else the old one
-abbrev pub onPlanned : Option ℕ → Plan → Plan → Plan
+-- bookkeeping: the first where no column was found, else the second
+abbrev pub onPlanned : {A : Type 0} → Option ℕ → A → A → A
 onPlanned none new old = new
 onPlanned (some k) new old = old
 
+-- bookkeeping: the time column of group t, made of its master m
+abbrev pub timeOn : Bool → List ℕ → SrcGroup → ℕ → Column
+timeOn photos s t m = record { group = t; channel = m; isTime = true; master = none; signalOf = noSignal; photos = photosOf photos s m }
+
 -- "A time column is planned where first needed": the plan with the time column of group t, made of its master m
-unfoldable pub withTime : SrcGroup → ℕ → Plan → Plan
-withTime t m p =
-    onPlanned (timeColumn (t .at) 0 (p .columns))
-    (withColumn (record { group = t; channel = m; isTime = true; master = none; signalOf = noSignal }) 0 p) p
+unfoldable pub withTime : Bool → List ℕ → SrcGroup → ℕ → Plan → Plan
+withTime photos s t m p = onPlanned (timeColumn (t .at) 0 (p .columns)) (withColumn (timeOn photos s t m) 0 p) p
+
+-- "only planned columns are tested" (28): that time column, where it is planned
+unfoldable pub newTimeIn : Bool → List ℕ → SrcGroup → ℕ → Plan → Verdict
+newTimeIn photos s t m p = onPlanned (timeColumn (t .at) 0 (p .columns)) (photosIn photos s m) fine
 
 -- bookkeeping: what a channel other than its group's master becomes
 pub data Decision : Type 0 where
@@ -194,32 +203,35 @@ unfoldable pub unless : Checked ℕ → Checked Decision → Checked Decision
 unless reason rest = andThen reason (λ r. ifEq r 0 rest (ok (omitted r)))
 
 -- "The type's treatment is now judged before the fit" (document 02, request 7): 4 or 8; then "Reasons, tested in this order": 2, 3, 5, 6, 7. An
--- omitted type's "composition and data links are no longer read"
-unfoldable pub decide : List ℕ → List ℕ → ℕ → ℕ → ℕ → Checked Decision
-decide table s n g c =
+-- omitted type's "composition and data links are no longer read". A channel that is kept: 28, "after its omission tests and before its SD chain"
+unfoldable pub decide : Bool → List ℕ → List ℕ → ℕ → ℕ → ℕ → Checked Decision
+decide photos table s n g c =
     unless (ok (omittedType 4 table s c))
     (unless (ok (omittedType 8 table s c))
     (unless (ok (unfit s g c))
     (unless (ok (furtherMaster s c))
     (unless (composed s c)
     (unless (storedAt s (signalLink table s c))
-    (decideChain s n (signalLink table s c)))))))
+    (andThen (photosIn photos s c) (λ _. decideChain s n (signalLink table s c))))))))
 
 -- bookkeeping: the fragments of a column's signal data
 abbrev pub sizeOfSignal : Signal → ℕ
 sizeOfSignal noSignal = 0
 sizeOfSignal (signalData fs) = length fs
 
--- bookkeeping: the plan with what was decided of channel c
-abbrev pub withDecision : SrcGroup → Option ℕ → ℕ → Plan → Decision → Plan
-withDecision g m c p (omitted r) = withOmission c r p
-withDecision g m c p (kept d) = withColumn (record { group = g; channel = c; isTime = false; master = m; signalOf = d }) (sizeOfSignal d) p
+-- bookkeeping: the plan with what was decided of channel c, with the references that its column keeps
+abbrev pub withDecision : SrcGroup → Option ℕ → ℕ → List ℕ → Plan → Decision → Plan
+withDecision g m c refs p (omitted r) = withOmission c r p
+withDecision g m c refs p (kept d) =
+    withColumn (record { group = g; channel = c; isTime = false; master = m; signalOf = d; photos = refs }) (sizeOfSignal d) p
 
 -- "then the other channels in order": those but the group's own master
 unfoldable pub planChannels : Rules → List ℕ → SrcGroup → ℕ → Option ℕ → List ℕ → Plan → Checked Plan
 planChannels o s g own m [] p = ok p
 planChannels o s g own m (c ∷ cs) p =
-    let here = andThen (decide (o .table) s (p .fragments) (g .at) c) (λ d. planChannels o s g own m cs (withDecision g m c p d)) in
+    let here =
+        andThen (decide (o .photos) (o .table) s (p .fragments) (g .at) c)
+        (λ d. planChannels o s g own m cs (withDecision g m c (photosOf (o .photos) s c) p d)) in
     let next = planChannels o s g own m cs p in
     ifEq c own next here
 
@@ -231,8 +243,9 @@ ownMaster (some m) = m
 -- "1 remote master with another count (address of the group's own CG ..)"; "Reason 1 is about a group: its channels still get their own column or omission."
 abbrev pub planTimed : Rules → List ℕ → SrcGroup → TimeOf → Plan → Checked Plan
 planTimed o s g (time t m) p =
-    let q = withTime t m p in
-    planChannels o s g (ownMaster (masterOf s g)) (timeColumn (t .at) 0 (q .columns)) (g .channels) q
+    let q = withTime (o .photos) s t m p in
+    andThen (newTimeIn (o .photos) s t m p) (λ _.
+    planChannels o s g (ownMaster (masterOf s g)) (timeColumn (t .at) 0 (q .columns)) (g .channels) q)
 planTimed o s g untimed p = planChannels o s g (ownMaster (masterOf s g)) none (g .channels) p
 planTimed o s g differs p = planChannels o s g (ownMaster (masterOf s g)) none (g .channels) (withOmission (g .at) 1 p)
 

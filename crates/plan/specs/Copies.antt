@@ -7,13 +7,14 @@ use lib.ListN.{length, drop}
 use lib.Dec.{eqb}
 use Rattle.base.specs.Choice.{pick, ifLt, ifEq}
 use Rattle.base.specs.Field.{leAt}
-use Rattle.base.specs.Checked.{Checked, ok, refused, andThen, Verdict, fine}
-use Rattle.mdf.specs.Block.{kind, kindTX, kindMD, kindAt, sizeAt, linksAt, linkAt, firstLink, headerIn, wholeAt, mostBytes}
+use Rattle.base.specs.Checked.{Checked, ok, refused, andThen}
+use Rattle.mdf.specs.Block.{kind, kindTX, kindMD, kindAt, sizeAt, linksAt, linkAt, firstLink, headerIn, wholeAt}
 use Rattle.mdf.specs.Chain.{isIn}
 use Rattle.plan.specs.Geometry.{align8}
+use Rattle.plan.specs.Photos.{kindAT, mostAttachments, attachmentIn}
 use Rattle.plan.specs.Columns.{Column}
 
--- kinds that are copied beside TX and MD, and attachments
+-- kinds that are copied beside TX and MD
 abbrev pub kindCC : ℕ
 kindCC = kind "C" "C"
 
@@ -22,9 +23,6 @@ kindSI = kind "S" "I"
 
 abbrev pub kindFH : ℕ
 kindFH = kind "F" "H"
-
-abbrev pub kindAT : ℕ
-kindAT = kind "A" "T"
 
 -- bookkeeping: a copied block: where it stood and where it is placed
 pub record Copy : Type 0 where
@@ -145,22 +143,10 @@ pub record Attached : Type 0 where
   pub attachments : List Attachment
   pub made : Copies
 
--- "64 attachments"
-abbrev pub mostAttachments : ℕ
-mostAttachments = 64
-
 -- "attachment chains that return to an earlier block end quietly": a was met
 unfoldable pub isAttached : ℕ → List Attachment → Bool
 isAttached a [] = false
 isAttached a (t ∷ ts) = let more = isAttached a ts in pick (eqb (t .from) a) true more
-
--- "18, AT: under 4 links, or 24 + 8 × links over its length or over 268,435,456", then its whole range (4)
-unfoldable pub attachmentIn : List ℕ → ℕ → Verdict
-attachmentIn s a =
-    ifLt (linksAt s a) 4 (refused 18 a)
-    (ifLt (sizeAt s a) (24 + 8 * linksAt s a) (refused 18 a)
-    (ifLt mostBytes (24 + 8 * linksAt s a) (refused 18 a)
-    (ifLt (length s) (a + sizeAt s a) (refused 4 a) fine)))
 
 -- "each after the blocks newly copied for it": the AT at a, after the blocks that its links from the second on lead to
 unfoldable pub attach : ℕ → ℕ → Copies → Copies → Attached → Attached

@@ -4,6 +4,7 @@
 use Prim.Native.Nat.{ℕ, _+_, _*_}
 use mathlib.Core.List.{List, [], _∷_}
 use mathlib.Core.Option.{Option, none, some}
+use lib.ListN.{length}
 use Rattle.base.specs.Choice.{ifEq}
 use Rattle.base.specs.Checked.{Checked, ok, andThen}
 use Rattle.mdf.specs.Block.{linkAt}
@@ -38,9 +39,13 @@ cgSize (some m) = 112
 unfoldable pub dlSize : ℕ → ℕ
 dlSize n = ifEq n 0 0 (24 + 8 * (n + 1) + 16)
 
+-- "CN 160", and "CN takes 160 + 8 times that count" of the references that it keeps (document 02, request 9)
+unfoldable pub cnSize : Column → ℕ
+cnSize c = 160 + 8 * length (c .photos)
+
 -- "DG 64, CG 104 (112 with a master), CN 160, and .. DL" together
 unfoldable pub structureSize : List ℕ → ℕ → Column → ℕ
-structureSize s size c = 64 + cgSize (c .master) + 160 + dlSize (columnBlocks s size c)
+structureSize s size c = 64 + cgSize (c .master) + cnSize c + dlSize (columnBlocks s size c)
 
 -- "payload bytes": all bytes of its records
 unfoldable pub payloadSize : List ℕ → Column → ℕ
@@ -120,7 +125,7 @@ abbrev pub cnOf : Placed → ℕ
 cnOf p = cgOf p + cgSize (p .column .master)
 
 abbrev pub dlOf : Placed → ℕ
-dlOf p = cnOf p + 160
+dlOf p = cnOf p + cnSize (p .column)
 
 -- bookkeeping: the sizes of a column
 abbrev pub signalSizes : Signal → Option ℕ

@@ -1,6 +1,8 @@
 pub mod Table
 pub mod Rules
 pub mod Channel
+pub mod Photos
+pub mod PhotosLaws
 pub mod Columns
 pub mod Geometry
 pub mod Data

@@ -7,15 +7,16 @@ use Rattle.base.specs.Checked.{refused, andThen, Verdict, fine}
 use Rattle.plan.specs.Table.{tableIn}
 
 -- request 5: "A unit is chosen per call"; request 6: the table of treatments that "sites with their own recorders bring"; request 8: whether equal time
--- columns are shared, "as an option"
+-- columns are shared, "as an option"; request 9: whether references to photos are kept, "a choice per call"
 pub record Rules : Type 0 where
   pub unit : ℕ
   pub table : List ℕ
   pub share : Bool
+  pub photos : Bool
 
 -- "`columns` takes unit 8 and no later choice"; "a table of length 0 leaves all to" what is built in
 abbrev pub builtIn : Rules
-builtIn = record { unit = 8; table = []; share = false }
+builtIn = record { unit = 8; table = []; share = false; photos = false }
 
 -- "a power of two from 8 to 4096"
 abbrev pub units : List ℕ

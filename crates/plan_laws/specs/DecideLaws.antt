@@ -10,12 +10,13 @@ use lib.Dec.{eqb}
 use borrow.Author.Tests.{eqb-true, eq-eqb, ne-eqb}
 use Rattle.base.specs.Choice.{pick, ifEq}
 use Rattle.base.specs.ChoiceLaws.{eq-first, eq-yes, eq-no}
-use Rattle.base.specs.Checked.{Checked, ok, refused}
+use Rattle.base.specs.Checked.{Checked, ok, refused, Verdict, fine}
 use Rattle.mdf.specs.Block.{kindCG, kindCN, kindAt, linkAt, headerIn}
 use Rattle.mdf.specs.Chain.{Chain.signal, Found, found, stopped, limits, chain}
 use Rattle.mdf.specs.Group.{isStorage}
 use Rattle.plan.specs.Table.{treatment}
 use Rattle.plan.specs.Channel.{channelType, fits, isMasterType, both, either}
+use Rattle.plan.specs.Photos.{photosIn}
 use Rattle.plan.specs.Columns.{kindCA, SrcGroup, firstMaster, masterOf, remoteLink, groupAt, TimeOf, time, untimed, differs, onMaster, onGroup, standIn, standing, remoteTime, timeOf, Signal, noSignal, signalData, Decision, omitted, kept, keptSignal, unfit, furtherMaster, omittedType, composed, signalLink, storedAt, decideChain, unless, decide, sizeOfSignal}
 use Rattle.result.specs.Member.{In, here, there}
 use Rattle.result.specs.Recording.{leadsTo, hasSignal, reasonFor, SignalDue}
@@ -261,9 +262,10 @@ chain-decided table s n c d e =
     led (inl h) z q = signal-kept table s n c d _ h refl (rw (link-has table s c h) at q)
     led (inr h) z q = absurd (z (link-lacks table s c h))
 
-pub record KeptAs (table s : List ℕ) (n g c : ℕ) (d : Signal) : Type 0 where
+pub record KeptAs (photos : Bool) (table s : List ℕ) (n g c : ℕ) (d : Signal) : Type 0 where
   pub fitting : fits s g c ≡ true
   pub notMaster : isMasterType s c ≡ false
+  pub referred : photosIn photos s c ≡ fine
   pub signal : SignalKnown table s n c d
 
 fit-known : (s : List ℕ) (g c : ℕ) → _≡_ {A = Checked ℕ} (ok (unfit s g c)) (ok 0) → fits s g c ≡ true
@@ -282,16 +284,17 @@ no-master s c e = go (isMasterType s c) (ok-same e)
     go true q = absurd (omega (arith, q))
     go false q = refl
 
-pub decide-kept : (table s : List ℕ) (n g c : ℕ) (d : Signal) → decide table s n g c ≡ ok (kept d) → KeptAs table s n g c d
+pub decide-kept : (photos : Bool) (table s : List ℕ) (n g c : ℕ) (d : Signal) → decide photos table s n g c ≡ ok (kept d) → KeptAs photos table s n g c d
 unfolding decide
-decide-kept table s n g c d e =
+decide-kept photos table s n g c d e =
     let type = passed _ _ e in
     let chosen = passed _ _ (type .1) in
     let fit = passed _ _ (chosen .1) in
     let master = passed _ _ (fit .1) in
     let composition = passed _ _ (master .1) in
     let storage = passed _ _ (composition .1) in
-    record { fitting = fit-known s g c (fit .0); notMaster = no-master s c (master .0); signal = chain-decided table s n c d (storage .1) }
+    with-ok (photosIn photos s c) _ (storage .1) (λ _ h e.
+    record { fitting = fit-known s g c (fit .0); notMaster = no-master s c (master .0); referred = h; signal = chain-decided table s n c d e })
 
 pub kept-due : (table s : List ℕ) (n c : ℕ) (d : Signal) → SignalKnown table s n c d → SignalDue table s c d
 kept-due table s n c noSignal k = k
@@ -371,9 +374,9 @@ chain-reason s n a d e =
     go (stopped number place fs) q = absurd (refused≢ok q)
 
 -- what planning decides of a channel is the reason that the papers give
-pub decide-reason : (table s : List ℕ) (n g c : ℕ) (d : Decision) → decide table s n g c ≡ ok d → Reasoned (reasonFor table s g c) d
+pub decide-reason : (photos : Bool) (table s : List ℕ) (n g c : ℕ) (d : Decision) → decide photos table s n g c ≡ ok d → Reasoned (reasonFor table s g c) d
 unfolding decide reasonFor unfit furtherMaster omittedType ifEq
-decide-reason table s n g c d e =
+decide-reason photos table s n g c d e =
     subst (λ (x : ℕ). Reasoned x d)
     (first (eqb (treatment table (channelType s c)) 4) (eqb (treatment table (channelType s c)) 8) (fits s g c) (isMasterType s c)
     (leadsTo s (linkAt s c 1) kindCA) (leadsTo s (linkAt s c 1) kindCN) (both (hasSignal table s c) (leadsTo s (linkAt s c 5) kindCG)))
@@ -383,7 +386,7 @@ decide-reason table s n g c d e =
     first-reason _ _ d _ _ e (λ r q. sym (ok-same q)) (λ e.
     first-reason _ _ d _ _ e (composed-reason s c) (λ e.
     first-reason _ _ d _ _ e (stored-reason table s c) (λ e.
-    chain-reason s n (signalLink table s c) d e)))))))
+    with-ok (photosIn photos s c) _ e (λ _ _ e. chain-reason s n (signalLink table s c) d e))))))))
   where
     -- the first reason that holds
     first : (four eight fit master array structure storage : Bool)

@@ -15,6 +15,7 @@ use Rattle.mdf.specs.Count.{counts}
 use Rattle.plan.specs.Columns.{srcGroups, Column, plan, omissionWords}
 use Rattle.plan.specs.Data.{allDataIn, blocksIn}
 use Rattle.plan.specs.Rules.{choicesIn}
+use Rattle.plan.specs.Photos.{photosFirst}
 use Rattle.plan.specs.Layout.{layout, columnWidth, columnBlocks}
 use Rattle.result.specs.Sharing.{sharing}
 use Rattle.result.specs.Result.{Args, Decided, version420, lentIn, decided, answer, rulesOf}
@@ -49,6 +50,7 @@ pub record Steps (x : Args) (d : Decided) : Type 0 where
   pub walked : walk (x .image) ≡ ok source
   pub counted : counts (x .image) (dataGroups source) ≡ ok numbers
   pub groups : d .groups ≡ srcGroups (dataGroups source) numbers
+  pub followed : photosFirst (x .photos) (x .image) ≡ fine
   pub shared : sharing (x .share) (x .image) (dataGroups source) (d .groups) ≡ ok (d .stands)
   pub planned : plan (rulesOf x) (x .image) (length (source .fragments)) (d .groups) (d .stands) ≡ ok (d .planned)
   pub dataFine : allDataIn (x .image) (d .planned .columns) (dataGroups source) ≡ fine
@@ -70,6 +72,7 @@ decided-steps x d e =
     with-ok (identified (x .image)) _ e (λ _ i e.
     with-ok (walk (x .image)) _ e (λ st w e.
     with-ok (counts (x .image) (dataGroups st)) _ e (λ ns n e.
+    with-ok (photosFirst (x .photos) (x .image)) _ e (λ _ o e.
     with-ok (sharing (x .share) (x .image) (dataGroups st) (srcGroups (dataGroups st) ns)) _ e (λ bys j e.
     with-ok (plan (rulesOf x) (x .image) (length (st .fragments)) (srcGroups (dataGroups st) ns) bys) _ e (λ p q e.
     with-ok (allDataIn (x .image) (p .columns) (dataGroups st)) _ e (λ _ f e.
@@ -86,12 +89,13 @@ decided-steps x d e =
       walked = w;
       counted = n;
       groups = refl;
+      followed = o;
       shared = j;
       planned = q;
       dataFine = f;
       blocksFine = k;
       laidOut = m;
-    })))))))))))))
+    }))))))))))))))
 
 -- an accepted answer is what was decided, and fits the output and the list
 pub record Accepted (x : Args) (out list : ℕ) (d : Decided) : Type 0 where

@@ -1,7 +1,7 @@
 -- Signal columns and omissions stand in file order, and each group whose remote master has another count has an omission.
 use Prim.Native.Nat.{ℕ, _≤_}
 use mathlib.Core.List.{List, [], _∷_, _++_, append-nil, append-assoc}
-use mathlib.Core.Bool.{true, false}
+use mathlib.Core.Bool.{Bool, true, false}
 use mathlib.Core.Option.{Option, none, some}
 use mathlib.Core.Path.{_≡_, refl, sym, ap, _∙_, subst}
 use native.Mathlib.Omega.{arith}
@@ -9,7 +9,8 @@ use Rattle.base.specs.Choice.{pick}
 use Rattle.base.specs.Checked.{ok}
 use Rattle.mdf.specs.Group.{isStorage}
 use Rattle.plan.specs.Rules.{Rules}
-use Rattle.plan.specs.Columns.{SrcGroup, TimeOf, time, untimed, differs, timeOf, Column, Omission, Plan, withOmission, timeColumn, onPlanned, withColumn, withTime, Decision, omitted, kept, decide, sizeOfSignal, withDecision, planChannels, planTimed, planGroup, planGroups, plan, omissionAddresses}
+use Rattle.plan.specs.Photos.{photosOf}
+use Rattle.plan.specs.Columns.{SrcGroup, TimeOf, time, untimed, differs, timeOf, Column, Omission, Plan, withOmission, timeColumn, onPlanned, withColumn, timeOn, withTime, newTimeIn, Decision, omitted, kept, decide, sizeOfSignal, withDecision, planChannels, planTimed, planGroup, planGroups, plan, omissionAddresses}
 use Rattle.result.specs.Member.{In, here, there}
 use Rattle.result.specs.Recording.{Differs, Among, filePlaces, signalChannels}
 use Rattle.plan_laws.specs.Answers.{ok-same, true≢false, with-ok, eq-cases, pick-cases}
@@ -99,9 +100,9 @@ left-more a m =
       among-channels = Among.left (m .among-channels);
     }
 
-decided-more : (g : SrcGroup) (m : Option ℕ) (c : ℕ) (p q : Plan) (d : Decision) (l : List ℕ) → More (withDecision g m c p d) q l → More p q (c ∷ l)
-decided-more g m c p q (omitted r) l h = omitted-more p q c r l h
-decided-more g m c p q (kept d) l h = kept-more p q _ (sizeOfSignal d) l refl h
+decided-more : (g : SrcGroup) (m : Option ℕ) (c : ℕ) (refs : List ℕ) (p q : Plan) (d : Decision) (l : List ℕ) → More (withDecision g m c refs p d) q l → More p q (c ∷ l)
+decided-more g m c refs p q (omitted r) l h = omitted-more p q c r l h
+decided-more g m c refs p q (kept d) l h = kept-more p q _ (sizeOfSignal d) l refl h
 
 channels-more : (rs : Rules) (s : List ℕ) (g : SrcGroup) (own : ℕ) (m : Option ℕ) (cs : List ℕ) (p q : Plan) → planChannels rs s g own m cs p ≡ ok q → More p q cs
 unfolding planChannels
@@ -109,16 +110,24 @@ channels-more rs s g own m [] p q e = no-more p q [] (ok-same e)
 channels-more rs s g own m (c ∷ cs) p q e =
     eq-cases c own _ _ e
     (λ _ r. left-more c (channels-more rs s g own m cs p q r))
-    (λ _ r. with-ok (decide (rs .table) s (p .fragments) (g .at) c) _ r (λ d _ r. decided-more g m c p q d cs (channels-more rs s g own m cs (withDecision g m c p d) q r)))
+    (λ _ r. with-ok (decide (rs .photos) (rs .table) s (p .fragments) (g .at) c) _ r (λ d _ r. decided-more g m c _ p q d cs (channels-more rs s g own m cs (withDecision g m c (photosOf (rs .photos) s c) p d) q r)))
 
-time-omissions : (o : Option ℕ) (c : Column) (p : Plan) → onPlanned o (withColumn c 0 p) p .omissions ≡ p .omissions
-time-omissions none c p = refl
-time-omissions (some k) c p = refl
+-- a time column is no omission and no signal
+record TimeMore (p q : Plan) : Type 0 where
+  omissions : q .omissions ≡ p .omissions
+  channels : signalChannels (q .columns) ≡ signalChannels (p .columns)
 
-time-channels : (o : Option ℕ) (c : Column) (p : Plan) → c .isTime ≡ true → signalChannels (onPlanned o (withColumn c 0 p) p .columns) ≡ signalChannels (p .columns)
+new-more : (c : Column) (p : Plan) → c .isTime ≡ true → TimeMore p (withColumn c 0 p)
 unfolding signalChannels
-time-channels none c p e = channels-append (p .columns) (c ∷ []) ∙ rw e (append-nil (signalChannels (p .columns)))
-time-channels (some k) c p e = refl
+new-more c p e = record { omissions = refl; channels = channels-append (p .columns) (c ∷ []) ∙ rw e (append-nil (signalChannels (p .columns))) }
+
+time-more : (photos : Bool) (s : List ℕ) (t : SrcGroup) (m : ℕ) (p : Plan) → TimeMore p (withTime photos s t m p)
+unfolding withTime
+time-more photos s t m p = go (timeColumn (t .at) 0 (p .columns))
+  where
+    go : (o : Option ℕ) → TimeMore p (onPlanned o (withColumn (timeOn photos s t m) 0 p) p)
+    go none = new-more (timeOn photos s t m) p refl
+    go (some k) = record { omissions = refl; channels = refl }
 
 -- of a group; its own omission comes first
 record GroupMore (s : List ℕ) (all : List SrcGroup) (bys : List ℕ) (g : SrcGroup) (p q : Plan) : Type 0 where
@@ -129,20 +138,22 @@ untimed≢differs : untimed ≡ differs → ⊥
 untimed≢differs e = let z : _≡_ {A = ℕ} 0 1 = cc in omega arith
 
 timed-more : (rs : Rules) (s : List ℕ) (all : List SrcGroup) (bys : List ℕ) (g : SrcGroup) (p q : Plan) (o : TimeOf) → timeOf s all bys g ≡ o → planTimed rs s g o p ≡ ok q → GroupMore s all bys g p q
-unfolding withTime omitted-more
+unfolding omitted-more
 timed-more rs s all bys g p q (time t m) o e =
-    let r = channels-more rs s g _ _ (g .channels) (withTime t m p) q e in
+    with-ok (newTimeIn (rs .photos) s t m p) _ e (λ _ _ e.
+    let r = channels-more rs s g _ _ (g .channels) (withTime (rs .photos) s t m p) q e in
+    let a = time-more (rs .photos) s t m p in
     record {
       given = left-more (g .at) (record {
         more = r .more;
-        is = r .is ∙ ap (λ (l : List Omission). l ++ r .more) (time-omissions (timeColumn (t .at) 0 (p .columns)) _ p);
+        is = r .is ∙ ap (λ (l : List Omission). l ++ r .more) (a .omissions);
         among = r .among;
         channels = r .channels;
-        signals = r .signals ∙ ap (λ (l : List ℕ). l ++ r .channels) (time-channels (timeColumn (t .at) 0 (p .columns)) _ p refl);
+        signals = r .signals ∙ ap (λ (l : List ℕ). l ++ r .channels) (a .channels);
         among-channels = r .among-channels;
       });
       differing = λ _ d. absurd (time≢differs (sym d ∙ o));
-    }
+    })
 timed-more rs s all bys g p q untimed o e =
     record { given = left-more (g .at) (channels-more rs s g _ none (g .channels) p q e); differing = λ _ d. absurd (untimed≢differs (sym o ∙ d)) }
 timed-more rs s all bys g p q differs o e =

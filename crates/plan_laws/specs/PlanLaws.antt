@@ -9,11 +9,12 @@ use native.Mathlib.Omega.{arith}
 use lib.ListN.{length}
 use Rattle.base.specs.Choice.{pick, ifEq}
 use Rattle.base.specs.ChoiceLaws.{eq-yes, eq-no}
-use Rattle.base.specs.Checked.{ok}
+use Rattle.base.specs.Checked.{ok, fine}
 use Rattle.mdf.specs.Group.{isStorage}
 use Rattle.plan.specs.Channel.{fits}
 use Rattle.plan.specs.Rules.{Rules}
-use Rattle.plan.specs.Columns.{SrcGroup, masterOf, standIn, standing, TimeOf, time, untimed, differs, timeOf, noSignal, Column, Omission, Plan, withColumn, withOmission, timeColumn, onPlanned, withTime, Decision, omitted, kept, decide, sizeOfSignal, withDecision, planChannels, ownMaster, planTimed, planGroup, planGroups, plan, omissionAddresses}
+use Rattle.plan.specs.Photos.{photosOf, photosIn}
+use Rattle.plan.specs.Columns.{SrcGroup, masterOf, standIn, standing, TimeOf, time, untimed, differs, timeOf, noSignal, Column, Omission, Plan, withColumn, withOmission, timeColumn, onPlanned, timeOn, withTime, newTimeIn, Decision, omitted, kept, decide, sizeOfSignal, withDecision, planChannels, ownMaster, planTimed, planGroup, planGroups, plan, omissionAddresses}
 use Rattle.result.specs.Recording.{reasonFor, OmissionDue, SignalDue}
 use Rattle.result.specs.Guarantee.{In, here, there, columnsOf, omissionsOf, columnAt, IsTime, Kinded}
 use Rattle.plan_laws.specs.Answers.{ok-same, true≢false, with-ok, eq-cases, pick-cases, or-not}
@@ -38,6 +39,8 @@ pub record Sourced (rs : Rules) (s : List ℕ) (all : List SrcGroup) (bys : List
   pub fitting : fits s (c .group .at) (c .channel) ≡ true
   pub made : Made rs s all bys c (c .isTime)
   pub signal : SignalDue (rs .table) s (c .channel) (c .signalOf)
+  pub referred : photosIn (rs .photos) s (c .channel) ≡ fine
+  pub refers : c .photos ≡ photosOf (rs .photos) s (c .channel)
 
 pub timed-master : (rs : Rules) (s : List ℕ) (all : List SrcGroup) (bys : List ℕ) (c : Column) → Sourced rs s all bys c → c .isTime ≡ true
     → (masterOf s (c .group) ≡ some (c .channel)) × (standIn (c .group .at) all bys ≡ 0)
@@ -173,10 +176,11 @@ module _ (rs : Rules) (s : List ℕ) (all : List SrcGroup) (bys : List ℕ) (n :
     pub times : (x : ℕ) → timesOf x (q .columns) ≡ timesOf x (p .columns)
 
   channel-done : (c : ℕ) (p : Plan) (d : Decision) → Planned rs s all bys n p → GivenDue (p .columns) m (g .records) (timeOf s all bys g)
-      → In c (g .channels) → (c ≡ ownMaster (masterOf s g) → ⊥) → decide (rs .table) s (p .fragments) (g .at) c ≡ ok d → ChannelDone c p (withDecision g m c p d)
+      → In c (g .channels) → (c ≡ ownMaster (masterOf s g) → ⊥) → decide (rs .photos) (rs .table) s (p .fragments) (g .at) c ≡ ok d
+      → ChannelDone c p (withDecision g m c (photosOf (rs .photos) s c) p d)
   unfolding total
   channel-done c p (omitted r) h k i o e =
-      let w = decide-reason (rs .table) s (p .fragments) (g .at) c (omitted r) e in
+      let w = decide-reason (rs .photos) (rs .table) s (p .fragments) (g .at) c (omitted r) e in
       record {
         planned = omitted-planned rs s all bys n p (record { at = c; reason = r }) h (OmissionDue.ofChannel g gin stored i (w .0) (w .1));
         due = k;
@@ -184,12 +188,12 @@ module _ (rs : Rules) (s : List ℕ) (all : List SrcGroup) (bys : List ℕ) (n :
         times = λ x. refl;
       }
   channel-done c p (kept d) h k i o e =
-      let col : Column = record { group = g; channel = c; isTime = false; master = m; signalOf = d } in
-      let f = decide-kept (rs .table) s (p .fragments) (g .at) c d e in
+      let col : Column = record { group = g; channel = c; isTime = false; master = m; signalOf = d; photos = photosOf (rs .photos) s c } in
+      let f = decide-kept (rs .photos) (rs .table) s (p .fragments) (g .at) c d e in
       let later = given-later (p .columns) (col ∷ []) m (g .records) (timeOf s all bys g) k in
       record {
         planned = column-planned rs s all bys n p col h
-            (record { groupIn = gin; stored = stored; channelIn = i; fitting = f .fitting; made = decide-reason (rs .table) s (p .fragments) (g .at) c (kept d) e; signal = kept-due (rs .table) s (p .fragments) c d (f .signal) })
+            (record { groupIn = gin; stored = stored; channelIn = i; fitting = f .fitting; made = decide-reason (rs .photos) (rs .table) s (p .fragments) (g .at) c (kept d) e; signal = kept-due (rs .table) s (p .fragments) c d (f .signal); referred = f .referred; refers = refl })
             (given-due (p .columns ++ (col ∷ [])) col (timeOf s all bys g) later)
             (λ a. rw (times-at-signal (p .columns) col refl a) (h .timesOnce a))
             (signal-few (rs .table) s (p .fragments) c d (h .few) (f .signal));
@@ -214,9 +218,9 @@ module _ (rs : Rules) (s : List ℕ) (all : List SrcGroup) (bys : List ℕ) (n :
         totals = λ x. rw (← eq-yes c own 0 (same c x) o refl) (omega (arith, r .totals x));
         times = r .times;
       })
-      (λ o t. with-ok (decide (rs .table) s (p .fragments) (g .at) c) _ t (λ d b t.
+      (λ o t. with-ok (decide (rs .photos) (rs .table) s (p .fragments) (g .at) c) _ t (λ d b t.
       let a = channel-done c p d h k (i c here) o b in
-      let r = channels-done cs (withDecision g m c p d) q (a .planned) (a .due) (λ x j. i x (there j)) t in
+      let r = channels-done cs (withDecision g m c (photosOf (rs .photos) s c) p d) q (a .planned) (a .due) (λ x j. i x (there j)) t in
       record {
         planned = r .planned;
         totals = λ x. rw (← eq-no c own 0 (same c x) o refl) (omega (arith, r .totals x, a .totals x));
@@ -231,10 +235,6 @@ pub record TimeIs (q : Plan) (g t : SrcGroup) (m k : ℕ) : Type 0 where
   pub isIn : In column (q .columns)
   pub ofChannel : column .channel ≡ m
   pub isTime : IsTime (q .columns) k t m (g .records) column
-
--- the time column of t, made of m
-abbrev timeOfGroup : SrcGroup → ℕ → Column
-timeOfGroup t m = record { group = t; channel = m; isTime = true; master = none; signalOf = noSignal }
 
 -- from plan p to plan q: the time column of t, made of m, is there
 pub record TimeDone (rs : Rules) (s : List ℕ) (all : List SrcGroup) (bys : List ℕ) (n : ℕ) (g t : SrcGroup) (m : ℕ) (p q : Plan) : Type 0 where
@@ -274,28 +274,28 @@ module _ (rs : Rules) (s : List ℕ) (all : List SrcGroup) (bys : List ℕ) (n :
     time-due q h none e l = absurd (omega (arith, time-missing (t .at) 0 (q .columns) e))
     time-due q h (some k) e l = let f = time-is q k h e in (k, f .column, refl, f .isTime)
 
-    new-planned : (p : Plan) → Planned rs s all bys n p → timeColumn (t .at) 0 (p .columns) ≡ none → Planned rs s all bys n (withColumn (timeOfGroup t m) 0 p)
-    new-planned p h e =
+    new-planned : (p : Plan) → Planned rs s all bys n p → timeColumn (t .at) 0 (p .columns) ≡ none → photosIn (rs .photos) s m ≡ fine → Planned rs s all bys n (withColumn (timeOn (rs .photos) s t m) 0 p)
+    new-planned p h e r =
         let b = master-known s t m (timed .master) in
-        column-planned rs s all bys n p (timeOfGroup t m) h
-        (record { groupIn = timed .isIn; stored = b .stored; channelIn = b .master .isIn; fitting = b .master .fitting; made = (timed .master, timed .itself); signal = master-unsigned (rs .table) s m (b .master .typed) })
+        column-planned rs s all bys n p (timeOn (rs .photos) s t m) h
+        (record { groupIn = timed .isIn; stored = b .stored; channelIn = b .master .isIn; fitting = b .master .fitting; made = (timed .master, timed .itself); signal = master-unsigned (rs .table) s m (b .master .typed); referred = r; refers = refl })
         refl
         (λ a. or-not (t .at) a
-        (λ q. omega (arith, times-at-here (p .columns) (timeOfGroup t m) refl a q, ap (λ (y : ℕ). timesAt y (p .columns)) q, time-missing (t .at) 0 (p .columns) e))
-        (λ q. omega (arith, times-at-other (p .columns) (timeOfGroup t m) refl a q, h .timesOnce a)))
+        (λ q. omega (arith, times-at-here (p .columns) (timeOn (rs .photos) s t m) refl a q, ap (λ (y : ℕ). timesAt y (p .columns)) q, time-missing (t .at) 0 (p .columns) e))
+        (λ q. omega (arith, times-at-other (p .columns) (timeOn (rs .photos) s t m) refl a q, h .timesOnce a)))
         (omega (arith, h .few))
 
-    new-done : (p : Plan) → Planned rs s all bys n p → timeColumn (t .at) 0 (p .columns) ≡ none → TimeDone rs s all bys n g t m p (withColumn (timeOfGroup t m) 0 p)
+    new-done : (p : Plan) → Planned rs s all bys n p → timeColumn (t .at) 0 (p .columns) ≡ none → photosIn (rs .photos) s m ≡ fine → TimeDone rs s all bys n g t m p (withColumn (timeOn (rs .photos) s t m) 0 p)
     unfolding total
-    new-done p h e =
-        let q = withColumn (timeOfGroup t m) 0 p in
-        let w = new-planned p h e in
+    new-done p h e r =
+        let q = withColumn (timeOn (rs .photos) s t m) 0 p in
+        let w = new-planned p h e r in
         record {
           planned = w;
-          due = time-due q w (timeColumn (t .at) 0 (q .columns)) refl (omega (arith, times-at-here (p .columns) (timeOfGroup t m) refl (t .at) refl));
-          totals = λ x. omega (arith, column-more x (p .columns) (timeOfGroup t m), times-timed (p .columns) (timeOfGroup t m) refl x);
-          grown = λ x. omega (arith, times-timed (p .columns) (timeOfGroup t m) refl x);
-          isThere = omega (arith, times-timed (p .columns) (timeOfGroup t m) refl m, same-yes m m refl);
+          due = time-due q w (timeColumn (t .at) 0 (q .columns)) refl (omega (arith, times-at-here (p .columns) (timeOn (rs .photos) s t m) refl (t .at) refl));
+          totals = λ x. omega (arith, column-more x (p .columns) (timeOn (rs .photos) s t m), times-timed (p .columns) (timeOn (rs .photos) s t m) refl x);
+          grown = λ x. omega (arith, times-timed (p .columns) (timeOn (rs .photos) s t m) refl x);
+          isThere = omega (arith, times-timed (p .columns) (timeOn (rs .photos) s t m) refl m, same-yes m m refl);
         }
 
     old-done : (p : Plan) (k : ℕ) → Planned rs s all bys n p → timeColumn (t .at) 0 (p .columns) ≡ some k → TimeDone rs s all bys n g t m p p
@@ -309,13 +309,14 @@ module _ (rs : Rules) (s : List ℕ) (all : List SrcGroup) (bys : List ℕ) (n :
           isThere = times-in m (p .columns) (f .column) (f .isIn) (f .isTime .timed) (f .ofChannel);
         }
 
-    time-done : (p : Plan) → Planned rs s all bys n p → TimeDone rs s all bys n g t m p (withTime t m p)
-    unfolding withTime
-    time-done p h = go (timeColumn (t .at) 0 (p .columns)) refl
+    time-done : (p : Plan) → Planned rs s all bys n p → newTimeIn (rs .photos) s t m p ≡ fine → TimeDone rs s all bys n g t m p (withTime (rs .photos) s t m p)
+    unfolding withTime newTimeIn
+    time-done p h w = go (timeColumn (t .at) 0 (p .columns)) refl w
       where
-        go : (o : Option ℕ) → timeColumn (t .at) 0 (p .columns) ≡ o → TimeDone rs s all bys n g t m p (onPlanned o (withColumn (timeOfGroup t m) 0 p) p)
-        go none e = new-done p h e
-        go (some k) e = old-done p k h e
+        go : (o : Option ℕ) → timeColumn (t .at) 0 (p .columns) ≡ o → onPlanned o (photosIn (rs .photos) s m) fine ≡ fine
+            → TimeDone rs s all bys n g t m p (onPlanned o (withColumn (timeOn (rs .photos) s t m) 0 p) p)
+        go none e w = new-done p h e w
+        go (some k) e w = old-done p k h e
 
 -- ---- groups
 
@@ -348,8 +349,10 @@ module _ (rs : Rules) (s : List ℕ) (all : List SrcGroup) (bys : List ℕ) (n :
   module _ (g : SrcGroup) (gin : In g all) (stored : isStorage s (g .at) ≡ false) where
     timed-done : (p q : Plan) (o : TimeOf) → timeOf s all bys g ≡ o → Planned rs s all bys n p → planTimed rs s g o p ≡ ok q → GroupDone rs s all bys n g p q
     timed-done p q (time t m) o h e =
-        let a = time-done rs s all bys n once g t m (time-known s all bys sound g t m gin o) p h in
-        let r = channels-done rs s all bys n g (timeColumn (t .at) 0 (withTime t m p .columns)) gin stored (g .channels) (withTime t m p) q
+        with-ok (newTimeIn (rs .photos) s t m p) _ e (λ _ w e.
+        let u = withTime (rs .photos) s t m p in
+        let a = time-done rs s all bys n once g t m (time-known s all bys sound g t m gin o) p h w in
+        let r = channels-done rs s all bys n g (timeColumn (t .at) 0 (u .columns)) gin stored (g .channels) u q
         (a .planned) (rw o (a .due)) (λ c i. i) e in
         record {
           planned = r .planned;
@@ -358,7 +361,7 @@ module _ (rs : Rules) (s : List ℕ) (all : List SrcGroup) (bys : List ℕ) (n :
           grown = λ x. omega (arith, r .times x, a .grown x);
           own = λ k b y. let z : m ≡ k = time-same (sym o ∙ time-own s all bys g k b ∙ standing-itself s all bys g k y) .1 in rw (← z) (omega (arith, r .times m, a .isThere));
           stands = λ k b y c. let z : m ≡ c .theirs = time-same (sym o ∙ time-own s all bys g k b ∙ standing-other s all bys g k y c) .1 in rw (← z) (omega (arith, r .times m, a .isThere));
-        }
+        })
     timed-done p q untimed o h e =
         let r = channels-done rs s all bys n g none gin stored (g .channels) p q h (rw o refl) (λ c i. i) e in
         record {

@@ -16,6 +16,7 @@ use Rattle.mdf.specs.Group.{dataGroups}
 use Rattle.mdf.specs.Count.{counts}
 use Rattle.work_words.specs.Words.{countsAt, laidItems, fragmentWords}
 use Rattle.plan.specs.Rules.{Rules}
+use Rattle.plan.specs.Photos.{photosFirst}
 use Rattle.plan.specs.Columns.{SrcGroup, standIn, Column, Plan, srcGroups, plan}
 use Rattle.work_words.specs.PlanWords.{signalFragments, laidPlan}
 use Rattle.plan.specs.Data.{allDataIn, blocksIn}
@@ -41,11 +42,12 @@ plannedOf rs s size =
     andThen (identified s) (λ _.
     andThen (walk s) (λ st.
     andThen (counts s (dataGroups st)) (λ ns.
+    andThen (photosFirst (rs .photos) s) (λ _.
     andThen (sharing (rs .share) s (dataGroups st) (srcGroups (dataGroups st) ns)) (λ bys.
     andThen (plan rs s (length (st .fragments)) (srcGroups (dataGroups st) ns) bys) (λ p.
     andThen (allDataIn s (p .columns) (dataGroups st)) (λ _.
     andThen (blocksIn s size (p .columns)) (λ _.
-    ok (record { source = st; numbers = ns; stands = bys; planned = p }))))))))
+    ok (record { source = st; numbers = ns; stands = bys; planned = p })))))))))
 
 -- the answer, and the words of the source, of fragments and of columns at the end
 pub data PlanLeft : Type 0 where
@@ -114,8 +116,12 @@ arrangedBy rs s size r bys =
     andThen (blocksIn s size (p .columns)) (λ _.
     ok (record { source = r .source; numbers = r .counts; stands = bys; planned = p }))))
 
+unfoldable pub arrangedShared : Rules → List ℕ → ℕ → Recording → Checked Arranged
+arrangedShared rs s size r = andThen (sharedIn (rs .share) s r) (arrangedBy rs s size r)
+
+-- before these, the attachments where references to them are kept
 unfoldable pub arranged : Rules → List ℕ → ℕ → Recording → Checked Arranged
-arranged rs s size r = andThen (sharedIn (rs .share) s r) (arrangedBy rs s size r)
+arranged rs s size r = andThen (photosFirst (rs .photos) s) (λ _. arrangedShared rs s size r)
 
 -- the data stage and the block counts, for all columns that stand in the words
 pub record StageOver (s : List ℕ) (size : ℕ) (src f w : List ℕ) (n nf nc : ℕ) (r : Check) : Type 0 where
@@ -151,6 +157,11 @@ pub record StandAlike (w v : List ℕ) : Type 0 where
 pub record PlanStood (rs : Rules) (s : List ℕ) (size : ℕ) (src stands f c : List ℕ) (n nf : ℕ) (r : Planned) (f' c' : List ℕ) : Type 0 where
   pub is : (x : Recording) (w₀ f₀ : List ℕ) → ReadIn s src f n nf x w₀ f₀ → (bys : List ℕ) → sharedIn (rs .share) s x ≡ ok bys → stands ≡ standWords bys
       → given r src f' c' ≡ andThen (arrangedBy rs s size x bys) (λ a. ok (keptBy a w₀ f₀ c))
+
+-- that, and which masters stand for others
+pub record PlanShared (rs : Rules) (s : List ℕ) (size : ℕ) (src f c : List ℕ) (n nf : ℕ) (r : Planned) (f' c' : List ℕ) : Type 0 where
+  pub is : (x : Recording) (w₀ f₀ : List ℕ) → ReadIn s src f n nf x w₀ f₀ → length s ≤ 4294967296
+      → given r src f' c' ≡ andThen (arrangedShared rs s size x) (λ a. ok (keptBy a w₀ f₀ c))
 
 -- the whole of planning, whichever recording the words hold
 pub record PlanRead (rs : Rules) (s : List ℕ) (size : ℕ) (src f c : List ℕ) (n nf : ℕ) (r : Planned) (f' c' : List ℕ) : Type 0 where

@@ -25,6 +25,8 @@ use Rattle.plan.specs.Rules.{Rules}
 use Rattle.plan.specs.Columns.{Plan, srcGroups, plan}
 use Rattle.work_words.specs.PlanWords.{signalFragments}
 use Rattle.plan.specs.Data.{allDataIn, blocksIn}
+use Rattle.plan.specs.Photos.{photosFirst}
+use Rattle.blocks.specs.AnswerLaws.{so-fine, so-refused}
 use Rattle.result.specs.Sharing.{unitsIn, comparedIn, sharedTimes, sharing}
 use Rattle.result.specs.SharingLaws.{shared-length}
 use Rattle.result.specs.Result.{sharedGroups}
@@ -48,7 +50,7 @@ use Rattle.planning.specs.ReadBackLaws.{few-items}
 use Rattle.planning.specs.OutcomeLaws.{read-gives, read-items, PlanHeld, PlanIs, gives-plan, gives-none}
 use Rattle.planning.specs.DataWords.{allDataOver}
 use Rattle.planning.specs.DataWordsLaws.{Filled, data-filled, several-counted}
-use Rattle.planning.specs.Answer.{Arranged, plannedOf, planLeft, leftBy, planInto, Kept, given, keptBy, planOver, sharedIn, arrangedBy, arranged, StageOver, ReadIn, standWords, standsAs, StandsRead, PlanStood, PlanRead}
+use Rattle.planning.specs.Answer.{Arranged, plannedOf, planLeft, leftBy, planInto, Kept, given, keptBy, planOver, sharedIn, arrangedBy, arrangedShared, arranged, StageOver, ReadIn, standWords, standsAs, StandsRead, PlanStood, PlanShared, PlanRead}
 use Rattle.planning.specs.StandsLaws.{plan-words, sharing-length, no-stands, stands-laid, shared-words}
 use Rattle.planning.specs.Clocks.{ShareTimes}
 
@@ -102,7 +104,7 @@ reading-known s x e =
     rw (← ok-same e3) (record { walked = w; counted = k }))))
 
 planned-reading : (rs : Rules) (s : List ℕ) (size : ℕ) → plannedOf rs s size ≡ andThen (reading s) (arranged rs s size)
-unfolding plannedOf reading sharedIn arrangedBy arranged
+unfolding plannedOf reading sharedIn arrangedBy arrangedShared arranged
 planned-reading rs s size = go (identified s) (walk s)
   where
     more : (st : Source) (v : Checked (List ℕ))
@@ -267,8 +269,8 @@ module _ (s src f : List ℕ) (n nf : ℕ) {on : Bool} where
 
 -- ---- then the plan
 module _ (rs : Rules) (s : List ℕ) (size : ℕ) (src f c : List ℕ) (n nf : ℕ) (stands : List ℕ) {v : Check} (t : StandsRead (rs .share) s src f n nf v stands) where
-  pub read-unshared : {y p : ℕ} → v ≡ Check.Refused y p → PlanRead rs s size src f c n nf (Refused y p) f c
-  unfolding arranged
+  pub read-unshared : {y p : ℕ} → v ≡ Check.Refused y p → PlanShared rs s size src f c n nf (Refused y p) f c
+  unfolding arrangedShared
   read-unshared {y} {p} q = record { is = λ x w₀ f₀ h short. go x (λ a. keptBy a w₀ f₀ c) (sharedIn (rs .share) s x) (t .is x w₀ f₀ h short) }
     where
       go : (x : Recording) (k : Arranged → Kept) (o : Checked (List ℕ)) → standsAs o v stands → refused y p ≡ andThen (andThen o (arrangedBy rs s size x)) (λ a. ok (k a))
@@ -279,14 +281,24 @@ module _ (rs : Rules) (s : List ℕ) (size : ℕ) (src f c : List ℕ) (n nf : �
           let j : p ≡ b = cc in
           rw (i, j)
 
-  pub read-shared : v ≡ Fine → {r : Planned} {f' c' : List ℕ} → PlanStood rs s size src stands f c n nf r f' c' → PlanRead rs s size src f c n nf r f' c'
-  unfolding arranged
+  pub read-shared : v ≡ Fine → {r : Planned} {f' c' : List ℕ} → PlanStood rs s size src stands f c n nf r f' c' → PlanShared rs s size src f c n nf r f' c'
+  unfolding arrangedShared
   read-shared q {r} {f'} {c'} g = record { is = λ x w₀ f₀ h short. go x w₀ f₀ h (sharedIn (rs .share) s x) refl (t .is x w₀ f₀ h short) }
     where
       go : (x : Recording) (w₀ f₀ : List ℕ) → ReadIn s src f n nf x w₀ f₀ → (o : Checked (List ℕ)) → sharedIn (rs .share) s x ≡ o → standsAs o v stands
           → given r src f' c' ≡ andThen (andThen o (arrangedBy rs s size x)) (λ a. ok (keptBy a w₀ f₀ c))
       go x w₀ f₀ h (ok bys) e k = g .is x w₀ f₀ h bys e (k .1)
       go x w₀ f₀ h (refused a b) e k = absurd (let e : Fine ≡ Check.Refused a b = sym q ∙ k in let z : _≡_ {A = ℕ} 0 1 = cc in omega arith)
+
+-- ---- before them the attachments
+module _ (rs : Rules) (s : List ℕ) (size : ℕ) (src f c : List ℕ) (n nf : ℕ) {v : Check} (t : verdictOf v ≡ photosFirst (rs .photos) s) where
+  pub read-astray : {y p : ℕ} → v ≡ Check.Refused y p → PlanRead rs s size src f c n nf (Refused y p) f c
+  unfolding arranged
+  read-astray q = record { is = λ x w₀ f₀ h short. rw (so-refused t q) refl }
+
+  pub read-followed : v ≡ Fine → {r : Planned} {f' c' : List ℕ} → PlanShared rs s size src f c n nf r f' c' → PlanRead rs s size src f c n nf r f' c'
+  unfolding arranged
+  read-followed q g = record { is = λ x w₀ f₀ h short. rw (so-fine t q) (g .is x w₀ f₀ h short) }
 
 -- ---- reading, then the plan
 pub record FoundIn (s w' f' : List ℕ) (n nf : ℕ) (w f : List ℕ) : Type 0 where

@@ -13,7 +13,7 @@ bares [] = []
 bares (g ∷ gs) = bare g ∷ bares gs
 
 abbrev pub bareColumn : Column → Column
-bareColumn c = record { group = bare (c .group); channel = c .channel; isTime = c .isTime; master = c .master; signalOf = c .signalOf }
+bareColumn c = record { group = bare (c .group); channel = c .channel; isTime = c .isTime; master = c .master; signalOf = c .signalOf; photos = c .photos }
 
 unfoldable pub bareColumns : List Column → List Column
 bareColumns [] = []

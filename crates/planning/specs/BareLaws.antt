@@ -6,10 +6,11 @@ use mathlib.Core.Option.{Option, none, some}
 use mathlib.Core.Path.{_≡_, refl, ap, _∙_}
 use lib.Dec.{eqb}
 use Rattle.base.specs.Choice.{pick, ifEq}
-use Rattle.base.specs.Checked.{Checked, ok, refused, andThen}
+use Rattle.base.specs.Checked.{Checked, ok, refused, andThen, Verdict}
 use Rattle.mdf.specs.Group.{isStorage}
 use Rattle.plan.specs.Rules.{Rules}
-use Rattle.plan.specs.Columns.{SrcGroup, Column, Plan, noSignal, onPlanned, Decision, omitted, kept, TimeOf, time, untimed, differs, masterOf, groupAt, standIn, standing, remoteLink, onGroup, onMaster, remoteTime, timeOf, timeColumn, withColumn, withOmission, withTime, decide, withDecision, ownMaster, planChannels, planTimed, planGroup, planGroups, plan, sizeOfSignal}
+use Rattle.plan.specs.Photos.{photosOf}
+use Rattle.plan.specs.Columns.{SrcGroup, Column, Plan, onPlanned, Decision, omitted, kept, TimeOf, time, untimed, differs, masterOf, groupAt, standIn, standing, remoteLink, onGroup, onMaster, remoteTime, timeOf, timeColumn, withColumn, withOmission, timeOn, withTime, newTimeIn, decide, withDecision, ownMaster, planChannels, planTimed, planGroup, planGroups, plan, sizeOfSignal}
 use Rattle.work_words.specs.PlanWords.{columnWords, columnsWords, signalFragments, laidPlan}
 use Rattle.planning.specs.Bare.{bare, bares, bareColumn, bareColumns, barePlan, bareChecked, bareGroup, bareTime}
 
@@ -101,32 +102,41 @@ one-bare c = refl
 added-bare : (c : Column) (n : ℕ) (p : Plan) → withColumn (bareColumn c) n (barePlan p) ≡ barePlan (withColumn c n p)
 added-bare c n p = rw (append-bare (p .columns) (c ∷ []), one-bare c)
 
-decided-bare : (g : SrcGroup) (m : Option ℕ) (c : ℕ) (p : Plan) (d : Decision) → withDecision (bare g) m c (barePlan p) d ≡ barePlan (withDecision g m c p d)
-decided-bare g m c p (omitted r) = refl
-decided-bare g m c p (kept d) = added-bare (record { group = g; channel = c; isTime = false; master = m; signalOf = d }) (sizeOfSignal d) p
+decided-bare : (g : SrcGroup) (m : Option ℕ) (c : ℕ) (refs : List ℕ) (p : Plan) (d : Decision)
+    → withDecision (bare g) m c refs (barePlan p) d ≡ barePlan (withDecision g m c refs p d)
+decided-bare g m c refs p (omitted r) = refl
+decided-bare g m c refs p (kept d) = added-bare (record { group = g; channel = c; isTime = false; master = m; signalOf = d; photos = refs }) (sizeOfSignal d) p
 
-timed-bare : (t : SrcGroup) (m : ℕ) (p : Plan) → withTime (bare t) m (barePlan p) ≡ barePlan (withTime t m p)
+timed-bare : (photos : Bool) (s : List ℕ) (t : SrcGroup) (m : ℕ) (p : Plan) → withTime photos s (bare t) m (barePlan p) ≡ barePlan (withTime photos s t m p)
 unfolding withTime
-timed-bare t m p = rw (column-bare (t .at) 0 (p .columns)) (go (timeColumn (t .at) 0 (p .columns)))
+timed-bare photos s t m p = rw (column-bare (t .at) 0 (p .columns)) (go (timeColumn (t .at) 0 (p .columns)))
   where
-    go : (o : Option ℕ) → onPlanned o (withColumn (bareColumn (record { group = t; channel = m; isTime = true; master = none; signalOf = noSignal })) 0 (barePlan p)) (barePlan p)
-        ≡ barePlan (onPlanned o (withColumn (record { group = t; channel = m; isTime = true; master = none; signalOf = noSignal }) 0 p) p)
-    go none = added-bare (record { group = t; channel = m; isTime = true; master = none; signalOf = noSignal }) 0 p
+    go : (o : Option ℕ) → onPlanned o (withColumn (bareColumn (timeOn photos s t m)) 0 (barePlan p)) (barePlan p)
+        ≡ barePlan (onPlanned o (withColumn (timeOn photos s t m) 0 p) p)
+    go none = added-bare (timeOn photos s t m) 0 p
     go (some k) = refl
+
+tested-bare : (photos : Bool) (s : List ℕ) (t : SrcGroup) (m : ℕ) (p : Plan) → newTimeIn photos s (bare t) m (barePlan p) ≡ newTimeIn photos s t m p
+unfolding newTimeIn
+tested-bare photos s t m p = rw (column-bare (t .at) 0 (p .columns))
+
+then-bare : (v : Verdict) (a b : Checked Plan) → a ≡ bareChecked b → andThen v (λ _. a) ≡ bareChecked (andThen v (λ _. b))
+then-bare (ok u) a b e = e
+then-bare (refused x y) a b e = refl
 
 channels-bare : (rs : Rules) (s : List ℕ) (g : SrcGroup) (own : ℕ) (m : Option ℕ) (cs : List ℕ) (p : Plan)
     → planChannels rs s (bare g) own m cs (barePlan p) ≡ bareChecked (planChannels rs s g own m cs p)
 unfolding planChannels ifEq
 channels-bare rs s g own m [] p = refl
 channels-bare rs s g own m (c ∷ cs) p =
-    go (λ d. ap (planChannels rs s (bare g) own m cs) (decided-bare g m c p d) ∙ channels-bare rs s g own m cs (withDecision g m c p d))
-    (channels-bare rs s g own m cs p) (eqb c own) (decide (rs .table) s (p .fragments) (g .at) c)
+    go (λ d. ap (planChannels rs s (bare g) own m cs) (decided-bare g m c (photosOf (rs .photos) s c) p d) ∙ channels-bare rs s g own m cs (withDecision g m c (photosOf (rs .photos) s c) p d))
+    (channels-bare rs s g own m cs p) (eqb c own) (decide (rs .photos) (rs .table) s (p .fragments) (g .at) c)
   where
-    go : ((d : Decision) → planChannels rs s (bare g) own m cs (withDecision (bare g) m c (barePlan p) d) ≡ bareChecked (planChannels rs s g own m cs (withDecision g m c p d)))
+    go : ((d : Decision) → planChannels rs s (bare g) own m cs (withDecision (bare g) m c (photosOf (rs .photos) s c) (barePlan p) d) ≡ bareChecked (planChannels rs s g own m cs (withDecision g m c (photosOf (rs .photos) s c) p d)))
         → planChannels rs s (bare g) own m cs (barePlan p) ≡ bareChecked (planChannels rs s g own m cs p)
         → (t : Bool) (o : Checked Decision)
-        → pick t (planChannels rs s (bare g) own m cs (barePlan p)) (andThen o (λ d. planChannels rs s (bare g) own m cs (withDecision (bare g) m c (barePlan p) d)))
-        ≡ bareChecked (pick t (planChannels rs s g own m cs p) (andThen o (λ d. planChannels rs s g own m cs (withDecision g m c p d))))
+        → pick t (planChannels rs s (bare g) own m cs (barePlan p)) (andThen o (λ d. planChannels rs s (bare g) own m cs (withDecision (bare g) m c (photosOf (rs .photos) s c) (barePlan p) d)))
+        ≡ bareChecked (pick t (planChannels rs s g own m cs p) (andThen o (λ d. planChannels rs s g own m cs (withDecision g m c (photosOf (rs .photos) s c) p d))))
     go f h true o = h
     go f h false (ok d) = f d
     go f h false (refused x y) = refl
@@ -139,8 +149,9 @@ planned-bare rs s all bys g p = rw (time-bare s all bys g) (go (isStorage s (g .
     by untimed = rw (master-bare s g) (channels-bare rs s g (ownMaster (masterOf s g)) none (g .channels) p)
     by differs = rw (master-bare s g) (channels-bare rs s g (ownMaster (masterOf s g)) none (g .channels) (withOmission (g .at) 1 p))
     by (time t m) =
-        rw (master-bare s g, timed-bare t m p, column-bare (t .at) 0 (withTime t m p .columns))
-        (channels-bare rs s g (ownMaster (masterOf s g)) (timeColumn (t .at) 0 (withTime t m p .columns)) (g .channels) (withTime t m p))
+        let q = withTime (rs .photos) s t m p in
+        rw (master-bare s g, timed-bare (rs .photos) s t m p, tested-bare (rs .photos) s t m p, column-bare (t .at) 0 (q .columns))
+        (then-bare (newTimeIn (rs .photos) s t m p) _ _ (channels-bare rs s g (ownMaster (masterOf s g)) (timeColumn (t .at) 0 (q .columns)) (g .channels) q))
 
     go : (b : Bool) (o : TimeOf) → pick b (ok (barePlan p)) (planTimed rs s (bare g) (bareTime o) (barePlan p)) ≡ bareChecked (pick b (ok p) (planTimed rs s g o p))
     go true o = refl

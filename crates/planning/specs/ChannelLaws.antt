@@ -14,6 +14,7 @@ use Rattle.base.specs.Blit.{blit}
 use Rattle.base.specs.Checked.{Checked, ok, refused, andThen}
 use Rattle.chains.specs.Kept.{kept}
 use Rattle.plan.specs.Rules.{Rules}
+use Rattle.plan.specs.Photos.{photosOf}
 use Rattle.plan.specs.Columns.{SrcGroup, Plan, Signal, noSignal, signalData, sizeOfSignal, omitted, decide, withDecision, planChannels}
 use Rattle.plan.specs.Columns as columns
 use Rattle.work_words.specs.PlanWords.{masterWord, signalWord, columnWords, fragmentsIn}
@@ -76,7 +77,7 @@ signal-word noSignal n = refl
 signal-word (signalData fs) n = refl
 
 kept-plan : (rs : Rules) (s : List ℕ) (g d records master c nc no nf : ℕ) (w f : List ℕ) {b : Bool} {m x : ℕ} {w' f' : List ℕ} (e : Signal)
-    → decide (rs .table) s nf g c ≡ ok (columns.kept e) → b ≡ isSigned e → m ≡ nf + sizeOfSignal e → f' ≡ kept nf (fragmentsIn e) f → m ≤ 1024
+    → decide (rs .photos) (rs .table) s nf g c ≡ ok (columns.kept e) → b ≡ isSigned e → m ≡ nf + sizeOfSignal e → f' ≡ kept nf (fragmentsIn e) f → m ≤ 1024
     → x ≡ signalIf b nf → w' ≡ blit (8 * nc) (c ∷ g ∷ d ∷ records ∷ 0 ∷ master ∷ x ∷ (m - nf) ∷ []) w
     → ChannelPlan rs s g d records master c nc no nf w f (Done (nc + 1) no m) w' f'
 unfolding gives columnWords
@@ -90,7 +91,7 @@ kept-plan rs s g d records master c nc om nf w f {m = m} e o i j k t y u =
           no = om;
           nf = nf + sizeOfSignal e;
           is = rw j;
-          held = held-column h (record { group = groupOf d g cs records; channel = c; isTime = false; master = q; signalOf = e }) r
+          held = held-column h (record { group = groupOf d g cs records; channel = c; isTime = false; master = q; signalOf = e; photos = photosOf (rs .photos) s c }) r
               (u ∙ rw (y, i, signal-word e nf, v, l))
               k;
         });
@@ -98,26 +99,26 @@ kept-plan rs s g d records master c nc om nf w f {m = m} e o i j k t y u =
     }
 
 -- ---- one channel: r is the decision of the code
-pub channel-bounds : (table s : List ℕ) (g c nf : ℕ) (f : List ℕ) (r : Decision) (f' : List ℕ) → left r f' ≡ laidDecision (decide table s nf g c) nf f
+pub channel-bounds : (photos : Bool) (table s : List ℕ) (g c nf : ℕ) (f : List ℕ) (r : Decision) (f' : List ℕ) → left r f' ≡ laidDecision (decide photos table s nf g c) nf f
     → {b : Bool} {m : ℕ} → r ≡ Kept b m → nf ≤ 1024 → (nf ≤ m) × (m ≤ 1024)
-channel-bounds table s g c nf f r f' e q t =
-    let k = back-kept (decide table s nf g c) nf f (rw q at e) in
-    let few = signal-few table s nf c (k .signal) t (decide-kept table s nf g c (k .signal) (k .is) .signal) in
+channel-bounds photos table s g c nf f r f' e q t =
+    let k = back-kept (decide photos table s nf g c) nf f (rw q at e) in
+    let few = signal-few table s nf c (k .signal) t (decide-kept photos table s nf g c (k .signal) (k .is) .signal) in
     (omega arith, omega arith)
 
 module _ (rs : Rules) (s : List ℕ) (g d records master c nc no nf : ℕ) (w f : List ℕ) (r : Decision) (f' : List ℕ)
-    (e : left r f' ≡ laidDecision (decide (rs .table) s nf g c) nf f) where
+    (e : left r f' ≡ laidDecision (decide (rs .photos) (rs .table) s nf g c) nf f) where
   pub channel-refused : {x p : ℕ} {w' : List ℕ} → r ≡ decisions.Refused x p → ChannelPlan rs s g d records master c nc no nf w f (Refused x p) w' f'
   unfolding gives
   channel-refused q =
-      let o = back-refused (decide (rs .table) s nf g c) nf f (rw q at e) in
+      let o = back-refused (decide (rs .photos) (rs .table) s nf g c) nf f (rw q at e) in
       record { bound = tt; is = λ b p m cs h k l. record { by = rw o } }
 
   pub channel-omitted : {k : ℕ} {w' : List ℕ} → r ≡ Omitted k → nf ≤ 1024 → w' ≡ blit (4096 + 2 * no) (c ∷ k ∷ []) w
       → ChannelPlan rs s g d records master c nc no nf w f (Done nc (no + 1) nf) w' f'
   unfolding gives
   channel-omitted {k} q t u =
-      let o = back-omitted (decide (rs .table) s nf g c) nf f (rw q at e) in
+      let o = back-omitted (decide (rs .photos) (rs .table) s nf g c) nf f (rw q at e) in
       record {
         bound = (omega arith, omega arith, t);
         is = λ b p m cs h i l. record {
@@ -129,8 +130,8 @@ module _ (rs : Rules) (s : List ℕ) (g d records master c nc no nf : ℕ) (w f 
       → w' ≡ blit (8 * nc) (c ∷ g ∷ d ∷ records ∷ 0 ∷ master ∷ x ∷ (m - nf) ∷ []) w
       → ChannelPlan rs s g d records master c nc no nf w f (Done (nc + 1) no m) w' f'
   channel-kept q t y u =
-      let k = back-kept (decide (rs .table) s nf g c) nf f (rw q at e) in
-      kept-plan rs s g d records master c nc no nf w f (k .signal) (k .is) (k .sign) (k .counted) (k .words) (channel-bounds (rs .table) s g c nf f r f' e q t .1) y u
+      let k = back-kept (decide (rs .photos) (rs .table) s nf g c) nf f (rw q at e) in
+      kept-plan rs s g d records master c nc no nf w f (k .signal) (k .is) (k .sign) (k .counted) (k .words) (channel-bounds (rs .photos) (rs .table) s g c nf f r f' e q t .1) y u
 
 -- ---- the channels: what is left of them gives what all of them give
 pub others-own : (own : ℕ) (cs : List ℕ) → others own (own ∷ cs) ≡ others own cs
@@ -151,17 +152,17 @@ module _ (rs : Rules) (s : List ℕ) (g : SrcGroup) (own : ℕ) (m : Option ℕ)
   plan-own c cs p h = sym (eq-yes _ _ _ _ h refl)
 
   plan-more : (c : ℕ) (cs : List ℕ) (p : Plan) → (c ≡ own → ⊥)
-      → planChannels rs s g own m (c ∷ cs) p ≡ andThen (andThen (decide (rs .table) s (p .fragments) (g .at) c) (λ d. ok (withDecision g m c p d))) (planChannels rs s g own m cs)
+      → planChannels rs s g own m (c ∷ cs) p ≡ andThen (andThen (decide (rs .photos) (rs .table) s (p .fragments) (g .at) c) (λ d. ok (withDecision g m c (photosOf (rs .photos) s c) p d))) (planChannels rs s g own m cs)
   unfolding planChannels
-  plan-more c cs p h = sym (eq-no _ _ _ _ h (go (decide (rs .table) s (p .fragments) (g .at) c)))
+  plan-more c cs p h = sym (eq-no _ _ _ _ h (go (decide (rs .photos) (rs .table) s (p .fragments) (g .at) c)))
     where
-      go : (o : Checked columns.Decision) → andThen (andThen o (λ d. ok (withDecision g m c p d))) (planChannels rs s g own m cs)
-          ≡ andThen o (λ d. planChannels rs s g own m cs (withDecision g m c p d))
+      go : (o : Checked columns.Decision) → andThen (andThen o (λ d. ok (withDecision g m c (photosOf (rs .photos) s c) p d))) (planChannels rs s g own m cs)
+          ≡ andThen o (λ d. planChannels rs s g own m cs (withDecision g m c (photosOf (rs .photos) s c) p d))
       go (ok d) = refl
       go (refused x y) = refl
 
   plan-step : (c : ℕ) (cs : List ℕ) (p : Plan) (nf : ℕ) → p .fragments ≡ nf → (c ≡ own → ⊥)
-      → andThen (andThen (decide (rs .table) s nf (g .at) c) (λ d. ok (withDecision g m c p d))) (planChannels rs s g own m cs) ≡ planChannels rs s g own m (c ∷ cs) p
+      → andThen (andThen (decide (rs .photos) (rs .table) s nf (g .at) c) (λ d. ok (withDecision g m c (photosOf (rs .photos) s c) p d))) (planChannels rs s g own m cs) ≡ planChannels rs s g own m (c ∷ cs) p
   plan-step c cs p nf e h = rw (← e) (sym (plan-more c cs p h))
 
 -- ---- the code's answer back to the plan
@@ -277,7 +278,7 @@ module _ {rs : Rules} {s src : List ℕ} {n i g d records own master nc₀ no₀
           stood = t .now b p m cs j y u
 
           abbrev step : Checked Plan
-          step = andThen (decide (rs .table) s nf g c) (λ a. ok (withDecision (groupOf d g cs records) m c (stood .plan) a))
+          step = andThen (decide (rs .photos) (rs .table) s nf g c) (λ a. ok (withDecision (groupOf d g cs records) m c (photosOf (rs .photos) s c) (stood .plan) a))
 
           next-budget : nc + (1 + others own (channelsIn src n (k + 1))) ≤ 512
           next-budget = rw (channels-next src n k h e z v, others-more own c (channelsIn src n (k + 1)) q) at (stood .budget)

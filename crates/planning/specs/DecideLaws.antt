@@ -7,7 +7,7 @@ use native.Mathlib.Nat.{add-zero}
 use native.Mathlib.Omega.{arith}
 use Rattle.base.specs.Choice.{ifEq}
 use Rattle.base.specs.ChoiceLaws.{eq-yes, eq-no}
-use Rattle.base.specs.Checked.{Checked, ok, refused}
+use Rattle.base.specs.Checked.{Checked, ok, refused, andThen, Verdict}
 use Rattle.mdf.specs.Block.{kindCG, kindCN, linkAt, kindAt, headerIn}
 use Rattle.mdf.specs.Chain.{Chain.signal, Found, found, stopped, limits, chain}
 use Rattle.fields.specs.declared.Check.{Check}
@@ -21,6 +21,7 @@ use Rattle.chains.specs.Kept.{kept, given, laid}
 use Rattle.chains.specs.KeptLaws.{kept-none}
 use Rattle.plan.specs.Table.{treatment}
 use Rattle.plan.specs.Channel.{channelType, fits, isMasterType}
+use Rattle.plan.specs.Photos.{photosIn}
 use Rattle.plan.specs.Columns.{noSignal, omitted, kindCA, keptSignal, unfit, furtherMaster, omittedType, composed, signalLink, storedAt, decideChain, unless, decide}
 use Rattle.plan.specs.Columns as columns
 use Rattle.planning.specs.declared.decide.Decision.{Decision}
@@ -188,9 +189,20 @@ module _ (v : Checked ℕ) (rest : Checked columns.Decision) where
   unfolding unless
   stop e = rw e
 
-pub by-tests : (table s : List ℕ) (n g c : ℕ) {d : Checked columns.Decision}
+-- ---- 28: o is the code's answer
+pub referred-no : (v : Verdict) (k : Checked columns.Decision) {o : Check} → verdictOf o ≡ v → {x p : ℕ} → o ≡ checks.Refused x p → refused x p ≡ andThen v (λ _. k)
+referred-no v k e q = rw (so-refused e q)
+
+pub referred-yes : (v : Verdict) (k : Checked columns.Decision) {o : Check} → verdictOf o ≡ v → o ≡ Fine → k ≡ andThen v (λ _. k)
+referred-yes v k e q = rw (so-fine e q)
+
+pub chain-of : (photos : Bool) (s : List ℕ) (n c : ℕ) {a b : ℕ} → a ≡ b
+    → andThen (photosIn photos s c) (λ _. decideChain s n a) ≡ andThen (photosIn photos s c) (λ _. decideChain s n b)
+chain-of photos s n c e = rw e refl
+
+pub by-tests : (photos : Bool) (table s : List ℕ) (n g c : ℕ) {d : Checked columns.Decision}
     → d ≡ unless (ok (omittedType 4 table s c)) (unless (ok (omittedType 8 table s c)) (unless (ok (unfit s g c)) (unless (ok (furtherMaster s c))
-    (unless (composed s c) (unless (storedAt s (signalLink table s c)) (decideChain s n (signalLink table s c)))))))
-    → d ≡ decide table s n g c
+    (unless (composed s c) (unless (storedAt s (signalLink table s c)) (andThen (photosIn photos s c) (λ _. decideChain s n (signalLink table s c))))))))
+    → d ≡ decide photos table s n g c
 unfolding decide
-by-tests table s n g c e = e
+by-tests photos table s n g c e = e

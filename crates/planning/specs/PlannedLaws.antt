@@ -10,10 +10,11 @@ use native.Mathlib.Omega.{arith}
 use lib.ListN.{length, length-append, getD}
 use Rattle.base.specs.Choice.{ifEq}
 use Rattle.base.specs.ChoiceLaws.{eq-no}
-use Rattle.base.specs.Checked.{ok, refused, andThen}
+use Rattle.base.specs.Checked.{ok, refused, andThen, fine}
 use Rattle.mdf.specs.Group.{isStorage}
 use Rattle.plan.specs.Rules.{Rules}
-use Rattle.plan.specs.Columns.{SrcGroup, Plan, Decision, omitted, kept, TimeOf, time, untimed, differs, masterOf, timeOf, ownMaster, decide, withDecision, withOmission, withTime, planChannels, planTimed, planGroup, planGroups}
+use Rattle.plan.specs.Photos.{photosOf}
+use Rattle.plan.specs.Columns.{SrcGroup, Plan, Decision, omitted, kept, TimeOf, time, untimed, differs, masterOf, timeOf, ownMaster, decide, withDecision, withOmission, withTime, newTimeIn, planChannels, planTimed, planGroup, planGroups}
 use Rattle.result.specs.Guarantee.{In, here}
 use Rattle.plan_laws.specs.Answers.{with-ok, eq-cases, pick-cases, ok-same}
 use Rattle.plan_laws.specs.Lists.{in-right}
@@ -26,7 +27,7 @@ use Rattle.planning.specs.Times.{masterIn}
 use Rattle.planning.specs.TimeLaws.{master-group, time-known}
 use Rattle.planning.specs.Planning.{Base, Held, gives, Gives, within, others, ChannelsPlan}
 use Rattle.planning.specs.ChannelLaws.{gives-refused, gives-done}
-use Rattle.planning.specs.Timing.{waiting, SettlePlan}
+use Rattle.planning.specs.Timing.{waiting, timeTested, SettlePlan}
 use Rattle.planning.specs.BudgetLaws.{waiting-plain}
 use Rattle.planning.specs.SettleLaws.{time-budget}
 use Rattle.planning.specs.Planned.{othersOf, othersIn, reserved, GroupPlan, GroupsPlan}
@@ -52,39 +53,54 @@ module _ (rs : Rules) (s src bys : List ℕ) (n i g d records nc no nf : ℕ) (w
       }
 
   module _ (h : t ≡ false) {own : ℕ} (q : own ≡ ownMaster (masterIn s src n i g)) {r : Settled} {w1 : List ℕ}
-      (k : SettlePlan s src bys n i g d records nc no w r w1) {x : Progress} {w' f' : List ℕ}
-      (l : ChannelsPlan rs s src n i g d records own (r .master) (r .columns) (r .omissions) nf w1 f x w' f') where
-    own-is : own ≡ ownMaster (masterOf s (groupOf d g (channelsIn src n i) records))
-    own-is = q ∙ ap ownMaster (sym (master-group s src n i g d records))
+      (k : SettlePlan s src bys n i g d records nc no w r w1) where
+    is-timed : (p : Plan) → planGroup rs s (groupsIn src n) bys (groupOf d g (channelsIn src n i) records) p
+        ≡ planTimed rs s (groupOf d g (channelsIn src n i) records) (timeOf s (groupsIn src n) bys (groupOf d g (channelsIn src n i) records)) p
+    is-timed p = timed-group rs s (groupsIn src n) bys (groupOf d g (channelsIn src n i) records) p (sym e ∙ h)
 
-    pub group-planned : GroupPlan rs s src bys n i g d records nc no nf w f x w' f'
-    group-planned =
-        let a = k .few in
-        let b = k .fewOmitted in
+    -- the new time column is refused
+    pub group-untold : {x y : ℕ} {w' f' : List ℕ} → timeTested (rs .photos) s w1 nc (r .columns) ≡ refused x y
+        → GroupPlan rs s src bys n i g d records nc no nf w f (Refused x y) w' f'
+    unfolding gives
+    group-untold v =
         record {
-          bound = within-more x (l .bound) (omega arith) (omega arith);
+          bound = tt;
           is = λ b p j i' y.
               let c = j .columns in
-              let z = k .is b p nf f j i' (omega arith) in
-              let v = z .budget in
-              let u = rw own-is at (l .is b (z .plan) (z .column) (channelsIn src n i) (z .held) (z .master) (rw own-is (omega arith))) in
-              rw (is-timed p ∙ z .rest rs) u;
+              let z = k .is (rs .photos) b p nf f j i' (omega arith) in
+              record { by = rw (is-timed p ∙ z .rest rs refl, v) refl };
         }
-      where
-        is-timed : (p : Plan) → planGroup rs s (groupsIn src n) bys (groupOf d g (channelsIn src n i) records) p
-            ≡ planTimed rs s (groupOf d g (channelsIn src n i) records) (timeOf s (groupsIn src n) bys (groupOf d g (channelsIn src n i) records)) p
-        is-timed p = timed-group rs s (groupsIn src n) bys (groupOf d g (channelsIn src n i) records) p (sym e ∙ h)
+
+    module _ (tested : timeTested (rs .photos) s w1 nc (r .columns) ≡ fine) {x : Progress} {w' f' : List ℕ}
+      (l : ChannelsPlan rs s src n i g d records own (r .master) (r .columns) (r .omissions) nf w1 f x w' f') where
+      own-is : own ≡ ownMaster (masterOf s (groupOf d g (channelsIn src n i) records))
+      own-is = q ∙ ap ownMaster (sym (master-group s src n i g d records))
+
+      pub group-planned : GroupPlan rs s src bys n i g d records nc no nf w f x w' f'
+      group-planned =
+          let a = k .few in
+          let b = k .fewOmitted in
+          record {
+            bound = within-more x (l .bound) (omega arith) (omega arith);
+            is = λ b p j i' y.
+                let c = j .columns in
+                let z = k .is (rs .photos) b p nf f j i' (omega arith) in
+                let v = z .budget in
+                let u = rw own-is at (l .is b (z .plan) (z .column) (channelsIn src n i) (z .held) (z .master) (rw own-is (omega arith))) in
+                rw (is-timed p ∙ z .rest rs refl, tested) u;
+          }
 
 -- ---- columns reserved: the channels of a group take no more than their number
 pub record Took (s : List ℕ) (all : List SrcGroup) (k : ℕ) (p q : Plan) : Type 0 where
   pub waits : waiting s (q .columns) all ≡ waiting s (p .columns) all
   pub few : length (q .columns) ≤ length (p .columns) + k
 
-decided-took : (s : List ℕ) (all : List SrcGroup) (g : SrcGroup) (m : Option ℕ) (c : ℕ) (p : Plan) (d : Decision) → Took s all 1 p (withDecision g m c p d)
-decided-took s all g m c p (omitted r) = record { waits = refl; few = omega arith }
-decided-took s all g m c p (kept d) =
+decided-took : (s : List ℕ) (all : List SrcGroup) (g : SrcGroup) (m : Option ℕ) (c : ℕ) (refs : List ℕ) (p : Plan) (d : Decision)
+    → Took s all 1 p (withDecision g m c refs p d)
+decided-took s all g m c refs p (omitted r) = record { waits = refl; few = omega arith }
+decided-took s all g m c refs p (kept d) =
     record {
-      waits = waiting-plain s (p .columns) (record { group = g; channel = c; isTime = false; master = m; signalOf = d }) all refl;
+      waits = waiting-plain s (p .columns) (record { group = g; channel = c; isTime = false; master = m; signalOf = d; photos = refs }) all refl;
       few = rw length-append (le-refl _);
     }
 
@@ -98,9 +114,9 @@ channels-took rs s all g own m (c ∷ cs) p q e =
     let t = channels-took rs s all g own m cs p q i in
     let l = t .few in
     record { waits = t .waits; few = omega arith })
-    (λ h i. with-ok (decide (rs .table) s (p .fragments) (g .at) c) _ i (λ d j k.
-    let a = decided-took s all g m c p d in
-    let t = channels-took rs s all g own m cs (withDecision g m c p d) q k in
+    (λ h i. with-ok (decide (rs .photos) (rs .table) s (p .fragments) (g .at) c) _ i (λ d j k.
+    let a = decided-took s all g m c (photosOf (rs .photos) s c) p d in
+    let t = channels-took rs s all g own m cs (withDecision g m c (photosOf (rs .photos) s c) p d) q k in
     let l = t .few in
     let l' = a .few in
     let o : _≡_ {A = ℕ} 1 (ifEq c own 0 1) = eq-no _ _ _ _ h refl in
@@ -126,12 +142,13 @@ group-budget rs s all bys g p q i e =
         let v = t .waits in
         omega arith
     go (time t m) h j =
+        with-ok (newTimeIn (rs .photos) s t m p) _ j (λ _ _ j.
         let z = time-known s all bys t m g i h in
-        let b = time-budget s all t m p (z .isIn) (z .master) in
-        let y = channels-took rs s all g (ownMaster (masterOf s g)) _ (g .channels) (withTime t m p) q j in
+        let b = time-budget (rs .photos) s all t m p (z .isIn) (z .master) in
+        let y = channels-took rs s all g (ownMaster (masterOf s g)) _ (g .channels) (withTime (rs .photos) s t m p) q j in
         let l = y .few in
         let v = y .waits in
-        omega arith
+        omega arith)
 
 -- ---- all groups: what is left of them gives what all of them give
 module _ (rs : Rules) (s : List ℕ) (all : List SrcGroup) (bys : List ℕ) where

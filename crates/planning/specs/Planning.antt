@@ -10,6 +10,7 @@ use Rattle.base.specs.Choice.{ifEq}
 use Rattle.base.specs.Checked.{Checked, ok, refused, andThen}
 use Rattle.chains.specs.Kept.{kept}
 use Rattle.plan.specs.Rules.{Rules}
+use Rattle.plan.specs.Photos.{photosOf}
 use Rattle.plan.specs.Columns.{Plan, decide, withDecision, planChannels}
 use Rattle.work_words.specs.PlanWords.{masterWord, signalFragments, laidPlan}
 use Rattle.planning.specs.declared.column.Progress.{Progress}
@@ -65,7 +66,7 @@ others own (c ∷ cs) = ifEq c own 0 1 + others own cs
 pub record ChannelPlan (rs : Rules) (s : List ℕ) (g d records master c nc no nf : ℕ) (w f : List ℕ) (r : Progress) (w' f' : List ℕ) : Type 0 where
   pub bound : within r (nc + 1) (no + 1)
   pub is : (b : Base) (p : Plan) (m : Option ℕ) (cs : List ℕ) → Held b p nc no nf w f → masterWord m ≡ master → nc < 512
-      → Gives b (andThen (decide (rs .table) s nf g c) (λ e. ok (withDecision (groupOf d g cs records) m c p e))) r w' f'
+      → Gives b (andThen (decide (rs .photos) (rs .table) s nf g c) (λ e. ok (withDecision (groupOf d g cs records) m c (photosOf (rs .photos) s c) p e))) r w' f'
 
 -- the channels from item i on, for every plan that stands in the words with room for their columns
 pub record ChannelsPlan (rs : Rules) (s src : List ℕ) (n i g d records own master nc no nf : ℕ) (w f : List ℕ) (r : Progress) (w' f' : List ℕ) : Type 0 where

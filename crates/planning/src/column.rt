@@ -54,7 +54,8 @@ pub(crate) fn plan_channel(
     ensures { λ r. ⌜ ChannelPlan (rules choices (now (table .entry))) (now (image .entry)) g d records master c nc no nf (now (columns .entry)) (now (fragments .entry))
         r (now (columns .exit)) (now (fragments .exit)) ⌝ }
 {
-    let decision = decide(image, table, fragments, nf, g, c);
+    let photos = choices.photos;
+    let decision = decide(image, photos, table, fragments, nf, g, c);
     match decision {
         Decision::Refused { number, place } => Progress::Refused { number, place },
         Decision::Omitted { reason } => {

@@ -11,8 +11,11 @@ use channels::fits_in;
 use channels::is_master_type;
 use choices::treatment_of;
 use fields::Check;
+use photos::photos_in;
 ghost use mathlib.Core.Path.{_≡_};
+ghost use Rattle.base.specs.Checked.{andThen};
 ghost use Rattle.mdf.specs.Chain.{Chain.signal, limits, chain};
+ghost use Rattle.plan.specs.Photos.{photosIn};
 ghost use Rattle.plan.specs.Columns.{keptSignal, composed, signalLink, storedAt, decideChain, decide};
 ghost use Rattle.planning.specs.Decided.{testedAs, left, laidDecision};
 
@@ -116,10 +119,22 @@ fn decide_chain(image: &[u8], fragments: &mut [u64], n: u64, a: u64) -> Decision
     signal_at(image, fragments, n, a)
 }
 
-// The reasons in their order, for the CN at c of the group at g.
-pub(crate) fn decide(image: &[u8], table: &[u8], fragments: &mut [u64], n: u64, g: u64, c: u64) -> Decision
+// A column, after 28, with the signal data at that link.
+fn decide_kept(image: &[u8], photos: bool, fragments: &mut [u64], n: u64, c: u64, a: u64) -> Decision
     ensures { λ r. ⌜ left r (now (fragments .exit))
-        ≡ laidDecision (decide (now (table .entry)) (now (image .entry)) n g c) n (now (fragments .entry)) ⌝ }
+        ≡ laidDecision (andThen (photosIn photos (now (image .entry)) c) (λ _. decideChain (now (image .entry)) n a)) n (now (fragments .entry)) ⌝ }
+{
+    let referred = photos_in(photos, image, c);
+    if let Check::Refused { number, place } = referred {
+        return Decision::Refused { number, place };
+    }
+    decide_chain(image, fragments, n, a)
+}
+
+// The reasons in their order, for the CN at c of the group at g; then 28.
+pub(crate) fn decide(image: &[u8], photos: bool, table: &[u8], fragments: &mut [u64], n: u64, g: u64, c: u64) -> Decision
+    ensures { λ r. ⌜ left r (now (fragments .exit))
+        ≡ laidDecision (decide photos (now (table .entry)) (now (image .entry)) n g c) n (now (fragments .entry)) ⌝ }
 {
     let t = channel_type(image, c);
     let treated = treatment_of(table, t);
@@ -159,5 +174,5 @@ pub(crate) fn decide(image: &[u8], table: &[u8], fragments: &mut [u64], n: u64, 
             }
         }
     }
-    decide_chain(image, fragments, n, a)
+    decide_kept(image, photos, fragments, n, c, a)
 }

@@ -4,9 +4,11 @@ use crate::column::plan_channels;
 use crate::groups::note_items;
 use crate::timing::own_of;
 use crate::timing::settle;
+use crate::timing::time_in;
 use crate::words::word;
 use channels::is_storage;
 use choices::Choices;
+use fields::Check;
 ghost use Prim.Native.Nat.{_≤_};
 ghost use lib.ListN.{length};
 ghost use Rattle.choices.specs.Chosen.{rules};
@@ -64,6 +66,11 @@ pub(crate) fn plan_group(
     let master = settled.master;
     let more = settled.columns;
     let others = settled.omissions;
+    let photos = choices.photos;
+    let tested = time_in(image, photos, columns, nc, more);
+    if let Check::Refused { number, place } = tested {
+        return Progress::Refused { number, place };
+    }
     plan_channels(
         image,
         choices,

@@ -1,4 +1,4 @@
-// A recording is read and planned: identification, the walk, the counts, which masters stand for others, the plan, the data stage.
+// A recording is read and planned: identification, the walk, the counts, the attachments, which masters stand for others, the plan, the data stage.
 use crate::clocks::share_times;
 use crate::column::Progress;
 use crate::data::all_data_in;
@@ -7,6 +7,7 @@ use crate::planned::plan_groups;
 use crate::stage::blocks_in;
 use choices::Choices;
 use fields::Check;
+use photos::photos_first;
 use reading::answer::Read;
 use reading::recording::clear;
 use reading::recording::read;
@@ -14,7 +15,7 @@ ghost use mathlib.Core.Path.{_≡_};
 ghost use Prim.Native.Nat.{_≤_};
 ghost use lib.ListN.{length, replicate};
 ghost use Rattle.choices.specs.Chosen.{rules};
-ghost use Rattle.planning.specs.Answer.{StageOver, StandsRead, StandAlike, PlanStood, PlanRead, given, planOver, PlanLeft, planInto};
+ghost use Rattle.planning.specs.Answer.{StageOver, StandsRead, StandAlike, PlanStood, PlanShared, PlanRead, given, planOver, PlanLeft, planInto};
 
 // Document 01's refusal with number and place; or the number of blocks met, of the walk's fragments, of columns, of omissions, and of groups
 // that another stands for.
@@ -123,7 +124,32 @@ fn plan_stood(
     }
 }
 
-// The plan of what was read into the words, and its data stage.
+// The same, with those that stand for others found first.
+fn plan_shared(
+    image: &[u8],
+    size: u64,
+    choices: Choices,
+    table: &[u8],
+    source: &[u64],
+    fragments: &mut [u64],
+    columns: &mut [u64],
+    n: u64,
+    nf: u64,
+) -> Planned
+    requires { ⌜ (n ≤ 1536) × (nf ≤ 1024) × (3072 ≤ length (now fragments)) × (6144 ≤ length (now columns)) ⌝ }
+    ensures { λ r. ⌜ PlanShared (rules choices (now (table .entry))) (now (image .entry)) size (now (source .entry)) (now (fragments .entry)) (now (columns .entry)) n nf
+        r (now (fragments .exit)) (now (columns .exit)) ⌝ }
+{
+    let mut stands = [0u64; 512];
+    let share = choices.share;
+    let known = shared_in(image, share, source, fragments, n, nf, &mut stands);
+    if let Check::Refused { number, place } = known {
+        return Planned::Refused { number, place };
+    }
+    plan_stood(image, size, choices, table, source, &stands, fragments, columns, n, nf)
+}
+
+// The plan of what was read into the words, and its data stage; before it the attachments, where references to them are kept.
 fn plan_read(
     image: &[u8],
     size: u64,
@@ -139,13 +165,12 @@ fn plan_read(
     ensures { λ r. ⌜ PlanRead (rules choices (now (table .entry))) (now (image .entry)) size (now (source .entry)) (now (fragments .entry)) (now (columns .entry)) n nf
         r (now (fragments .exit)) (now (columns .exit)) ⌝ }
 {
-    let mut stands = [0u64; 512];
-    let share = choices.share;
-    let known = shared_in(image, share, source, fragments, n, nf, &mut stands);
-    if let Check::Refused { number, place } = known {
+    let photos = choices.photos;
+    let followed = photos_first(photos, image);
+    if let Check::Refused { number, place } = followed {
         return Planned::Refused { number, place };
     }
-    plan_stood(image, size, choices, table, source, &stands, fragments, columns, n, nf)
+    plan_shared(image, size, choices, table, source, fragments, columns, n, nf)
 }
 
 // Reading, then planning.

@@ -6,13 +6,17 @@ use crate::masters::time_of;
 use crate::words::put_column;
 use crate::words::put_omission;
 use crate::words::time_column;
+use crate::words::word;
+use fields::Check;
+use photos::photos_in;
 ghost use mathlib.Core.Path.{_≡_};
 ghost use Prim.Native.Nat.{_≤_};
 ghost use lib.ListN.{length};
+ghost use Rattle.fields.specs.Answer.{verdictOf};
 ghost use Rattle.plan.specs.Columns.{ownMaster};
 ghost use Rattle.planning.specs.Noted.{Noted};
 ghost use Rattle.planning.specs.Times.{masterIn};
-ghost use Rattle.planning.specs.Timing.{TimePlan, SettlePlan};
+ghost use Rattle.planning.specs.Timing.{timeTested, TimePlan, SettlePlan};
 
 // The master's column and 1, 0 for none; the numbers of columns and omissions so far.
 pub struct Settled {
@@ -60,6 +64,18 @@ pub(crate) fn add_time(
         columns: nc + 1,
         omissions: no,
     }
+}
+
+// 28 of the time column that was added to nc columns, where there are n now.
+pub(crate) fn time_in(image: &[u8], photos: bool, columns: &[u64], nc: u64, n: u64) -> Check
+    requires { ⌜ nc ≤ 4194304 ⌝ }
+    ensures { λ r. ⌜ verdictOf r ≡ timeTested photos (now (image .entry)) (now (columns .entry)) nc n ⌝ }
+{
+    if n == nc {
+        return Check::Fine;
+    }
+    let c = word(columns, 8 * nc);
+    photos_in(photos, image, c)
 }
 
 // What the group with its CG at g, its channels from item i on, of the DG at d, has for its time.

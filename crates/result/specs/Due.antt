@@ -119,11 +119,15 @@ groupDue s c =
 unfoldable pub typeDue : List ℕ → ℕ → ℕ
 typeDue table t = pick (eqb (treatment table t) 2) 0 t
 
--- byte offset, invalidation bit position and number of attachments 0
-unfoldable pub channelDue : List ℕ → List ℕ → Column → ChannelFields
-channelDue table s c =
+-- "the attachment count at data byte 22 of CN .. This is a choice per call; without it all is as before" (document 02, request 9)
+unfoldable pub photosDue : Bool → List ℕ → ℕ → ℕ
+photosDue photos s c = pick photos (leAt 2 s (dataAt s c + 22)) 0
+
+-- byte offset and invalidation bit position 0
+unfoldable pub channelDue : Rules → List ℕ → Column → ChannelFields
+channelDue o s c =
     record {
-      channelType = typeDue table (channelType s (c .channel));
+      channelType = typeDue (o .table) (channelType s (c .channel));
       syncType = leAt 1 s (dataAt s (c .channel) + 1);
       dataType = leAt 1 s (dataAt s (c .channel) + 2);
       bitOffset = bitOffset s (c .channel);
@@ -132,11 +136,11 @@ channelDue table s c =
       flags = channelFlagsDue (channelFlags s (c .channel)) (keptByte s c);
       invalPosition = 0;
       precision = leAt 1 s (dataAt s (c .channel) + 20);
-      attachments = 0;
+      attachments = photosDue (o .photos) s (c .channel);
       ranges = part (dataAt s (c .channel) + 24) 48 s;
     }
 
--- ---- a column, with "DG 64, CG 104 (112 with a master), CN 160"
+-- ---- a column, with "DG 64, CG 104 (112 with a master), CN 160", and "CN takes 160 + 8 times that count"
 unfoldable pub due : Rules → List ℕ → ℕ → List Placed → Placed → Shown
 due o s size ps p =
     record {
@@ -150,10 +154,10 @@ due o s size ps p =
       group = groupDue s (p .column);
       master = dueMaster ps (p .column .master);
       cn = cnOf p;
-      cnHead = record { kind = kindCN; size = 160; links = 8 };
+      cnHead = record { kind = kindCN; size = 160 + 8 * photosDue (o .photos) s (p .column .channel); links = 8 + photosDue (o .photos) s (p .column .channel) };
       nextCN = 0;
       composition = 0;
-      channel = channelDue (o .table) s (p .column);
+      channel = channelDue o s (p .column);
       list = listDue (blocksDue s size (p .column)) (equalDue s size (p .column));
       blocks = ok (fragmentsDue s size p);
       payload = ok (duePayload s (p .column));

@@ -16,7 +16,7 @@ use Rattle.plan.specs.Channel.{channelType, channelBytes, channelFlags, keepsIn
 use Rattle.plan.specs.Columns.{Column, Signal, noSignal, signalData}
 use Rattle.plan.specs.Geometry.{blockPayload}
 use Rattle.plan.specs.Copies.{kindFH, Copy, copyOf, Attachment}
-use Rattle.plan.specs.Layout.{columnWidth, columnBlocks, cgLinks, cgSize, dlSize, Placed, cgOf, cnOf, dlOf, mdSize}
+use Rattle.plan.specs.Layout.{columnWidth, columnBlocks, cgLinks, cgSize, cnSize, dlSize, Placed, cgOf, cnOf, dlOf, mdSize}
 use Rattle.result.specs.Payload.{columnPayloads, signalBytes}
 
 -- bookkeeping: a block of the result: its address and its bytes
@@ -145,25 +145,36 @@ abbrev pub cnFlags : ℕ → Bool → ℕ
 cnFlags f true = f - bit 12 f * 4096
 cnFlags f false = f - bit 12 f * 4096 - bit 1 f * 2
 
--- the 72 data bytes: type, byte offset 0, flags, invalidation bit 0, no attachments; the others as they were
-unfoldable pub cnData : List ℕ → List ℕ → ℕ → ℕ → List ℕ
-cnData table s g c =
+-- the 72 data bytes: type, byte offset 0, flags, invalidation bit 0, n references to attachments; the others as they were
+unfoldable pub cnData : List ℕ → List ℕ → ℕ → ℕ → ℕ → List ℕ
+cnData table s g c n =
     le 1 (storedType table (channelType s c)) ++ part (dataAt s c + 1) 3 s ++ le 4 0 ++ part (dataAt s c + 8) 4 s
-    ++ le 4 (cnFlags (channelFlags s c) (keepsInval s g c)) ++ le 4 0 ++ part (dataAt s c + 20) 2 s ++ le 2 0 ++ part (dataAt s c + 24) 48 s
+    ++ le 4 (cnFlags (channelFlags s c) (keepsInval s g c)) ++ le 4 0 ++ part (dataAt s c + 20) 2 s ++ le 2 n ++ part (dataAt s c + 24) 48 s
 
 -- CN link 6: its SD
 abbrev pub sdLink : Signal → ℕ → ℕ
 sdLink noSignal a = 0
 sdLink (signalData fs) a = a
 
--- CN: no next CN, no composition, links 3, 4, 5, 7, 8 led to the copies, its SD
-unfoldable pub cnBytes : Rules → List ℕ → List Copy → Placed → List ℕ
-cnBytes o s memo p =
-    header kindCN 160 8
+-- "links lead to the moved AT. Zero references stay zero" (document 02, request 9): where the attachment that stood at a is placed
+unfoldable pub movedTo : ℕ → List Attachment → ℕ
+movedTo a [] = 0
+movedTo a (t ∷ ts) = let later = movedTo a ts in ifEq (t .from) a (t .to) later
+
+-- references, each led there
+unfoldable pub photoLinks : List Attachment → List ℕ → List ℕ
+photoLinks ats [] = []
+photoLinks ats (a ∷ as') = movedTo a ats ∷ photoLinks ats as'
+
+-- CN: no next CN, no composition, links 3, 4, 5, 7, 8 led to the copies, its SD, "its links after the eighth" to photos
+unfoldable pub cnBytes : Rules → List ℕ → List Copy → List Attachment → Placed → List ℕ
+cnBytes o s memo ats p =
+    header kindCN (cnSize (p .column)) (8 + length (p .column .photos))
     ++ le 8 0 ++ le 8 0 ++ le 8 (newLink memo (linkAt s (p .column .channel) 2)) ++ le 8 (newLink memo (linkAt s (p .column .channel) 3))
     ++ le 8 (newLink memo (linkAt s (p .column .channel) 4)) ++ le 8 (sdLink (p .column .signalOf) (p .sd))
     ++ le 8 (newLink memo (linkAt s (p .column .channel) 6)) ++ le 8 (newLink memo (linkAt s (p .column .channel) 7))
-    ++ cnData (o .table) s (p .column .group .at) (p .column .channel)
+    ++ words (photoLinks ats (p .column .photos))
+    ++ cnData (o .table) s (p .column .group .at) (p .column .channel) (length (p .column .photos))
 
 -- "24 + payload apart": the places of data blocks
 unfoldable pub blockLinks : ℕ → ℕ → ℕ → List ℕ
@@ -186,11 +197,11 @@ unfoldable pub dlBlocks : List ℕ → ℕ → Placed → List Block
 dlBlocks s size p = ifEq (columnBlocks s size (p .column)) 0 [] (block (dlOf p) (dlBytes s size p) ∷ [])
 
 -- "Then per column DG, CG, CN, and .. DL"; all is the list that master numbers count
-unfoldable pub structureBlocks : Rules → List ℕ → ℕ → List Copy → List Placed → List Placed → List Block
-structureBlocks o s size memo all [] = []
-structureBlocks o s size memo all (p ∷ ps) =
-    block (p .dg) (dgBytes s size memo p (nextDG ps)) ∷ block (cgOf p) (cgBytes s memo all p) ∷ block (cnOf p) (cnBytes o s memo p)
-    ∷ (dlBlocks s size p ++ structureBlocks o s size memo all ps)
+unfoldable pub structureBlocks : Rules → List ℕ → ℕ → List Copy → List Attachment → List Placed → List Placed → List Block
+structureBlocks o s size memo ats all [] = []
+structureBlocks o s size memo ats all (p ∷ ps) =
+    block (p .dg) (dgBytes s size memo p (nextDG ps)) ∷ block (cgOf p) (cgBytes s memo all p) ∷ block (cnOf p) (cnBytes o s memo ats p)
+    ∷ (dlBlocks s size p ++ structureBlocks o s size memo ats all ps)
 
 -- ---- data blocks: "Blocks are DT with, DV without, an invalidation byte."
 abbrev pub dataKind : Bool → ℕ

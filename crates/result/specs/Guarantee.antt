@@ -14,7 +14,7 @@ use Rattle.mdf.specs.Walk.{Source, walk}
 use Rattle.plan.specs.Columns.{SrcGroup, Column, noSignal, Omission, omissionAddresses}
 use Rattle.plan.specs.Data.{isNonempty}
 use Rattle.plan.specs.Copies.{isCopied}
-use Rattle.plan.specs.Layout.{Placed, columnBlocks}
+use Rattle.plan.specs.Layout.{Placed, cnOf, columnBlocks}
 pub use Rattle.result.specs.Member.{In, here, there}
 use Rattle.result.specs.Recording.{Recorded, Met, SharedRecords, Sorted, IsMaster, Uses, Differs, Treats, reasonFor, OmissionDue, Among, filePlaces, signalChannels, SignalDue, signalSize, Followed, isAT, attachedFrom}
 use Rattle.result.specs.Payload.{recordsOf, signalBytes}
@@ -24,7 +24,7 @@ use Rattle.result.specs.Result.{Args, rulesOf, Decided, blocksOf}
 use Rattle.result.specs.Ordered.{Close}
 use Rattle.result.specs.Links.{shown}
 use Rattle.result.specs.Due.{dueAll, FrontDue}
-use Rattle.result.specs.Names.{LinkDue, NamesDue, HistoryDue, NewHistory, AttachmentsDue}
+use Rattle.result.specs.Names.{LinkDue, NamesDue, HistoryDue, NewHistory, AttachmentsDue, PhotosDue}
 
 -- ---- blocks
 
@@ -159,6 +159,9 @@ pub record Guaranteed (x : Args) (d : Decided) (f l : List ℕ) : Type 0 where
   pub historyNew : NewHistory x f (d .laidOut .fh)
   -- the recording's attachments are kept, in order
   pub attachments : AttachmentsDue (x .image) f (d .laidOut .past .chain) (attachedFrom (d .laidOut .attached .attachments)) (linkAt f 64 3)
+  -- with that choice every column has its channel's photos (document 02, request 9)
+  pub photos : x .photos ≡ true → (p : Placed) → In p (d .laidOut .placed)
+      → PhotosDue (x .image) f (attachedFrom (d .laidOut .attached .attachments)) (p .column .channel) (cnOf p)
   -- every block is written as planned, and no two share a byte
   pub filled : (b : Block) → In b (blocksOf x (d .laidOut)) → Stands f (b .at) (b .bytes)
   pub apart : AllApart (blocksOf x (d .laidOut))

@@ -1,12 +1,12 @@
 -- Names, units, conversions, sources and comments: what the links of the result's blocks are to lead to, from the recording (document 01, copying and
 -- placement).
 use Prim.{Unit}
-use Prim.Native.Nat.{ℕ, zero, suc, _+_, _*_, _-_, _<_}
+use Prim.Native.Nat.{ℕ, zero, suc, _+_, _*_, _-_, _≤_, _<_}
 use mathlib.Core.List.{List, [], _∷_}
 use mathlib.Core.Bool.{false}
 use mathlib.Core.Path.{_≡_}
-use lib.ListN.{length}
-use Rattle.base.specs.Field.{le}
+use lib.ListN.{length, getD}
+use Rattle.base.specs.Field.{leAt, le}
 use Rattle.base.specs.Blit.{part}
 use Rattle.mdf.specs.Block.{kindTX, kindMD, kindAt, sizeAt, linksAt, linkAt, dataAt}
 use Rattle.mdf.specs.Chain.{isIn}
@@ -86,3 +86,22 @@ AttachmentsDue s f past (a ∷ as') b =
     SameBlock s f a b × (part b 24 f ≡ part a 24 s)
     × ((k i : ℕ) → suc i < linksAt s a → LinkDue k s f past (linkAt s a (suc i)) (linkAt f b (suc i)))
     × AttachmentsDue s f past as' (linkAt f b 0)
+
+-- ---- photos (document 02, request 9)
+
+-- the attachment number k, from 0, of the chain from b on by first links
+unfoldable pub chainPlace : List ℕ → ℕ → ℕ → ℕ
+chainPlace f b zero = b
+chainPlace f b (suc k) = chainPlace f (linkAt f b 0) k
+
+-- link a of the recording's CN and link b of the result's: "links lead to the moved AT", which has the same number in the result's chain as in the
+-- recording's, ats. "Zero references stay zero."
+pub record PhotoDue (f ats : List ℕ) (a b : ℕ) : Type 0 where
+  pub zeroStays : a ≡ 0 → b ≡ 0
+  pub moved : (a ≡ 0 → ⊥) → (k : ℕ) × (k < length ats) × (getD ats k 0 ≡ a) × (b ≡ chainPlace f (linkAt f 64 3) k)
+
+-- "a column found by links has the source channel's photos .. in the source's order": the CN at c of the recording s has as many links as its count
+-- demands, and each "after the eighth" is what it is to be of the CN at cn of the result f
+pub record PhotosDue (s f ats : List ℕ) (c cn : ℕ) : Type 0 where
+  pub linked : 8 + leAt 2 s (dataAt s c + 22) ≤ linksAt s c
+  pub each : (i : ℕ) → i < leAt 2 s (dataAt s c + 22) → PhotoDue f ats (linkAt s c (8 + i)) (linkAt f cn (8 + i))

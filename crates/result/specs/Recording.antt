@@ -17,7 +17,8 @@ use Rattle.mdf.specs.Walk.{cg, cn, Source, idSize}
 use Rattle.plan.specs.Table.{treatment}
 use Rattle.plan.specs.Channel.{channelType, fits, isMasterType, both}
 use Rattle.plan.specs.Columns.{kindCA, SrcGroup, remoteLink, Signal, noSignal, signalData, Column, Omission}
-use Rattle.plan.specs.Copies.{kindAT, Attachment}
+use Rattle.plan.specs.Copies.{Attachment}
+use Rattle.plan.specs.Photos.{kindAT}
 use Rattle.result.specs.Member.{In}
 use Rattle.result.specs.Payload.{recordsOf}
 

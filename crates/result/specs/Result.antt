@@ -12,6 +12,7 @@ use Rattle.mdf.specs.Identification.{fileMark, identified}
 use Rattle.mdf.specs.Walk.{walk}
 use Rattle.mdf.specs.Group.{dataGroups, isStorage}
 use Rattle.mdf.specs.Count.{counts}
+use Rattle.plan.specs.Photos.{photosFirst}
 use Rattle.plan.specs.Columns.{SrcGroup, srcGroups, Column, Signal, noSignal, signalData, Plan, plan, omissionWords}
 use Rattle.plan.specs.Data.{allDataIn, blocksIn}
 use Rattle.plan.specs.Copies.{Copy}
@@ -31,10 +32,11 @@ pub record Args : Type 0 where
   pub unit : ℕ
   pub table : List ℕ
   pub share : Bool
+  pub photos : Bool
 
 -- bookkeeping: what is chosen, as the definitions use it
 abbrev pub rulesOf : Args → Rules
-rulesOf x = record { unit = x .unit; table = x .table; share = x .share }
+rulesOf x = record { unit = x .unit; table = x .table; share = x .share; photos = x .photos }
 
 -- ---- the file
 
@@ -60,7 +62,7 @@ blocksOf x l =
     ∷ (copiedBlocks (x .image) (l .past .chain) (memoOf l) (l .fh) (l .past .made .memo)
     ++ (block (l .md) (mdBytes (x .text)) ∷ block (l .fh) (fhBytes (l .md) (x .time))
     ∷ (copiedBlocks (x .image) (l .past .chain) (memoOf l) (l .fh) (drop (length (l .past .made .memo)) (l .metadata .memo))
-    ++ (structureBlocks (rulesOf x) (x .image) (x .blockSize) (memoOf l) (l .placed) (l .placed)
+    ++ (structureBlocks (rulesOf x) (x .image) (x .blockSize) (memoOf l) (l .attached .attachments) (l .placed) (l .placed)
     ++ (dataBlocks (x .image) (x .blockSize) (l .placed)
     ++ attachmentBlocks (x .image) (l .past .chain) (memoOf l) (l .fh) (l .attached .attachments))))))
 
@@ -143,8 +145,8 @@ lentIn x =
     (ifEq (leAt 8 (x .ident) 8) version420
     (ifLt 4096 (length (x .text)) (refused 1 0) fine) (refused 1 0)) (refused 1 0)) (refused 1 0)
 
--- "Order. 1, 2,", document 02's choices, "3; identification (4, 5, 6, 7); HD; DG by DG ..; counts DG by DG ..; planning", which "starts with the unit texts ..,
--- then, DG by DG, the compared groups' data" where times are shared; "DG by DG data ..; block counts (19); metadata; attachments .."
+-- "Order. 1, 2,", document 02's choices, "3; identification (4, 5, 6, 7); HD; DG by DG ..; counts DG by DG ..; planning", which "starts by following the
+-- attachments .., before unit texts" where photos are kept, "with the unit texts .., then, DG by DG, the compared groups' data" where times are shared; "DG by DG data ..; block counts (19); metadata; attachments .."
 unfoldable pub decided : Args → Checked Decided
 decided x =
     andThen (lentIn x) (λ _.
@@ -154,12 +156,13 @@ decided x =
     andThen (identified (x .image)) (λ _.
     andThen (walk (x .image)) (λ st.
     andThen (counts (x .image) (dataGroups st)) (λ ns.
+    andThen (photosFirst (x .photos) (x .image)) (λ _.
     andThen (sharing (x .share) (x .image) (dataGroups st) (srcGroups (dataGroups st) ns)) (λ bys.
     andThen (plan (rulesOf x) (x .image) (length (st .fragments)) (srcGroups (dataGroups st) ns) bys) (λ p.
     andThen (allDataIn (x .image) (p .columns) (dataGroups st)) (λ _.
     andThen (blocksIn (x .image) (x .blockSize) (p .columns)) (λ _.
     andThen (layout (rulesOf x) (x .image) (x .blockSize) (length (x .text)) (p .columns)) (λ l.
-    ok (record { groups = srcGroups (dataGroups st) ns; stands = bys; planned = p; laidOut = l })))))))))))))
+    ok (record { groups = srcGroups (dataGroups st) ns; stands = bys; planned = p; laidOut = l }))))))))))))))
 
 -- "20, bytes needed: output shorter than the result; 21, words needed: omission list too short", for an output and a list of so many
 unfoldable pub answer : Args → ℕ → ℕ → Checked Decided

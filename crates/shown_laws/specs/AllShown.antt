@@ -8,7 +8,7 @@ use lib.ListN.{length, drop}
 use Rattle.base.specs.ChoiceLaws.{eq-yes, eq-no}
 use Rattle.mdf.specs.Block.{kindHD, linkAt}
 use Rattle.plan.specs.Rules.{Rules}
-use Rattle.plan.specs.Copies.{Copy}
+use Rattle.plan.specs.Copies.{Copy, Attachment}
 use Rattle.plan.specs.Layout.{Layout, Placed, dlOf}
 use Rattle.result.specs.Ordered.{Ordered}
 use Rattle.result.specs.Fill.{Block, block, mdBytes, fhBytes, hdData, nextDG, cgAt, copiedBlocks, dlBlocks, structureBlocks, sdBlocks}
@@ -20,7 +20,7 @@ use Rattle.result.specs.Guarantee.{Stands, In, here, there}
 use Rattle.shown_laws.specs.Flat.{in-front, in-back, ordered-from, ordered-by}
 use Rattle.shown_laws.specs.Header.{block-link}
 use Rattle.shown_laws.specs.Shapes.{hdLinks, hd-shape}
-use Rattle.shown_laws.specs.ColumnShown.{ColumnSound, blocksAt, column-shown, dg-next}
+use Rattle.shown_laws.specs.ColumnShown.{ColumnSound, Refers, blocksAt, column-shown, dg-next}
 
 -- ---- what is known of a file with layout l: all that reading back rests on
 pub record Sound (x : Args) (l : Layout) (f : List ℕ) : Type 0 where
@@ -28,16 +28,17 @@ pub record Sound (x : Args) (l : Layout) (f : List ℕ) : Type 0 where
   pub stands : (b : Block) → In b (blocksOf x l) → Stands f (b .at) (b .bytes)
   -- every placed column: fields that are wide enough, payloads that are due, addresses below 2 ^ 64
   pub columns : (p : Placed) → In p (l .placed) → ColumnSound (x .image) (x .blockSize) p
+  pub refers : (p : Placed) → In p (l .placed) → Refers (rulesOf x) (x .image) (p .column)
 
 -- ---- which blocks of the file are used
 
 -- of the first column, and of those after it
-module _ {b : Block} (o : Rules) (s : List ℕ) (size : ℕ) (memo : List Copy) (all : List Placed) (p : Placed) (ps : List Placed) where
-  pub in-list : In b (dlBlocks s size p) → In b (structureBlocks o s size memo all (p ∷ ps))
+module _ {b : Block} (o : Rules) (s : List ℕ) (size : ℕ) (memo : List Copy) (ats : List Attachment) (all : List Placed) (p : Placed) (ps : List Placed) where
+  pub in-list : In b (dlBlocks s size p) → In b (structureBlocks o s size memo ats all (p ∷ ps))
   unfolding structureBlocks
-  in-list i = there (there (there (in-front (structureBlocks o s size memo all ps) i)))
+  in-list i = there (there (there (in-front (structureBlocks o s size memo ats all ps) i)))
 
-  pub in-later : In b (structureBlocks o s size memo all ps) → In b (structureBlocks o s size memo all (p ∷ ps))
+  pub in-later : In b (structureBlocks o s size memo ats all ps) → In b (structureBlocks o s size memo ats all (p ∷ ps))
   unfolding structureBlocks
   in-later i = there (there (there (in-back (dlBlocks s size p) i)))
 
@@ -63,7 +64,7 @@ module _ (x : Args) (l : Layout) where
   columnCopies = copiedBlocks (x .image) (l .past .chain) (memoOf l) (l .fh) (drop (length (l .past .made .memo)) (l .metadata .memo))
 
   abbrev pub structure : List Block
-  structure = structureBlocks (rulesOf x) (x .image) (x .blockSize) (memoOf l) (l .placed) (l .placed)
+  structure = structureBlocks (rulesOf x) (x .image) (x .blockSize) (memoOf l) (l .attached .attachments) (l .placed) (l .placed)
 
   abbrev pub columnData : List Block
   columnData = dataBlocks (x .image) (x .blockSize) (l .placed)
@@ -129,25 +130,25 @@ next-below s size [] h = lit< tt
 next-below s size (p ∷ ps) h = let e = h p here .structureEnds in omega arith
 
 -- from a column's DG on, the columns from there on
-pub chain-shown : {f : List ℕ} (o : Rules) (s : List ℕ) (size : ℕ) (memo : List Copy) (all ps : List Placed) (k : ℕ) → length ps ≤ k
-    → ((p : Placed) → In p ps → ColumnSound s size p) → ((m : ℕ) → cgAt m all < 256 ^ 8)
-    → ((b : Block) → In b (structureBlocks o s size memo all ps) → Stands f (b .at) (b .bytes))
+pub chain-shown : {f : List ℕ} (o : Rules) (s : List ℕ) (size : ℕ) (memo : List Copy) (ats : List Attachment) (all ps : List Placed) (k : ℕ) → length ps ≤ k
+    → ((p : Placed) → In p ps → ColumnSound s size p) → ((p : Placed) → In p ps → Refers o s (p .column)) → ((m : ℕ) → cgAt m all < 256 ^ 8)
+    → ((b : Block) → In b (structureBlocks o s size memo ats all ps) → Stands f (b .at) (b .bytes))
     → ((b : Block) → In b (dataBlocks s size ps) → Stands f (b .at) (b .bytes))
     → shownFrom k f (nextDG ps) ≡ dueAll o s size all ps
 unfolding shownFrom dueAll structureBlocks dataBlocks
-chain-shown o s size memo all [] zero h sound below made filled = refl
-chain-shown o s size memo all [] (suc k) h sound below made filled = sym (eq-yes _ _ _ _ refl refl)
-chain-shown o s size memo all (p ∷ ps) zero h sound below made filled = absurd (omega arith)
-chain-shown {f} o s size memo all (p ∷ ps) (suc k) h sound below made filled =
+chain-shown o s size memo ats all [] zero h sound refers below made filled = refl
+chain-shown o s size memo ats all [] (suc k) h sound refers below made filled = sym (eq-yes _ _ _ _ refl refl)
+chain-shown o s size memo ats all (p ∷ ps) zero h sound refers below made filled = absurd (omega arith)
+chain-shown {f} o s size memo ats all (p ∷ ps) (suc k) h sound refers below made filled =
     let c : ColumnSound s size p = sound p here in
     let one : shownAt f (p .dg) ≡ due o s size all p =
-    column-shown o s size memo all p (nextDG ps) c below (made _ here) (made _ (there here)) (made _ (there (there here)))
-    (λ b i. made b (in-list o s size memo all p ps i)) (λ b i. filled b (in-payload s size p ps i))
+    column-shown o s size memo ats all p (nextDG ps) c (refers p here) below (made _ here) (made _ (there here)) (made _ (there (there here)))
+    (λ b i. made b (in-list o s size memo ats all p ps i)) (λ b i. filled b (in-payload s size p ps i))
     (λ b i. filled b (in-signal s size p ps i)) in
     let next : linkAt f (p .dg) 0 ≡ nextDG ps =
     dg-next s size memo all p (nextDG ps) c (made _ here) (next-below s size ps (λ q i. sound q (there i))) in
-    let more = chain-shown o s size memo all ps k (omega arith) (λ q i. sound q (there i)) below
-    (λ b i. made b (in-later o s size memo all p ps i)) (λ b i. filled b (in-data-later s size p ps i)) in
+    let more = chain-shown o s size memo ats all ps k (omega arith) (λ q i. sound q (there i)) (λ q i. refers q (there i)) below
+    (λ b i. made b (in-later o s size memo ats all p ps i)) (λ b i. filled b (in-data-later s size p ps i)) in
     let a : 0 < p .dg = c .dgAbove in
     sym (eq-no _ _ _ _ (λ e. omega arith) (sym (rw (next, one, more))))
 
@@ -167,6 +168,6 @@ shows-due {f} x l sound k h =
     let first : linkAt f 64 0 ≡ nextDG (l .placed) =
     hd-first (x .image) l (sound .stands (hdBlock (x .image) l) (in-hd x l))
     (next-below (x .image) (x .blockSize) (l .placed) (sound .columns)) in
-    rw first (chain-shown (rulesOf x) (x .image) (x .blockSize) (memoOf l) (l .placed) (l .placed) k h (sound .columns)
+    rw first (chain-shown (rulesOf x) (x .image) (x .blockSize) (memoOf l) (l .attached .attachments) (l .placed) (l .placed) k h (sound .columns) (sound .refers)
     (cg-below (l .placed) (λ p i. sound .columns p i .structureEnds))
     (λ b i. sound .stands b (in-structure x l i)) (λ b i. sound .stands b (in-data x l i)))

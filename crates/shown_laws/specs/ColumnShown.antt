@@ -24,8 +24,8 @@ use Rattle.plan.specs.Rules.{Rules}
 use Rattle.plan.specs.Table.{treatment}
 use Rattle.plan.specs.Channel.{channelType, bitOffset, byteOffset, bitCount, channelFlags, invalPosition, bit, both, keepsInval}
 use Rattle.plan.specs.Columns.{Column, Signal, noSignal, signalData, remoteLink}
-use Rattle.plan.specs.Copies.{Copy}
-use Rattle.plan.specs.Layout.{Placed, cgOf, cnOf, dlOf, cgSize, dlSize, columnWidth, columnBlocks}
+use Rattle.plan.specs.Copies.{Copy, Attachment}
+use Rattle.plan.specs.Layout.{Placed, cgOf, cnOf, dlOf, cgSize, cnSize, dlSize, columnWidth, columnBlocks}
 use Rattle.result.specs.Payload.{payloads, columnPayloads, signalBytes}
 use Rattle.result.specs.Fill.{Block, block, header, words, dgBytes, cgBytes, cnBytes, cnData, dlBytes, dlBlocks, payloadBlocks, sdBlocks}
 use Rattle.result.specs.Fill.{sdLink, blockLinks, columnPayload, cgAt, cgFlags, cgData, storedType, cnFlags, one, dataKind}
@@ -47,6 +47,7 @@ use Rattle.result.specs.Due.{
   keptByte,
   groupDue,
   typeDue,
+  photosDue,
   channelDue,
   due,
 }
@@ -71,7 +72,7 @@ use Rattle.shown_laws.specs.Joined.{
   dl-equal,
   dl-chain,
 }
-use Rattle.shown_laws.specs.Shapes.{dgLinks, dg-shape, masterWord, cgWords, cg-shape, cnLinks, cn-shape, read-id, read-records, read-flags}
+use Rattle.shown_laws.specs.Shapes.{dgLinks, dg-shape, masterWord, cgWords, cg-shape, cnLinks, cn-many, cn-shape, read-id, read-records, read-flags}
 use Rattle.shown_laws.specs.Shapes.{read-bytes, read-inval, separator-stands, flags-small, flags-none, flags-some, group-flags, channel-flags, stored-type}
 use Rattle.shown_laws.specs.Shapes.{read-type, three-stands, read-offset, four-stands, read-channel-flags, read-position, two-stands, read-attachments, many-stands}
 
@@ -85,6 +86,8 @@ pub record ColumnSound (s : List ℕ) (size : ℕ) (p : Placed) : Type 0 where
   pub records : p .column .group .records < 256 ^ 8
   pub few : columnBlocks s size (p .column) < 256 ^ 4
   pub short : columnPayload s size (p .column) < 256 ^ 8
+  -- so is the number of its references to attachments, of 2 bytes
+  pub fewPhotos : length (p .column .photos) < 256 ^ 2
   -- every payload but the last is as long as the DL says, and together they are the payload that is due
   pub equal : EqualBut (columnPayload s size (p .column)) (columnPayloads s size (p .column))
   pub whole : flatten (columnPayloads s size (p .column)) ≡ duePayload s (p .column)
@@ -95,6 +98,10 @@ pub record ColumnSound (s : List ℕ) (size : ℕ) (p : Placed) : Type 0 where
   pub payloadEnds : p .first + 24 * columnBlocks s size (p .column) + length (duePayload s (p .column)) < 256 ^ 8
   pub sdAbove : 0 < p .sd
   pub sdEnds : p .sd + 24 + length (signalBytes s (p .column .signalOf)) < 256 ^ 8
+
+-- it has as many references as its channel, with that choice
+abbrev pub Refers : Rules → List ℕ → Column → Type 0
+Refers o s c = length (c .photos) ≡ photosDue (o .photos) s (c .channel)
 
 -- ---- as many payloads as blocks
 length-payloads : (s : List ℕ) (g c m k : ℕ) (rs : List (List ℕ)) → length (payloads s g c m k rs) ≡ k
@@ -305,8 +312,9 @@ channel-flags-small : (g : ℕ) (t : Bool) → g < 256 ^ 4 → cnFlags g t < 256
 channel-flags-small g true h = omega arith
 channel-flags-small g false h = omega arith
 
-module _ {f : List ℕ} (table s : List ℕ) (image : (i : ℕ) → getD s i 0 < 256) (q : Column) (inside : dataAt s (q .channel) + 72 ≤ length s) (cn : ℕ)
-    (st : Stands f (dataAt f cn) (cnData table s (q .group .at) (q .channel))) where
+module _ {f : List ℕ} (o : Rules) (s : List ℕ) (image : (i : ℕ) → getD s i 0 < 256) (q : Column) (inside : dataAt s (q .channel) + 72 ≤ length s) (cn : ℕ)
+    (few : length (q .photos) < 256 ^ 2) (refers : Refers o s q)
+    (st : Stands f (dataAt f cn) (cnData (o .table) s (q .group .at) (q .channel) (length (q .photos)))) where
   three : length (part (dataAt s (q .channel) + 1) 3 s) ≡ 3
   three = length-part _ 3 s (omega arith)
 
@@ -319,37 +327,37 @@ module _ {f : List ℕ} (table s : List ℕ) (image : (i : ℕ) → getD s i 0 <
   many : length (part (dataAt s (q .channel) + 24) 48 s) ≡ 48
   many = length-part _ 48 s (omega arith)
 
-  cn-type : channelType f cn ≡ typeDue table (channelType s (q .channel))
+  cn-type : channelType f cn ≡ typeDue (o .table) (channelType s (q .channel))
   unfolding cnData channelType
   cn-type =
-      read-type _ _ _ _ _ _ three four two st (type-small table _ (field-below s image 1 (dataAt s (q .channel))))
-      ∙ stored-type table (leAt 1 s (dataAt s (q .channel)))
+      read-type _ _ _ _ _ _ _ three four two st (type-small (o .table) _ (field-below s image 1 (dataAt s (q .channel))))
+      ∙ stored-type (o .table) (leAt 1 s (dataAt s (q .channel)))
 
   -- sync type, data type and bit offset; bit count; precision: as they were
   cn-three : (i x y : ℕ) → i + 1 ≤ 3 → dataAt f cn + 1 + i ≡ x → dataAt s (q .channel) + 1 + i ≡ y → leAt 1 f x ≡ leAt 1 s y
   unfolding cnData
-  cn-three i x y h e k = field-at 1 s (dataAt s (q .channel) + 1) 3 i x y (three-stands _ _ _ _ _ _ three four two st) (omega arith) h e k
+  cn-three i x y h e k = field-at 1 s (dataAt s (q .channel) + 1) 3 i x y (three-stands _ _ _ _ _ _ _ three four two st) (omega arith) h e k
 
   cn-bits : leAt 4 f (dataAt f cn + 8) ≡ leAt 4 s (dataAt s (q .channel) + 8)
   unfolding cnData
-  cn-bits = field-at 4 s _ 4 0 _ _ (four-stands _ _ _ _ _ _ three four two st) (omega arith) (lit< tt) (add-zero _) (add-zero _)
+  cn-bits = field-at 4 s _ 4 0 _ _ (four-stands _ _ _ _ _ _ _ three four two st) (omega arith) (lit< tt) (add-zero _) (add-zero _)
 
   cn-precision : leAt 1 f (dataAt f cn + 20) ≡ leAt 1 s (dataAt s (q .channel) + 20)
   unfolding cnData
-  cn-precision = field-at 1 s _ 2 0 _ _ (two-stands _ _ _ _ _ _ three four two st) (omega arith) (lit< tt) (add-zero _) (add-zero _)
+  cn-precision = field-at 1 s _ 2 0 _ _ (two-stands _ _ _ _ _ _ _ three four two st) (omega arith) (lit< tt) (add-zero _) (add-zero _)
 
   cn-flags : channelFlags f cn ≡ channelFlagsDue (channelFlags s (q .channel)) (keptByte s q)
   unfolding cnData channelFlags keptByte
   cn-flags =
-      read-channel-flags _ _ _ _ _ _ three four two st
+      read-channel-flags _ _ _ _ _ _ _ three four two st
       (channel-flags-small _ (keepsInval s (q .group .at) (q .channel)) (field-below s image 4 (dataAt s (q .channel) + 12)))
       ∙ channel-flags _ (keepsInval s (q .group .at) (q .channel)) (kept-bit s (q .group .at) (q .channel))
 
   cn-ranges : part (dataAt f cn + 24) 48 f ≡ part (dataAt s (q .channel) + 24) 48 s
   unfolding cnData
-  cn-ranges = rw many at (many-stands _ _ _ _ _ _ three four two st .is)
+  cn-ranges = rw many at (many-stands _ _ _ _ _ _ _ three four two st .is)
 
-  pub channel-read : channelFields f cn ≡ channelDue table s q
+  pub channel-read : channelFields f cn ≡ channelDue o s q
   unfolding channelFields channelDue bitOffset byteOffset bitCount invalPosition cnData
   channel-read =
       rw (
@@ -357,12 +365,13 @@ module _ {f : List ℕ} (table s : List ℕ) (image : (i : ℕ) → getD s i 0 <
         cn-three 0 (dataAt f cn + 1) (dataAt s (q .channel) + 1) (lit< tt) (omega arith) (omega arith),
         cn-three 1 (dataAt f cn + 2) (dataAt s (q .channel) + 2) (lit< tt) (omega arith) (omega arith),
         cn-three 2 (dataAt f cn + 3) (dataAt s (q .channel) + 3) (lit< tt) (omega arith) (omega arith),
-        read-offset _ _ _ _ _ _ three four two st,
+        read-offset _ _ _ _ _ _ _ three four two st,
         cn-bits,
         cn-flags,
-        read-position _ _ _ _ _ _ three four two st,
+        read-position _ _ _ _ _ _ _ three four two st,
         cn-precision,
-        read-attachments _ _ _ _ _ _ three four two st,
+        read-attachments _ _ _ _ _ _ _ three four two st few,
+        refers,
         cn-ranges,
       )
 
@@ -483,55 +492,60 @@ module _ {f : List ℕ} (s : List ℕ) (size : ℕ) (memo : List Copy) (all : Li
         (word-small all (p .column .master) h))
 
 -- ---- its CN
-module _ {f : List ℕ} (o : Rules) (s : List ℕ) (size : ℕ) (memo : List Copy) (p : Placed) (k : ColumnSound s size p)
-    (st : Stands f (cnOf p) (cnBytes o s memo p)) where
+module _ {f : List ℕ} (o : Rules) (s : List ℕ) (size : ℕ) (memo : List Copy) (ats : List Attachment) (p : Placed) (k : ColumnSound s size p)
+    (st : Stands f (cnOf p) (cnBytes o s memo ats p)) where
   cn-stands : Stands f (cnOf p)
-      (header kindCN 160 (length (cnLinks s memo p)) ++ words (cnLinks s memo p) ++ cnData (o .table) s (p .column .group .at) (p .column .channel))
-  cn-stands = rw (cn-shape o s memo p) at st
+      (header kindCN (cnSize (p .column)) (length (cnLinks s memo ats p)) ++ words (cnLinks s memo ats p)
+      ++ cnData (o .table) s (p .column .group .at) (p .column .channel) (length (p .column .photos)))
+  cn-stands = rw (cn-shape o s memo ats p) at st
 
-  pub cn-link : (i : ℕ) → i < 8 → getD (cnLinks s memo p) i 0 < 256 ^ 8 → linkAt f (cnOf p) i ≡ getD (cnLinks s memo p) i 0
-  unfolding cnLinks
-  cn-link i h b = block-link kindCN 160 (cnLinks s memo p) _ cn-stands i h b
+  cn-few : length (cnLinks s memo ats p) < 256 ^ 8
+  cn-few = omega (arith, cn-many s memo ats p, k .fewPhotos)
 
-  pub cn-head : headAt f (cnOf p) ≡ record { kind = kindCN; size = 160; links = 8 }
-  unfolding headAt cnLinks
-  cn-head =
+  pub cn-link : (i : ℕ) → i < 8 + length (p .column .photos) → getD (cnLinks s memo ats p) i 0 < 256 ^ 8
+      → linkAt f (cnOf p) i ≡ getD (cnLinks s memo ats p) i 0
+  cn-link i h b = block-link kindCN (cnSize (p .column)) (cnLinks s memo ats p) _ cn-stands i (omega (arith, cn-many s memo ats p)) b
+
+  pub cn-head : Refers o s (p .column) → headAt f (cnOf p)
+      ≡ record { kind = kindCN; size = 160 + 8 * photosDue (o .photos) s (p .column .channel); links = 8 + photosDue (o .photos) s (p .column .channel) }
+  unfolding headAt cnSize
+  cn-head refers =
       rw (
-        block-kind kindCN 160 (cnLinks s memo p) _ cn-stands (lit< tt),
-        block-size kindCN 160 (cnLinks s memo p) _ cn-stands (lit< tt),
-        block-links kindCN 160 (cnLinks s memo p) _ cn-stands (lit< tt),
+        block-kind kindCN (cnSize (p .column)) (cnLinks s memo ats p) _ cn-stands (lit< tt),
+        block-size kindCN (cnSize (p .column)) (cnLinks s memo ats p) _ cn-stands (omega (arith, k .fewPhotos)),
+        block-links kindCN (cnSize (p .column)) (cnLinks s memo ats p) _ cn-stands cn-few,
+        cn-many s memo ats p,
+        refers,
       )
 
   pub cn-next : linkAt f (cnOf p) 0 ≡ 0
   unfolding cnLinks
-  cn-next = block-link kindCN 160 (cnLinks s memo p) _ cn-stands 0 (lit< tt) (lit< tt)
+  cn-next = cn-link 0 (omega arith) (lit< tt)
 
   pub cn-composition : linkAt f (cnOf p) 1 ≡ 0
   unfolding cnLinks
-  cn-composition = block-link kindCN 160 (cnLinks s memo p) _ cn-stands 1 (lit< tt) (lit< tt)
+  cn-composition = cn-link 1 (omega arith) (lit< tt)
 
-  cn-fields : Stands f (dataAt f (cnOf p)) (cnData (o .table) s (p .column .group .at) (p .column .channel))
-  unfolding cnLinks
-  cn-fields = block-data kindCN 160 (cnLinks s memo p) _ cn-stands (lit< tt)
+  cn-fields : Stands f (dataAt f (cnOf p)) (cnData (o .table) s (p .column .group .at) (p .column .channel) (length (p .column .photos)))
+  cn-fields = block-data kindCN (cnSize (p .column)) (cnLinks s memo ats p) _ cn-stands cn-few
 
-  pub channel-shown : channelFields f (cnOf p) ≡ channelDue (o .table) s (p .column)
-  channel-shown = channel-read (o .table) s (k .image) (p .column) (k .channelIn) (cnOf p) cn-fields
+  pub channel-shown : Refers o s (p .column) → channelFields f (cnOf p) ≡ channelDue o s (p .column)
+  channel-shown refers = channel-read o s (k .image) (p .column) (k .channelIn) (cnOf p) (k .fewPhotos) refers cn-fields
 
   pub cn-sd : linkAt f (cnOf p) 5 ≡ sdLink (p .column .signalOf) (p .sd)
   unfolding cnLinks
-  cn-sd =
-      block-link kindCN 160 (cnLinks s memo p) _ cn-stands 5 (lit< tt) (sd-small (p .column .signalOf) (p .sd) _ (omega (arith, k .sdEnds)))
+  cn-sd = cn-link 5 (omega arith) (sd-small (p .column .signalOf) (p .sd) _ (omega (arith, k .sdEnds)))
 
 -- what links show of a column whose blocks stand is what is due
-pub column-shown : {f : List ℕ} (o : Rules) (s : List ℕ) (size : ℕ) (memo : List Copy) (all : List Placed) (p : Placed) (next : ℕ)
-    → ColumnSound s size p → ((m : ℕ) → cgAt m all < 256 ^ 8)
-    → Stands f (p .dg) (dgBytes s size memo p next) → Stands f (cgOf p) (cgBytes s memo all p) → Stands f (cnOf p) (cnBytes o s memo p)
+pub column-shown : {f : List ℕ} (o : Rules) (s : List ℕ) (size : ℕ) (memo : List Copy) (ats : List Attachment) (all : List Placed) (p : Placed) (next : ℕ)
+    → ColumnSound s size p → Refers o s (p .column) → ((m : ℕ) → cgAt m all < 256 ^ 8)
+    → Stands f (p .dg) (dgBytes s size memo p next) → Stands f (cgOf p) (cgBytes s memo all p) → Stands f (cnOf p) (cnBytes o s memo ats p)
     → ((b : Block) → In b (dlBlocks s size p) → Stands f (b .at) (b .bytes))
     → ((b : Block) → In b (blocksAt s size p) → Stands f (b .at) (b .bytes))
     → ((b : Block) → In b (sdBlocks s (p .column .signalOf) (p .sd)) → Stands f (b .at) (b .bytes))
     → shownAt f (p .dg) ≡ due o s size all p
 unfolding shownAt due
-column-shown {f} o s size memo all p next k h dg cg cn list blocks sd =
+column-shown {f} o s size memo ats all p next k refers h dg cg cn list blocks sd =
     rw (
       dg-cg s size memo all p next k dg,
       cg-cn s size memo all p next k cg,
@@ -542,15 +556,15 @@ column-shown {f} o s size memo all p next k h dg cg cn list blocks sd =
       cg-reductions s size memo all p next k cg,
       group-shown s size memo all p next k cg,
       cg-master s size memo all p next k cg h,
-      cn-head o s size memo p k cn,
-      cn-next o s size memo p k cn,
-      cn-composition o s size memo p k cn,
-      channel-shown o s size memo p k cn,
+      cn-head o s size memo ats p k cn refers,
+      cn-next o s size memo ats p k cn,
+      cn-composition o s size memo ats p k cn,
+      channel-shown o s size memo ats p k cn refers,
       dg-dl s size memo all p next k dg,
       list-shown s size p k list,
       column-chain s size p k list blocks 0 (omega (arith, k .few)),
       column-joined s size p k list blocks,
-      cn-sd o s size memo p k cn,
+      cn-sd o s size memo ats p k cn,
       signal-chain s (p .column .signalOf) (p .sd) 0 (k .sdAbove) (k .sdEnds) sd (lit< tt),
       signal-joined s (p .column .signalOf) (p .sd) sd,
     )

@@ -12,7 +12,7 @@ use Rattle.result.specs.Links.{shown}
 use Rattle.result.specs.Due.{dueAll}
 use Rattle.result.specs.Guarantee.{Stands, In, AllApart}
 use Rattle.shown_laws.specs.Flat.{final-stands, final-keeps, ordered-apart}
-use Rattle.shown_laws.specs.ColumnShown.{ColumnSound}
+use Rattle.shown_laws.specs.ColumnShown.{ColumnSound, Refers}
 use Rattle.shown_laws.specs.AllShown.{shows-due}
 
 module _ (x : Args) (l : Layout) (out : List ℕ) (order : Ordered 0 (blocksOf x l) (l .fileSize)) where
@@ -32,6 +32,7 @@ module _ (x : Args) (l : Layout) (out : List ℕ) (order : Ordered 0 (blocksOf x
     file-filled b i = final-stands (blocksOf x l) (l .fileSize) out order room i
 
     -- read by links it shows exactly what is due
-    pub file-shows : ((p : Placed) → In p (l .placed) → ColumnSound (x .image) (x .blockSize) p) → (k : ℕ) → length (l .placed) ≤ k
+    pub file-shows : ((p : Placed) → In p (l .placed) → ColumnSound (x .image) (x .blockSize) p)
+        → ((p : Placed) → In p (l .placed) → Refers (rulesOf x) (x .image) (p .column)) → (k : ℕ) → length (l .placed) ≤ k
         → shown (blit 0 (fileOf x l) out) k ≡ dueAll (rulesOf x) (x .image) (x .blockSize) (l .placed) (l .placed)
-    file-shows columns k h = shows-due x l (record { stands = file-filled; columns = columns }) k h
+    file-shows columns refers k h = shows-due x l (record { stands = file-filled; columns = columns; refers = refers }) k h

@@ -1,22 +1,22 @@
 -- HD, DG, CG and CN of the result as header, links and data, and the fields of the new CG's data.
-use mathlib.Core.Path.{_≡_, refl}
+use mathlib.Core.Path.{_≡_, refl, ap}
 use mathlib.Core.Bool.{Bool, true, false}
 use mathlib.Core.List.{List, [], _∷_, _++_, append-assoc, append-nil}
 use mathlib.Core.Option.{Option, none, some}
-use Prim.Native.Nat.{ℕ, _+_, _*_, _/_, _%_, _^_, _<_}
+use Prim.Native.Nat.{ℕ, suc, _+_, _*_, _/_, _%_, _^_, _<_}
 use native.Mathlib.Omega.{arith}
 use lib.Dec.{lit<}
-use lib.ListN.{length, length-append}
+use lib.ListN.{length, getD, length-append}
 use Rattle.base.specs.Choice.{pick, ifEq}
 use Rattle.base.specs.Field.{leAt, le}
 use Rattle.base.specs.FieldLaws.{length-le}
 use Rattle.mdf.specs.Block.{kindHD, kindDG, kindCG, kindCN, linkAt}
 use Rattle.plan.specs.Rules.{Rules}
 use Rattle.plan.specs.Channel.{bit}
-use Rattle.plan.specs.Copies.{Copy}
-use Rattle.plan.specs.Layout.{Placed, cgOf, cnOf, dlOf, cgLinks, cgSize, columnBlocks}
+use Rattle.plan.specs.Copies.{Copy, Attachment}
+use Rattle.plan.specs.Layout.{Placed, cgOf, cnOf, dlOf, cgLinks, cgSize, cnSize, columnBlocks}
 use Rattle.result.specs.Fill.{header, words, newLink, dgBytes, cgBytes, cnBytes, hdBytes, hdData, cgAt, cgFlags, masterLink, cgData, cnData}
-use Rattle.result.specs.Fill.{sdLink, cnFlags, storedType}
+use Rattle.result.specs.Fill.{sdLink, photoLinks, cnFlags, storedType}
 use Rattle.result.specs.Due.{groupFlagsDue, channelFlagsDue, typeDue}
 use Rattle.result.specs.Guarantee.{Stands}
 use Rattle.shown_laws.specs.Standing.{stands-front, stands-at, read}
@@ -65,17 +65,42 @@ pub cg-shape : (s : List ℕ) (memo : List Copy) (all : List Placed) (p : Placed
 unfolding cgBytes cgWords
 cg-shape s memo all p = cg-list all (p .column .master) (cgSize (p .column .master)) _ _ _ _ _ _ (cgData s (p .column))
 
-unfoldable pub cnLinks : List ℕ → List Copy → Placed → List ℕ
-cnLinks s memo p =
+unfoldable pub cnLinks : List ℕ → List Copy → List Attachment → Placed → List ℕ
+cnLinks s memo ats p =
     0 ∷ 0 ∷ newLink memo (linkAt s (p .column .channel) 2) ∷ newLink memo (linkAt s (p .column .channel) 3)
     ∷ newLink memo (linkAt s (p .column .channel) 4) ∷ sdLink (p .column .signalOf) (p .sd)
-    ∷ newLink memo (linkAt s (p .column .channel) 6) ∷ newLink memo (linkAt s (p .column .channel) 7) ∷ []
+    ∷ newLink memo (linkAt s (p .column .channel) 6) ∷ newLink memo (linkAt s (p .column .channel) 7) ∷ photoLinks ats (p .column .photos)
 
-pub cn-shape : (o : Rules) (s : List ℕ) (memo : List Copy) (p : Placed)
-    → cnBytes o s memo p
-    ≡ header kindCN 160 (length (cnLinks s memo p)) ++ words (cnLinks s memo p) ++ cnData (o .table) s (p .column .group .at) (p .column .channel)
+-- as many as there are references
+pub length-photos : (ats : List Attachment) (as' : List ℕ) → length (photoLinks ats as') ≡ length as'
+unfolding photoLinks
+length-photos ats [] = refl
+length-photos ats (a ∷ as') = ap suc (length-photos ats as')
+
+pub cn-many : (s : List ℕ) (memo : List Copy) (ats : List Attachment) (p : Placed) → length (cnLinks s memo ats p) ≡ 8 + length (p .column .photos)
+unfolding cnLinks
+cn-many s memo ats p = omega (arith, length-photos ats (p .column .photos))
+
+-- those after the eighth
+pub cn-photo : (s : List ℕ) (memo : List Copy) (ats : List Attachment) (p : Placed) (i : ℕ)
+    → getD (cnLinks s memo ats p) (8 + i) 0 ≡ getD (photoLinks ats (p .column .photos)) i 0
+unfolding cnLinks
+cn-photo s memo ats p i =
+    let e : 8 + i ≡ suc (suc (suc (suc (suc (suc (suc (suc i))))))) = omega arith in
+    rw e refl
+
+cn-counted : (o : Rules) (s : List ℕ) (memo : List Copy) (ats : List Attachment) (p : Placed)
+    → cnBytes o s memo ats p
+    ≡ header kindCN (cnSize (p .column)) (8 + length (p .column .photos)) ++ words (cnLinks s memo ats p)
+    ++ cnData (o .table) s (p .column .group .at) (p .column .channel) (length (p .column .photos))
 unfolding cnBytes cnLinks words
-cn-shape o s memo p = simp (append-assoc, append-nil)
+cn-counted o s memo ats p = simp append-assoc
+
+pub cn-shape : (o : Rules) (s : List ℕ) (memo : List Copy) (ats : List Attachment) (p : Placed)
+    → cnBytes o s memo ats p
+    ≡ header kindCN (cnSize (p .column)) (length (cnLinks s memo ats p)) ++ words (cnLinks s memo ats p)
+    ++ cnData (o .table) s (p .column .group .at) (p .column .channel) (length (p .column .photos))
+cn-shape o s memo ats p = rw (cn-many s memo ats p) (cn-counted o s memo ats p)
 
 -- ---- the data of a new CG: records r, flags g, path separator, data bytes n, invalidation bytes i
 module _ {f : List ℕ} {a : ℕ} (r g n i : ℕ) (two : List ℕ)
@@ -106,9 +131,9 @@ module _ {f : List ℕ} {a : ℕ} (r g n i : ℕ) (two : List ℕ)
   read-inval e h =
       read 4 i (stands-at (le 8 0 ++ le 8 r ++ le 2 g ++ two ++ le 4 0 ++ le 4 n) (le 4 i) s (simp (length-append, length-le, e))) h
 
--- ---- the data of a new CN: type t, flags g, and what is copied
-module _ {f : List ℕ} {a : ℕ} (t g : ℕ) (three four two many : List ℕ) (l3 : length three ≡ 3) (l4 : length four ≡ 4) (l2 : length two ≡ 2)
-    (s : Stands f a (le 1 t ++ three ++ le 4 0 ++ four ++ le 4 g ++ le 4 0 ++ two ++ le 2 0 ++ many)) where
+-- ---- the data of a new CN: type t, flags g, n references to attachments, and what is copied
+module _ {f : List ℕ} {a : ℕ} (t g n : ℕ) (three four two many : List ℕ) (l3 : length three ≡ 3) (l4 : length four ≡ 4) (l2 : length two ≡ 2)
+    (s : Stands f a (le 1 t ++ three ++ le 4 0 ++ four ++ le 4 g ++ le 4 0 ++ two ++ le 2 n ++ many)) where
   to-two : Stands f a (le 1 t ++ three ++ le 4 0 ++ four ++ le 4 g ++ le 4 0 ++ two)
   to-two = stands-front _ _ (stands-front _ _ s)
 
@@ -141,14 +166,14 @@ module _ {f : List ℕ} {a : ℕ} (t g : ℕ) (three four two many : List ℕ) (
   pub two-stands : Stands f (a + 20) two
   two-stands = stands-at (le 1 t ++ three ++ le 4 0 ++ four ++ le 4 g ++ le 4 0) two to-two (simp (length-append, length-le, l3, l4))
 
-  pub read-attachments : leAt 2 f (a + 22) ≡ 0
-  read-attachments =
-      read 2 0 (stands-at {b = a + 22} (le 1 t ++ three ++ le 4 0 ++ four ++ le 4 g ++ le 4 0 ++ two) (le 2 0) (stands-front _ _ s)
-      (simp (length-append, length-le, l3, l4, l2))) (lit< tt)
+  pub read-attachments : n < 256 ^ 2 → leAt 2 f (a + 22) ≡ n
+  read-attachments h =
+      read 2 n (stands-at {b = a + 22} (le 1 t ++ three ++ le 4 0 ++ four ++ le 4 g ++ le 4 0 ++ two) (le 2 n) (stands-front _ _ s)
+      (simp (length-append, length-le, l3, l4, l2))) h
 
   pub many-stands : Stands f (a + 24) many
   many-stands =
-      stands-at (le 1 t ++ three ++ le 4 0 ++ four ++ le 4 g ++ le 4 0 ++ two ++ le 2 0) many s (simp (length-append, length-le, l3, l4, l2))
+      stands-at (le 1 t ++ three ++ le 4 0 ++ four ++ le 4 g ++ le 4 0 ++ two ++ le 2 n) many s (simp (length-append, length-le, l3, l4, l2))
 
 -- ---- the flags of a new CG: bit 3 is set exactly with a master, bits 0 to 2 are clear, the others are kept
 pub flags-small : (g : ℕ) (m : Option ℕ) → g < 65536 → cgFlags g m < 65536

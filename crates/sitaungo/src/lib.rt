@@ -41,11 +41,12 @@ fn are_bytes(s: &[u8])
 }
 
 // What a call chooses: the unit, a power of two from 8 to 4096, on whose multiples each column's first data block and each SD start; whether one
-// time column stands for all that equal it.
+// time column stands for all that equal it; whether references of channels to attachments are kept.
 #[repr(C)]
 pub struct ColumnOptions {
     pub unit: u64,
     pub share: bool,
+    pub photos: bool,
 }
 
 // One recording into one file, by what is chosen: `convert` of the crate writing. `types` is the table of treatments: no bytes, or a count n
@@ -69,12 +70,12 @@ pub extern "C" fn sitaungo_convert_with(
 ) -> Outcome
     ensures done { λ r. ⌜ left r (now (out .exit)) (now (list .exit))
         (four (now (source .exit)) (now (fragments .exit)) (now (columns .exit)) (now (copies .exit)))
-        ≡ exported (result.convert (args (now (image .entry)) size (now (ident .entry)) (now (text .entry)) time (record { unit = options .unit; table = now (types .entry); share = options .share })) (now (out .entry)) (now (list .entry))
+        ≡ exported (result.convert (args (now (image .entry)) size (now (ident .entry)) (now (text .entry)) time (record { unit = options .unit; table = now (types .entry); share = options .share; photos = options .photos })) (now (out .entry)) (now (list .entry))
         (four (now (source .entry)) (now (fragments .entry)) (now (columns .entry)) (now (copies .entry)))) ⌝ }
-    ensures promised { λ _. ⌜ Promised (args (now (image .entry)) size (now (ident .entry)) (now (text .entry)) time (record { unit = options .unit; table = now (types .entry); share = options .share }))
+    ensures promised { λ _. ⌜ Promised (args (now (image .entry)) size (now (ident .entry)) (now (text .entry)) time (record { unit = options .unit; table = now (types .entry); share = options .share; photos = options .photos }))
         (length (now (out .entry))) (length (now (list .entry)))
         (four (now (source .entry)) (now (fragments .entry)) (now (columns .entry)) (now (copies .entry))) (now (out .exit)) (now (list .exit)) ⌝ }
-    ensures readable { λ _. ⌜ Readable (args (now (image .entry)) size (now (ident .entry)) (now (text .entry)) time (record { unit = options .unit; table = now (types .entry); share = options .share }))
+    ensures readable { λ _. ⌜ Readable (args (now (image .entry)) size (now (ident .entry)) (now (text .entry)) time (record { unit = options .unit; table = now (types .entry); share = options .share; photos = options .photos }))
         (length (now (out .entry))) (length (now (list .entry)))
         (four (now (source .entry)) (now (fragments .entry)) (now (columns .entry)) (now (copies .entry))) (now (out .exit)) ⌝ }
 {
@@ -86,7 +87,7 @@ pub extern "C" fn sitaungo_convert_with(
         ident,
         text,
         time,
-        Choices { unit: options.unit, share: options.share },
+        Choices { unit: options.unit, share: options.share, photos: options.photos },
         types,
         source,
         fragments,
@@ -158,6 +159,7 @@ pub extern "C" fn sitaungo_convert(
         ColumnOptions {
             unit: 8,
             share: false,
+            photos: false,
         },
         b"",
         source,
@@ -187,7 +189,7 @@ pub extern "C" fn sitaungo_list_with(
     copies: &mut [u64],
     lines: &mut [u8],
 ) -> usize
-    ensures { λ r. ⌜ Listed (untimed (now (image .entry)) size (now (ident .entry)) (now (text .entry)) (record { unit = options .unit; table = now (types .entry); share = options .share })) out «list_words»
+    ensures { λ r. ⌜ Listed (untimed (now (image .entry)) size (now (ident .entry)) (now (text .entry)) (record { unit = options .unit; table = now (types .entry); share = options .share; photos = options .photos })) out «list_words»
         (four (now (source .entry)) (now (fragments .entry)) (now (columns .entry)) (now (copies .entry))) (now (lines .entry))
         r (now (lines .exit)) (four (now (source .exit)) (now (fragments .exit)) (now (columns .exit)) (now (copies .exit))) ⌝ }
 {
@@ -197,7 +199,7 @@ pub extern "C" fn sitaungo_list_with(
         size,
         ident,
         text,
-        Choices { unit: options.unit, share: options.share },
+        Choices { unit: options.unit, share: options.share, photos: options.photos },
         types,
         out,
         list_words,
@@ -235,6 +237,7 @@ pub extern "C" fn sitaungo_list(
         ColumnOptions {
             unit: 8,
             share: false,
+            photos: false,
         },
         b"",
         out,

@@ -13,7 +13,7 @@ use Rattle.writing.specs.declared.convert.Converted.the-variants.{Refuse
 
 -- a call's arguments
 abbrev pub args : List ℕ → ℕ → List ℕ → List ℕ → ℕ → Rules → Args
-args image size ident text time chosen = record { image = image; blockSize = size; ident = ident; text = text; time = time; unit = chosen .unit; table = chosen .table; share = chosen .share }
+args image size ident text time chosen = record { image = image; blockSize = size; ident = ident; text = text; time = time; unit = chosen .unit; table = chosen .table; share = chosen .share; photos = chosen .photos }
 
 abbrev pub reportOf : counted.Report → Report
 reportOf r = record {

@@ -1,6 +1,7 @@
 -- What was decided and stands in the words gives each part of the file its blocks and its room.
 use Prim.Native.Nat.{ℕ, zero, suc, _+_, _*_, _-_, _≤_, _<_}
 use mathlib.Core.List.{List, [], _∷_, _++_, append-nil, append-assoc}
+use mathlib.Core.Bool.{Bool}
 use mathlib.Core.Path.{_≡_, refl, sym, ap, subst, _∙_}
 use native.Mathlib.Omega.{arith}
 use lib.ListN.{length, length-append, getD, take, drop, replicate}
@@ -16,7 +17,9 @@ use Rattle.mdf.specs.Walk.{Source}
 use Rattle.mdf.specs.Group.{dataGroups}
 use Rattle.mdf.specs.Count.{counts}
 use Rattle.work_words.specs.Words.{countsAt, laidItems, fragmentWords}
+use Rattle.plan.specs.Photos.{photosOf}
 use Rattle.plan.specs.Columns.{Column, Plan}
+use Rattle.result.specs.Guarantee.{In}
 use Rattle.work_words.specs.PlanWords.{signalFragments, laidPlan}
 use Rattle.base.specs.CheckedLaws.{ok-same}
 use Rattle.plan_laws.specs.ColumnLaws.{signalsOf}
@@ -87,10 +90,10 @@ laidAt-ordered s a b d e (t ∷ ts) chain memo fh l q =
     )
 
 -- ---- the first links of the HD
-pub first-column : (columns memo : List ℕ) (n : ℕ) → ifEq n 0 0 (getD memo 6656 0) ≡ nextDG (placedIn columns memo 0 n)
+pub first-column : (ph : Bool) (s columns memo : List ℕ) (n : ℕ) → ifEq n 0 0 (getD memo 6656 0) ≡ nextDG (placedIn ph s columns memo 0 n)
 unfolding placedIn placedOne
-first-column columns memo zero = sym (eq-yes _ _ _ _ refl refl)
-first-column columns memo (suc n) = sym (eq-no _ _ _ _ (λ e. omega (arith, e)) refl)
+first-column ph s columns memo zero = sym (eq-yes _ _ _ _ refl refl)
+first-column ph s columns memo (suc n) = sym (eq-no _ _ _ _ (λ e. omega (arith, e)) refl)
 
 pub first-history : (m : List Copy) (w : List ℕ) (chain fh : ℕ) → 8192 ≤ length w
     → ifEq chain 0 fh (newLink m (getD w 4352 0)) ≡ firstFH m (part historyAt chain w) fh
@@ -177,7 +180,7 @@ module _ {x : Args} {items pieces columns omitted : ℕ} {n : numbers.Numbers} {
   partColumns = copiedBlocks s (l .past .chain) (memoOf l) (l .fh) (drop (length (l .past .made .memo)) (l .metadata .memo))
 
   abbrev pub partStructure : List Block
-  partStructure = structureBlocks (rulesOf x) s (x .blockSize) (memoOf l) (l .placed) (l .placed)
+  partStructure = structureBlocks (rulesOf x) s (x .blockSize) (memoOf l) (l .attached .attachments) (l .placed) (l .placed)
 
   abbrev pub partData : List Block
   partData = dataBlocks s (x .blockSize) (l .placed)
@@ -208,6 +211,9 @@ module _ {x : Args} {items pieces columns omitted : ℕ} {n : numbers.Numbers} {
       ap (λ (k : ℕ). attachmentsIn m k (n .attachments)) (counted .next) ∙ ap (λ (k : ℕ). attachmentsIn m (length (l .metadata .memo)) k) (counted .moved)
       ∙ attachments-read laid (st .d) m (st .by .longD) (st .by .numbered .words)
 
+  referred : (c : Column) → In c (d .planned .columns) → c .photos ≡ photosOf (x .photos) s (c .channel)
+  referred c i = known .planned .sourced c i .refers
+
   pub number-placed : columns ≡ length (l .placed)
   number-placed = st .by .columns ∙ sym (ap length (columns-placed laid)) ∙ length-placed (l .placed)
 
@@ -221,9 +227,9 @@ module _ {x : Args} {items pieces columns omitted : ℕ} {n : numbers.Numbers} {
   unfolding hdBlock
   front-is {dg} {fh} {first} {comment} a b c e =
       let p : dg ≡ nextDG (l .placed) =
-      a ∙ first-column w m columns ∙ ap (λ (k : ℕ). nextDG (placedIn w m 0 k)) number-placed
-      ∙ next-in (length (st .by .source .fragments)) (d .planned) l (st .c) (st .d) w m (st .by .inColumns) (st .by .numbered .words) (columns-placed laid)
-      (known .fewColumns) (st .by .longC) (st .by .longD) in
+      a ∙ first-column (x .photos) s w m columns ∙ ap (λ (k : ℕ). nextDG (placedIn (x .photos) s w m 0 k)) number-placed
+      ∙ next-in (x .photos) s (length (st .by .source .fragments)) (d .planned) l (st .c) (st .d) w m (st .by .inColumns) (st .by .numbered .words) (columns-placed laid)
+      (known .fewColumns) (st .by .longC) (st .by .longD) referred in
       let q : fh ≡ firstFH (memoOf l) (l .past .chain) (l .fh) =
       b ∙ first-history (copiesIn m (n .copies)) m (n .chain) (n .fh) long
       ∙ ap (λ (k : List Copy). firstFH k (part historyAt (n .chain) m) (n .fh)) memo-is ∙ ap (λ (k : List ℕ). firstFH (memoOf l) k (n .fh)) chain-is
@@ -251,13 +257,14 @@ module _ {x : Args} {items pieces columns omitted : ℕ} {n : numbers.Numbers} {
   new-same : block (n .md) (mdBytes (x .text)) ∷ block (n .fh) (fhBytes (n .md) (x .time)) ∷ [] ≡ partNew
   new-same = new-eq (x .text) (x .time) (st .by .numbered .md) (st .by .numbered .fh)
 
-  structure-same : structureBlocks (onTable (x .table)) s (x .blockSize) (copiesIn m (n .copies)) (placedIn w m 0 columns) (placedIn w m 0 columns) ≡ partStructure
+  structure-same : structureBlocks (onTable (x .table)) s (x .blockSize) (copiesIn m (n .copies)) (attachmentsIn m (n .metadata) (n .attachments)) (placedIn (x .photos) s w m 0 columns) (placedIn (x .photos) s w m 0 columns) ≡ partStructure
   structure-same =
-      ap (λ (k : ℕ). structureBlocks (onTable (x .table)) s (x .blockSize) (copiesIn m (n .copies)) (placedIn w m 0 k) (placedIn w m 0 k)) number-placed
-      ∙ structure-in (length (st .by .source .fragments)) (d .planned) l (st .c) (st .d) w m (st .by .inColumns) (st .by .numbered .words) (columns-placed laid)
-      (known .fewColumns) (st .by .longC) (st .by .longD) (onTable (x .table)) s (x .blockSize) (copiesIn m (n .copies))
-      ∙ ap (λ (k : List Copy). structureBlocks (onTable (x .table)) s (x .blockSize) k (l .placed) (l .placed)) memo-is
-      ∙ by-table (rulesOf x) s (x .blockSize) (memoOf l) (l .placed) (l .placed)
+      ap (λ (k : ℕ). structureBlocks (onTable (x .table)) s (x .blockSize) (copiesIn m (n .copies)) (attachmentsIn m (n .metadata) (n .attachments)) (placedIn (x .photos) s w m 0 k) (placedIn (x .photos) s w m 0 k)) number-placed
+      ∙ structure-in (x .photos) s (length (st .by .source .fragments)) (d .planned) l (st .c) (st .d) w m (st .by .inColumns) (st .by .numbered .words) (columns-placed laid)
+      (known .fewColumns) (st .by .longC) (st .by .longD) referred (onTable (x .table)) (x .blockSize) (copiesIn m (n .copies)) (attachmentsIn m (n .metadata) (n .attachments))
+      ∙ ap (λ (k : List Copy). structureBlocks (onTable (x .table)) s (x .blockSize) k (attachmentsIn m (n .metadata) (n .attachments)) (l .placed) (l .placed)) memo-is
+      ∙ ap (λ (k : List Attachment). structureBlocks (onTable (x .table)) s (x .blockSize) (memoOf l) k (l .placed) (l .placed)) moved-is
+      ∙ by-table (rulesOf x) s (x .blockSize) (memoOf l) (l .attached .attachments) (l .placed) (l .placed)
 
   -- the words of reading and planning, by the steps that are known
   source-same : st .by .source ≡ known .steps .source
@@ -365,16 +372,17 @@ module _ {x : Args} {items pieces columns omitted : ℕ} {n : numbers.Numbers} {
     new-done b {r} {next} z = begun-next partNew ys b (subst (λ (bs : List Block). Wrote a bs r last next) new-same z)
 
     pub structure-asks : Begun before (partStructure ++ ys) (l .fileSize) a out last
-        → StructureReady (onTable (x .table)) s (x .blockSize) w m columns (n .copies) a (length last)
+        → StructureReady (x .photos) (onTable (x .table)) s (x .blockSize) w m (attachmentsIn m (n .metadata) (n .attachments)) columns (n .copies) a (length last)
     structure-asks b =
-        subst (λ (k : ℕ). StructureReady (onTable (x .table)) s (x .blockSize) w m k (n .copies) a (length last)) (sym number-placed)
-        (structure-ready (length (st .by .source .fragments)) (d .planned) l (st .c) (st .d) w m (st .by .inColumns) (st .by .numbered .words) (columns-placed laid)
-        (known .fewColumns) (st .by .longC) (st .by .longD) (in-image x d known)
-        (subst (λ (k : List Copy). Ordered a (structureBlocks (onTable (x .table)) s (x .blockSize) k (l .placed) (l .placed)) (length last)) (sym memo-is)
-        (subst (λ (bs : List Block). Ordered a bs (length last)) (sym (by-table (rulesOf x) s (x .blockSize) (memoOf l) (l .placed) (l .placed))) (begun-room partStructure ys b))))
+        subst (λ (k : ℕ). StructureReady (x .photos) (onTable (x .table)) s (x .blockSize) w m (attachmentsIn m (n .metadata) (n .attachments)) k (n .copies) a (length last)) (sym number-placed)
+        (structure-ready (x .photos) s (length (st .by .source .fragments)) (d .planned) l (st .c) (st .d) w m (st .by .inColumns) (st .by .numbered .words) (columns-placed laid)
+        (known .fewColumns) (st .by .longC) (st .by .longD) referred (attachmentsIn m (n .metadata) (n .attachments)) (in-image x d known)
+        (subst (λ (k : List Copy). Ordered a (structureBlocks (onTable (x .table)) s (x .blockSize) k (attachmentsIn m (n .metadata) (n .attachments)) (l .placed) (l .placed)) (length last)) (sym memo-is)
+        (subst (λ (k : List Attachment). Ordered a (structureBlocks (onTable (x .table)) s (x .blockSize) (memoOf l) k (l .placed) (l .placed)) (length last)) (sym moved-is)
+        (subst (λ (bs : List Block). Ordered a bs (length last)) (sym (by-table (rulesOf x) s (x .blockSize) (memoOf l) (l .attached .attachments) (l .placed) (l .placed))) (begun-room partStructure ys b)))))
 
     pub structure-done : Begun before (partStructure ++ ys) (l .fileSize) a out last → {r : ℕ} {next : List ℕ}
-        → Wrote a (structureBlocks (onTable (x .table)) s (x .blockSize) (copiesIn m (n .copies)) (placedIn w m 0 columns) (placedIn w m 0 columns)) r last next
+        → Wrote a (structureBlocks (onTable (x .table)) s (x .blockSize) (copiesIn m (n .copies)) (attachmentsIn m (n .metadata) (n .attachments)) (placedIn (x .photos) s w m 0 columns) (placedIn (x .photos) s w m 0 columns)) r last next
         → Begun (before ++ partStructure) ys (l .fileSize) r out next
     structure-done b {r} {next} z = begun-next partStructure ys b (subst (λ (bs : List Block). Wrote a bs r last next) structure-same z)
 

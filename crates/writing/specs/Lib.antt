@@ -5,6 +5,7 @@ pub mod WroteLaws
 pub mod PlacedIn
 pub mod Structure
 pub mod StructureLaws
+pub mod LedLaws
 pub mod PlacedInLaws
 pub mod FrontLaws
 pub mod CopiesLaws

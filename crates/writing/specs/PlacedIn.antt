@@ -4,6 +4,7 @@ use mathlib.Core.List.{List, [], _∷_}
 use mathlib.Core.Bool.{Bool, true, false}
 use mathlib.Core.Option.{Option, none, some}
 use lib.ListN.{getD}
+use Rattle.plan.specs.Photos.{photosOf}
 use Rattle.plan.specs.Columns.{Column, Signal, noSignal, signalData}
 use Rattle.plan.specs.Layout.{Placed}
 use Rattle.work_words.specs.CopyWords.{placedAt}
@@ -22,9 +23,9 @@ unfoldable pub signalIn : ℕ → Signal
 signalIn zero = noSignal
 signalIn (suc n) = signalData []
 
--- the column whose words begin at i: of its group's DG only the address
-unfoldable pub columnIn : List ℕ → ℕ → Column
-columnIn w i = record {
+-- the column whose words begin at i: of its group's DG only the address; its references from the recording s
+unfoldable pub columnIn : Bool → List ℕ → List ℕ → ℕ → Column
+columnIn ph s w i = record {
   group = record {
     dataGroup = record { at = getD w (i + 2) 0; fragments = []; groups = [] };
     number = 0;
@@ -36,18 +37,19 @@ columnIn w i = record {
   isTime = timeIn (getD w (i + 4) 0);
   master = masterIn (getD w (i + 5) 0);
   signalOf = signalIn (getD w (i + 6) 0);
+  photos = photosOf ph s (getD w i 0);
 }
 
 -- column number k
-unfoldable pub placedOne : List ℕ → List ℕ → ℕ → Placed
-placedOne columns memo k = record {
-  column = columnIn columns (8 * k);
+unfoldable pub placedOne : Bool → List ℕ → List ℕ → List ℕ → ℕ → Placed
+placedOne ph s columns memo k = record {
+  column = columnIn ph s columns (8 * k);
   dg = getD memo (placedAt + 3 * k) 0;
   first = getD memo (placedAt + 3 * k + 1) 0;
   sd = getD memo (placedAt + 3 * k + 2) 0;
 }
 
 -- n columns from number k on
-unfoldable pub placedIn : List ℕ → List ℕ → ℕ → ℕ → List Placed
-placedIn columns memo k zero = []
-placedIn columns memo k (suc n) = placedOne columns memo k ∷ placedIn columns memo (k + 1) n
+unfoldable pub placedIn : Bool → List ℕ → List ℕ → List ℕ → ℕ → ℕ → List Placed
+placedIn ph s columns memo k zero = []
+placedIn ph s columns memo k (suc n) = placedOne ph s columns memo k ∷ placedIn ph s columns memo (k + 1) n

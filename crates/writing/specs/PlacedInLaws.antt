@@ -11,10 +11,11 @@ use lib.ListN.{length, getD, set, length-set, length-append}
 use lib.Seq.{getD-set-same, getD-set-other, getD-append-add}
 use Rattle.base.specs.Blit.{blit}
 use Rattle.base.specs.BlitLaws.{length-blit}
+use Rattle.plan.specs.Photos.{photosOf}
 use Rattle.plan.specs.Columns.{Column, Signal, noSignal, signalData, sizeOfSignal, Plan}
-use Rattle.plan.specs.Copies.{Copy}
+use Rattle.plan.specs.Copies.{Copy, Attachment}
 use Rattle.work_words.specs.CopyWords.{placedAt, placedWords, laidCopies}
-use Rattle.plan.specs.Layout.{columnWidth, columnBlocks, Placed, cgOf, cnOf, Layout}
+use Rattle.plan.specs.Layout.{columnWidth, columnBlocks, cnSize, Placed, cgOf, cnOf, Layout}
 use Rattle.work_words.specs.PlanWords.{timeWord, masterWord, signalWord, columnWords, columnsWords, omissionsAt, omissionPairs, laidPlan}
 use Rattle.plan.specs.Rules.{Rules}
 use Rattle.result.specs.Fill.{
@@ -58,6 +59,7 @@ bareColumn c = record {
   isTime = c .isTime;
   master = c .master;
   signalOf = bareSignal (c .signalOf);
+  photos = c .photos;
 }
 
 unfoldable pub bare : Placed → Placed
@@ -87,21 +89,21 @@ unfolding bareAll bare
 bare-next [] = refl
 bare-next (p ∷ ps) = refl
 
-module _ (rs : Rules) (s : List ℕ) (size : ℕ) (m : List Copy) where
+module _ (rs : Rules) (s : List ℕ) (size : ℕ) (m : List Copy) (ats : List Attachment) where
   bare-dg : (p : Placed) {x y : ℕ} → x ≡ y → dgBytes s size m (bare p) x ≡ dgBytes s size m p y
-  unfolding dgBytes bare bareColumn columnBlocks columnWidth
+  unfolding dgBytes cnSize bare bareColumn columnBlocks columnWidth
   bare-dg p e = rw e
 
   bare-group : (all : List Placed) (p : Placed) → cgBytes s m (bareAll all) (bare p) ≡ cgBytes s m all p
   unfolding cgBytes cgData bare bareColumn
   bare-group all p = rw (bare-master all (p .column .master))
 
-  bare-cn : (p : Placed) → cnBytes rs s m (bare p) ≡ cnBytes rs s m p
-  unfolding cnBytes bare bareColumn
+  bare-cn : (p : Placed) → cnBytes rs s m ats (bare p) ≡ cnBytes rs s m ats p
+  unfolding cnBytes cnSize bare bareColumn
   bare-cn p = rw (bare-sd (p .column .signalOf) (p .sd))
 
   bare-dl : (p : Placed) → dlBlocks s size (bare p) ≡ dlBlocks s size p
-  unfolding dlBlocks dlBytes columnPayload columnBlocks columnWidth bare bareColumn
+  unfolding dlBlocks dlBytes columnPayload columnBlocks columnWidth cnSize bare bareColumn
   bare-dl p = refl
 
   bare-places : (p : Placed) (x y z : List ℕ) (bs : List Block)
@@ -109,7 +111,7 @@ module _ (rs : Rules) (s : List ℕ) (size : ℕ) (m : List Copy) where
   unfolding bare bareColumn
   bare-places p x y z bs = refl
 
-  pub bare-structure : (all ps : List Placed) → structureBlocks rs s size m (bareAll all) (bareAll ps) ≡ structureBlocks rs s size m all ps
+  pub bare-structure : (all ps : List Placed) → structureBlocks rs s size m ats (bareAll all) (bareAll ps) ≡ structureBlocks rs s size m ats all ps
   unfolding structureBlocks bareAll
   bare-structure all [] = refl
   bare-structure all (p ∷ ps) =
@@ -156,9 +158,9 @@ words-back w i k xs ys f e j h =
     rw q (f (length xs + j) (rw length-append (omega arith)) ∙ getD-append-add xs ys j 0)
 
 -- column number k
-module _ (columns memo : List ℕ) (n k : ℕ) (p : Placed) (cs : List Column) (ps : List Placed)
+module _ (ph : Bool) (s columns memo : List ℕ) (n k : ℕ) (p : Placed) (cs : List Column) (ps : List Placed) (refers : p .column .photos ≡ photosOf ph s (p .column .channel))
     (f : Words columns (8 * k) (columnsWords n (p .column ∷ cs))) (g : Words memo (placedAt + 3 * k) (placedWords (p ∷ ps))) where
-  column-back : columnIn columns (8 * k) ≡ bareColumn (p .column)
+  column-back : columnIn ph s columns (8 * k) ≡ bareColumn (p .column)
   unfolding columnIn bareColumn columnsWords columnWords
   column-back =
       let a : getD columns (8 * k) 0 ≡ p .column .channel = rw add-zero at (f 0 (omega arith)) in
@@ -168,9 +170,9 @@ module _ (columns memo : List ℕ) (n k : ℕ) (p : Placed) (cs : List Column) (
       let t : getD columns (8 * k + 4) 0 ≡ timeWord (p .column .isTime) = f 4 (omega arith) in
       let m : getD columns (8 * k + 5) 0 ≡ masterWord (p .column .master) = f 5 (omega arith) in
       let x : getD columns (8 * k + 6) 0 ≡ signalWord n (p .column .signalOf) = f 6 (omega arith) in
-      rw (a, b, c, d, t, m, x, time-back (p .column .isTime), master-back (p .column .master), signal-back n (p .column .signalOf))
+      rw (a, refers, b, c, d, t, m, x, time-back (p .column .isTime), master-back (p .column .master), signal-back n (p .column .signalOf))
 
-  one-back : placedOne columns memo k ≡ bare p
+  one-back : placedOne ph s columns memo k ≡ bare p
   unfolding placedOne bare placedWords
   one-back =
       let a : getD memo (placedAt + 3 * k) 0 ≡ p .dg = rw add-zero at (g 0 (omega arith)) in
@@ -191,14 +193,15 @@ places-rest memo k p ps f =
     words-back memo (placedAt + 3 * k) (placedAt + 3 * (k + 1)) (p .dg ∷ p .first ∷ p .sd ∷ []) (placedWords ps) f (omega arith)
 
 -- all columns from number k on
-pub placed-back : (columns memo : List ℕ) (n k : ℕ) (ps : List Placed) → Words columns (8 * k) (columnsWords n (columnsPlaced ps))
-    → Words memo (placedAt + 3 * k) (placedWords ps) → placedIn columns memo k (length ps) ≡ bareAll ps
+pub placed-back : (ph : Bool) (s columns memo : List ℕ) (n k : ℕ) (ps : List Placed)
+    → ((c : Column) → In c (columnsPlaced ps) → c .photos ≡ photosOf ph s (c .channel)) → Words columns (8 * k) (columnsWords n (columnsPlaced ps))
+    → Words memo (placedAt + 3 * k) (placedWords ps) → placedIn ph s columns memo k (length ps) ≡ bareAll ps
 unfolding placedIn bareAll columnsPlaced
-placed-back columns memo n k [] f g = refl
-placed-back columns memo n k (p ∷ ps) f g =
+placed-back ph s columns memo n k [] q f g = refl
+placed-back ph s columns memo n k (p ∷ ps) q f g =
     rw (
-      one-back columns memo n k p (columnsPlaced ps) ps f g,
-      placed-back columns memo _ (k + 1) ps
+      one-back ph s columns memo n k p (columnsPlaced ps) ps (q (p .column) here) f g,
+      placed-back ph s columns memo _ (k + 1) ps (λ c i. q c (there i))
           (columns-rest columns n k (p .column) (columnsPlaced ps) f) (places-rest memo k p ps g),
     )
 
@@ -241,57 +244,58 @@ abbrev tailOf : List Placed → List Placed
 tailOf [] = []
 tailOf (p ∷ ps) = ps
 
-seen-one : {s : List ℕ} (columns memo : List ℕ) (k : ℕ) (p : Placed) → placedOne columns memo k ≡ bare p → InImage s (p .column)
-    → InImage s (columnIn columns (8 * k))
+seen-one : (ph : Bool) {s : List ℕ} (columns memo : List ℕ) (k : ℕ) (p : Placed) → placedOne ph s columns memo k ≡ bare p → InImage s (p .column)
+    → InImage s (columnIn ph s columns (8 * k))
 unfolding placedOne bare bareColumn
-seen-one {s} columns memo k p e i =
-    let q : columnIn columns (8 * k) ≡ bareColumn (p .column) = ap (λ (x : Placed). x .column) e in
+seen-one ph {s} columns memo k p e i =
+    let q : columnIn ph s columns (8 * k) ≡ bareColumn (p .column) = ap (λ (x : Placed). x .column) e in
     rw q (record { group = i .group; channel = i .channel })
 
-seen-back : {s : List ℕ} (columns memo : List ℕ) (k : ℕ) (ps : List Placed) → placedIn columns memo k (length ps) ≡ bareAll ps
-    → ((c : Column) → In c (columnsPlaced ps) → InImage s c) → (i : ℕ) → i < length ps → InImage s (columnIn columns (8 * (k + i)))
+seen-back : (ph : Bool) {s : List ℕ} (columns memo : List ℕ) (k : ℕ) (ps : List Placed) → placedIn ph s columns memo k (length ps) ≡ bareAll ps
+    → ((c : Column) → In c (columnsPlaced ps) → InImage s c) → (i : ℕ) → i < length ps → InImage s (columnIn ph s columns (8 * (k + i)))
 unfolding placedIn bareAll columnsPlaced
-seen-back columns memo k [] e f i h = absurd (omega arith)
-seen-back columns memo k (p ∷ ps) e f zero h = rw add-zero (seen-one columns memo k p (ap (λ (l : List Placed). headOf l (bare p)) e) (f (p .column) here))
-seen-back columns memo k (p ∷ ps) e f (suc i) h =
+seen-back ph columns memo k [] e f i h = absurd (omega arith)
+seen-back ph columns memo k (p ∷ ps) e f zero h = rw add-zero (seen-one ph columns memo k p (ap (λ (l : List Placed). headOf l (bare p)) e) (f (p .column) here))
+seen-back ph columns memo k (p ∷ ps) e f (suc i) h =
     let q : k + suc i ≡ k + 1 + i = omega arith in
-    rw q (seen-back columns memo (k + 1) ps (ap tailOf e) (λ c j. f c (there j)) i (omega arith))
+    rw q (seen-back ph columns memo (k + 1) ps (ap tailOf e) (λ c j. f c (there j)) i (omega arith))
 
-module _ (n : ℕ) (p : Plan) (l : Layout) (w v columns memo : List ℕ) (planned : columns ≡ laidPlan n p w) (placed : memo ≡ laidCopies l v)
-    (same : columnsPlaced (l .placed) ≡ p .columns) (few : length (p .columns) ≤ 512) (long : 8192 ≤ length w) (room : 8192 ≤ length v) where
+module _ (ph : Bool) (s : List ℕ) (n : ℕ) (p : Plan) (l : Layout) (w v columns memo : List ℕ) (planned : columns ≡ laidPlan n p w) (placed : memo ≡ laidCopies l v)
+    (same : columnsPlaced (l .placed) ≡ p .columns) (few : length (p .columns) ≤ 512) (long : 8192 ≤ length w) (room : 8192 ≤ length v)
+    (refers : (c : Column) → In c (p .columns) → c .photos ≡ photosOf ph s (c .channel)) where
   few-placed : length (l .placed) ≤ 512
   few-placed = omega (arith, length-placed (l .placed), ap length same)
 
-  pub placed-in : placedIn columns memo 0 (length (l .placed)) ≡ bareAll (l .placed)
+  pub placed-in : placedIn ph s columns memo 0 (length (l .placed)) ≡ bareAll (l .placed)
   placed-in =
       let f : Words columns (8 * 0) (columnsWords n (columnsPlaced (l .placed))) = rw (planned, same) (plan-words n p w few long) in
       let g : Words memo (placedAt + 3 * 0) (placedWords (l .placed)) = rw placed (place-words l v few-placed room) in
-      placed-back columns memo n 0 (l .placed) f g
+      placed-back ph s columns memo n 0 (l .placed) (rw same refers) f g
 
   -- the columns in words have the blocks of those placed
-  pub structure-in : (rs : Rules) (s : List ℕ) (size : ℕ) (m : List Copy)
-      → structureBlocks rs s size m (placedIn columns memo 0 (length (l .placed))) (placedIn columns memo 0 (length (l .placed)))
-      ≡ structureBlocks rs s size m (l .placed) (l .placed)
-  structure-in rs s size m = rw placed-in (bare-structure rs s size m (l .placed) (l .placed))
+  pub structure-in : (rs : Rules) (size : ℕ) (m : List Copy) (ats : List Attachment)
+      → structureBlocks rs s size m ats (placedIn ph s columns memo 0 (length (l .placed))) (placedIn ph s columns memo 0 (length (l .placed)))
+      ≡ structureBlocks rs s size m ats (l .placed) (l .placed)
+  structure-in rs size m ats = rw placed-in (bare-structure rs s size m ats (l .placed) (l .placed))
 
-  pub next-in : nextDG (placedIn columns memo 0 (length (l .placed))) ≡ nextDG (l .placed)
+  pub next-in : nextDG (placedIn ph s columns memo 0 (length (l .placed))) ≡ nextDG (l .placed)
   next-in = rw placed-in (bare-next (l .placed))
 
-  pub seen-in : {s : List ℕ} → ((c : Column) → In c (p .columns) → InImage s c) → (k : ℕ) → k < length (l .placed)
-      → InImage s (columnIn columns (8 * k))
-  seen-in {s} f k h =
+  pub seen-in : ((c : Column) → In c (p .columns) → InImage s c) → (k : ℕ) → k < length (l .placed)
+      → InImage s (columnIn ph s columns (8 * k))
+  seen-in f k h =
       let g : (c : Column) → In c (columnsPlaced (l .placed)) → InImage s c = rw same f in
-      rw zero-add at (seen-back columns memo 0 (l .placed) placed-in g k h)
+      rw zero-add at (seen-back ph columns memo 0 (l .placed) placed-in g k h)
 
-  pub structure-ready : {rs : Rules} {s : List ℕ} {size used a e : ℕ} → ((c : Column) → In c (p .columns) → InImage s c)
-      → Ordered a (structureBlocks rs s size (copiesIn memo used) (l .placed) (l .placed)) e
-      → StructureReady rs s size columns memo (length (l .placed)) used a e
+  pub structure-ready : {rs : Rules} {size used a e : ℕ} (ats : List Attachment) → ((c : Column) → In c (p .columns) → InImage s c)
+      → Ordered a (structureBlocks rs s size (copiesIn memo used) ats (l .placed) (l .placed)) e
+      → StructureReady ph rs s size columns memo ats (length (l .placed)) used a e
   unfolding laidPlan laidCopies
-  structure-ready {rs} {s} {size} {used} {a} {e} f o =
+  structure-ready {rs} {size} {used} {a} {e} ats f o =
       record {
         few = few-placed;
         long = rw planned (simp length-blit (omega arith));
         placed = rw placed (simp length-blit room);
-        ordered = rw (structure-in rs s size (copiesIn memo used)) o;
+        ordered = rw (structure-in rs size (copiesIn memo used) ats) o;
         seen = seen-in f;
       }

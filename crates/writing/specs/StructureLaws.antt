@@ -15,15 +15,19 @@ use Rattle.base.specs.Choice.{pick, ifLt, ifLe, ifEq}
 use Rattle.base.specs.ChoiceLaws.{lt-yes, lt-no, eq-yes, eq-no}
 use Rattle.base.specs.FieldLaws.{length-le}
 use Rattle.base.specs.Blit.{blit}
-use Rattle.base.specs.BlitLaws.{length-part}
+use Rattle.base.specs.BlitLaws.{length-part, blit-append}
+use Rattle.shown_laws.specs.Header.{length-words}
+use Rattle.shown_laws.specs.Shapes.{length-photos}
 use Rattle.mdf.specs.Block.{linkAt, dataAt}
 use Rattle.plan.specs.Rules.{Rules}
 use Rattle.plan.specs.Table.{treatment}
 use Rattle.plan.specs.Channel.{channelType, channelBytes, keepsInval, width}
-use Rattle.plan.specs.Copies.{Copy, copyOf}
+use Rattle.plan.specs.Photos.{photoCount, linksFrom, references, photosOf}
+use Rattle.plan.specs.PhotosLaws.{length-linksFrom}
+use Rattle.plan.specs.Copies.{Copy, copyOf, Attachment}
 use Rattle.work_words.specs.CopyWords.{placedAt}
 use Rattle.plan.specs.Geometry.{powerIn, stepOf, perBlock, perFull, blockCount, blockPayload}
-use Rattle.plan.specs.Layout.{columnWidth, columnBlocks, cgSize, dlSize, Placed, cgOf, cnOf}
+use Rattle.plan.specs.Layout.{columnWidth, columnBlocks, cgSize, cnSize, dlSize, Placed, cgOf, cnOf}
 use Rattle.result.specs.Fill.{
   Block,
   block,
@@ -38,12 +42,14 @@ use Rattle.result.specs.Fill.{
   cnBytes,
   dlBlocks,
   columnPayload,
+  words,
+  photoLinks,
   structureBlocks,
 }
 use Rattle.result.specs.Ordered.{Ordered}
 use Rattle.copies_laws.specs.AnswerLaws.{on-eq}
 use Rattle.copies_laws.specs.LengthLaws.{InImage, length-header, length-blockLinks}
-use Rattle.filling.specs.Blocks.{dgFrom, cgHeader, cgFront, cgCounts, cgDataFrom, cgFrom, cnLinks, cnTypes, cnRest, cnFrom, dlFrom}
+use Rattle.filling.specs.Blocks.{dgFrom, cgHeader, cgFront, cgCounts, cgDataFrom, cgFrom, cnLinks, cnFront, cnTypes, cnRest, cnDataFrom, dlFrom}
 use Rattle.filling.specs.FillLaws.{hasMaster, masterCG, dg-from, cg-from, cn-from, dl-from}
 use Rattle.placing.specs.Answer.{linkOf}
 use Rattle.placing.specs.Standing.{copiesIn}
@@ -57,7 +63,11 @@ use Rattle.writing.specs.Structure.{
   columnOf,
   Near,
   columnDG,
+  cnLength,
   columnCG,
+  columnFront,
+  columnPhotos,
+  columnData,
   columnCN,
   columnDL,
   columnDLs,
@@ -172,13 +182,13 @@ module _ (table s : List ℕ) (c : ℕ) {t v : ℕ} (e : t ≡ channelType s c) 
   unfolding storedType
   stored-same h = eq-no _ _ _ _ (λ q. h (k ∙ ap (treatment table) e ∙ q)) e
 
-module _ (table s : List ℕ) (size : ℕ) (columns memo : List ℕ) (n k : ℕ) where
-  pub column-made : {remote : Bool} {stored master x sd blocks payload : ℕ} → remote ≡ hasMaster (masterIn (getD columns (8 * k + 5) 0))
+module _ (ph : Bool) (table s : List ℕ) (size : ℕ) (columns memo : List ℕ) (n k : ℕ) where
+  pub column-made : {remote : Bool} {stored master x sd blocks photos payload : ℕ} → remote ≡ hasMaster (masterIn (getD columns (8 * k + 5) 0))
       → master ≡ masterPlace memo n (getD columns (8 * k + 5) 0) → x ≡ cgSize (masterIn (getD columns (8 * k + 5) 0))
       → sd ≡ sdLink (signalIn (getD columns (8 * k + 6) 0)) (getD memo (placedAt + 3 * k + 2) 0)
       → blocks ≡ blockCount size (width s (getD columns (8 * k + 1) 0) (getD columns (8 * k) 0)) (getD columns (8 * k + 3) 0)
       → payload ≡ blockPayload size (width s (getD columns (8 * k + 1) 0) (getD columns (8 * k) 0)) (getD columns (8 * k + 3) 0)
-      → stored ≡ storedType table (channelType s (getD columns (8 * k) 0))
+      → stored ≡ storedType table (channelType s (getD columns (8 * k) 0)) → photos ≡ length (photosOf ph s (getD columns (8 * k) 0))
       → record {
         channel = getD columns (8 * k) 0;
         stored = stored;
@@ -192,11 +202,12 @@ module _ (table s : List ℕ) (size : ℕ) (columns memo : List ℕ) (n k : ℕ)
         first = getD memo (placedAt + 3 * k + 1) 0;
         sd = sd;
         blocks = blocks;
+        photos = photos;
         payload = payload;
       }
-      ≡ columnOf table s size columns memo n k
+      ≡ columnOf ph table s size columns memo n k
   unfolding columnOf
-  column-made a b c d e f g = rw (a, b, c, d, e, f, g)
+  column-made a b c d e f g h = rw (a, b, c, d, e, f, g, h)
 
 -- ---- links
 link-or : (o : Option ℕ) → linkOf o ≡ orZero o
@@ -209,7 +220,7 @@ link-new m a b e q = e ∙ link-or (copyOf b m) ∙ rw q
 
 -- ---- the blocks' bytes over what was laid
 module _ (s : List ℕ) (m : List Copy) (h : PlacedColumn) (d e : List ℕ) where
-  pub filled-dg : (next : ℕ) {dl comment : ℕ} → e ≡ blit 0 (dgFrom next (h .dg + 64) dl comment) d → dl ≡ ifEq (h .blocks) 0 0 (h .cn + 160)
+  pub filled-dg : (next : ℕ) {dl comment : ℕ} → e ≡ blit 0 (dgFrom next (h .dg + 64) dl comment) d → dl ≡ ifEq (h .blocks) 0 0 (h .cn + cnLength h)
       → comment ≡ newLink m (linkAt s (h .parent) 3) → e ≡ blit 0 (columnDG s m h next) d
   unfolding columnDG
   filled-dg next i a b = i ∙ rw (a, b)
@@ -221,13 +232,18 @@ module _ (s : List ℕ) (m : List Copy) (h : PlacedColumn) (d e : List ℕ) wher
   unfolding columnCG
   filled-cg i a b c x y = i ∙ rw (a, b, c, x, y)
 
-  pub filled-cn : {name source conversion unit comment : ℕ} {keeps : Bool}
-      → e ≡ blit 0 (cnFrom s (h .channel) (h .stored) keeps name source conversion (h .sd) unit comment) d
+  pub filled-front : {size links name source conversion unit comment : ℕ}
+      → e ≡ blit 0 (cnFront size links name source conversion (h .sd) unit comment) d → size ≡ cnLength h → links ≡ 8 + h .photos
       → name ≡ newLink m (linkAt s (h .channel) 2) → source ≡ newLink m (linkAt s (h .channel) 3) → conversion ≡ newLink m (linkAt s (h .channel) 4)
-      → unit ≡ newLink m (linkAt s (h .channel) 6) → comment ≡ newLink m (linkAt s (h .channel) 7) → keeps ≡ keepsInval s (h .group) (h .channel)
-      → e ≡ blit 0 (columnCN s m h) d
-  unfolding columnCN
-  filled-cn i a b c x y z = i ∙ rw (a, b, c, x, y, z)
+      → unit ≡ newLink m (linkAt s (h .channel) 6) → comment ≡ newLink m (linkAt s (h .channel) 7) → e ≡ blit 0 (columnFront s m h) d
+  unfolding columnFront
+  filled-front i k l a b c x y = i ∙ rw (k, l, a, b, c, x, y)
+
+-- its data, over what is lent
+pub filled-data : (s : List ℕ) (h : PlacedColumn) (p : ℕ) (d ys : List ℕ) {k : Bool}
+    → ys ≡ blit 0 (cnDataFrom s (h .channel) (h .stored) k (h .photos)) (midOf p (length d - p) d) → k ≡ keepsInval s (h .group) (h .channel)
+    → putMid p (length d - p) d ys ≡ blit p (columnData s h) d
+filled-data s h p d ys e k = lent-is p (columnData s h) d ys (e ∙ rw k)
 
 -- ---- lengths
 pub length-columnDG : (s : List ℕ) (memo : List Copy) (h : PlacedColumn) (next : ℕ) → length (columnDG s memo h next) ≡ 64
@@ -247,19 +263,41 @@ pub length-columnCG : (s : List ℕ) (memo : List Copy) (h : PlacedColumn) → d
 unfolding columnCG
 length-columnCG s memo h i = length-cgFrom s (h .group) _ _ _ _ (h .remote) _ _ _ _ i
 
-pub length-columnCN : (s : List ℕ) (memo : List Copy) (h : PlacedColumn) → dataAt s (h .channel) + 72 ≤ length s
-    → length (columnCN s memo h) ≡ 160
-unfolding columnCN cnFrom cnLinks cnTypes cnRest
-length-columnCN s memo h i =
+pub length-front : (s : List ℕ) (memo : List Copy) (h : PlacedColumn) → length (columnFront s memo h) ≡ 88
+unfolding columnFront cnFront cnLinks
+length-front s memo h = simp (length-append, length-header, length-le)
+
+pub length-links : (s : List ℕ) (ats : List Attachment) (h : PlacedColumn) → length (columnPhotos s ats h) ≡ 8 * h .photos
+length-links s ats h = rw (length-words (photoLinks ats (linksFrom s (h .photos) (h .channel + 88))), length-photos ats (linksFrom s (h .photos) (h .channel + 88)), length-linksFrom s (h .photos) (h .channel + 88))
+
+length-data : (s : List ℕ) (h : PlacedColumn) → dataAt s (h .channel) + 72 ≤ length s → length (columnData s h) ≡ 72
+unfolding cnDataFrom cnTypes cnRest
+length-data s h i =
     simp (
       length-append,
-      length-header,
       length-le,
       length-part (dataAt s (h .channel) + 1) 3 s (omega arith),
       length-part (dataAt s (h .channel) + 8) 4 s (omega arith),
       length-part (dataAt s (h .channel) + 20) 2 s (omega arith),
       length-part (dataAt s (h .channel) + 24) 48 s (omega arith),
     )
+
+pub length-columnCN : (s : List ℕ) (memo : List Copy) (ats : List Attachment) (h : PlacedColumn) → dataAt s (h .channel) + 72 ≤ length s
+    → length (columnCN s memo ats h) ≡ cnLength h
+unfolding columnCN
+length-columnCN s memo ats h i =
+    simp length-append (omega (arith, length-front s memo h, length-links s ats h, length-data s h i))
+
+-- the three parts of a CN, one after the other
+pub filled-cn : (s : List ℕ) (memo : List Copy) (ats : List Attachment) (h : PlacedColumn) (d x y z : List ℕ) → x ≡ blit 0 (columnFront s memo h) d
+    → y ≡ blit 88 (columnPhotos s ats h) x → z ≡ blit (88 + 8 * h .photos) (columnData s h) y → z ≡ blit 0 (columnCN s memo ats h) d
+unfolding columnCN
+filled-cn s memo ats h d x y z a b c =
+    let e : y ≡ blit 0 (columnFront s memo h ++ columnPhotos s ats h) d =
+    b ∙ rw a (sym (blit-append (columnFront s memo h) 0 (columnPhotos s ats h) d ∙ rw (length-front s memo h) refl)) in
+    c ∙ rw e (sym (blit-append (columnFront s memo h ++ columnPhotos s ats h) 0 (columnData s h) d
+    ∙ ap (λ (k : ℕ). blit k (columnData s h) (blit 0 (columnFront s memo h ++ columnPhotos s ats h) d))
+    (simp length-append (omega (arith, length-front s memo h, length-links s ats h)))))
 
 pub length-columnDL : (h : PlacedColumn) → length (columnDL h) ≡ 48 + 8 * h .blocks
 unfolding columnDL dlFrom
@@ -287,20 +325,20 @@ module _ (s : List ℕ) (m : List Copy) (h : PlacedColumn) (a : ℕ) (out mid ys
       → Wrote a (block (h .dg + 64) (columnCG s m h) ∷ []) (h .cn) out (putMid (h .dg + 64) (length mid - (h .dg + 64)) mid ys)
   wrote-cg g e l q i = wrote-at a (h .dg + 64) (h .cn) (columnCG s m h) out mid ys l (q ∙ rw (length-columnCG s m h i)) g e
 
-  pub wrote-cn : mid ≡ blit a (replicate (h .cn - a) 0) out
-      → ys ≡ blit 0 (columnCN s m h) (midOf (h .cn) (length mid - h .cn) mid) → a ≤ h .cn → dataAt s (h .channel) + 72 ≤ length s
-      → Wrote a (block (h .cn) (columnCN s m h) ∷ []) (h .cn + 160) out (putMid (h .cn) (length mid - h .cn) mid ys)
-  wrote-cn g e l i = wrote-at a (h .cn) (h .cn + 160) (columnCN s m h) out mid ys l (rw (length-columnCN s m h i)) g e
+  pub wrote-cn : (ats : List Attachment) → mid ≡ blit a (replicate (h .cn - a) 0) out
+      → ys ≡ blit 0 (columnCN s m ats h) (midOf (h .cn) (length mid - h .cn) mid) → a ≤ h .cn → dataAt s (h .channel) + 72 ≤ length s
+      → Wrote a (block (h .cn) (columnCN s m ats h) ∷ []) (h .cn + cnLength h) out (putMid (h .cn) (length mid - h .cn) mid ys)
+  wrote-cn ats g e l i = wrote-at a (h .cn) (h .cn + cnLength h) (columnCN s m ats h) out mid ys l (rw (length-columnCN s m ats h i)) g e
 
-pub wrote-dl : (h : PlacedColumn) (a : ℕ) (out mid ys : List ℕ) → mid ≡ blit a (replicate (h .cn + 160 - a) 0) out
-    → ys ≡ blit 0 (dlFrom (h .payload) (h .blocks) (h .first)) (midOf (h .cn + 160) (length mid - (h .cn + 160)) mid) → a ≤ h .cn + 160
+pub wrote-dl : (h : PlacedColumn) (a : ℕ) (out mid ys : List ℕ) → mid ≡ blit a (replicate (h .cn + cnLength h - a) 0) out
+    → ys ≡ blit 0 (dlFrom (h .payload) (h .blocks) (h .first)) (midOf (h .cn + cnLength h) (length mid - (h .cn + cnLength h)) mid) → a ≤ h .cn + cnLength h
     → (h .blocks ≡ 0 → ⊥)
-    → Wrote a (columnDLs h) (h .cn + 160 + (48 + 8 * h .blocks)) out (putMid (h .cn + 160) (length mid - (h .cn + 160)) mid ys)
+    → Wrote a (columnDLs h) (h .cn + cnLength h + (48 + 8 * h .blocks)) out (putMid (h .cn + cnLength h) (length mid - (h .cn + cnLength h)) mid ys)
 unfolding columnDLs columnDL
 wrote-dl h a out mid ys g e l z =
-    subst (λ (bs : List Block). Wrote a bs (h .cn + 160 + (48 + 8 * h .blocks)) out (putMid (h .cn + 160) (length mid - (h .cn + 160)) mid ys))
+    subst (λ (bs : List Block). Wrote a bs (h .cn + cnLength h + (48 + 8 * h .blocks)) out (putMid (h .cn + cnLength h) (length mid - (h .cn + cnLength h)) mid ys))
     (eq-no (h .blocks) 0 _ _ z refl)
-    (wrote-at a (h .cn + 160) _ (columnDL h) out mid ys l (rw (length-columnDL h)) g e)
+    (wrote-at a (h .cn + cnLength h) _ (columnDL h) out mid ys l (rw (length-columnDL h)) g e)
 
 pub wrote-no-dl : (a : ℕ) (h : PlacedColumn) (out : List ℕ) → h .blocks ≡ 0 → Wrote a (columnDLs h) a out out
 unfolding columnDLs
@@ -315,15 +353,15 @@ one-ordered : (a e : ℕ) (bs : List ℕ) → a + length bs ≤ e → Ordered a 
 unfolding Ordered
 one-ordered a e bs h = (le-refl a, h)
 
-dls-ordered : (h : PlacedColumn) (e : ℕ) → h .cn + 160 + dlSize (h .blocks) ≤ e → Ordered (h .cn + 160) (columnDLs h) e
+dls-ordered : (h : PlacedColumn) (e : ℕ) → h .cn + cnLength h + dlSize (h .blocks) ≤ e → Ordered (h .cn + cnLength h) (columnDLs h) e
 unfolding columnDLs
 dls-ordered h e l =
-    on-eq (λ (bs : List Block). Ordered (h .cn + 160) bs e) (h .blocks) 0 _ _
+    on-eq (λ (bs : List Block). Ordered (h .cn + cnLength h) bs e) (h .blocks) 0 _ _
     (λ z. none-ordered _ _ (omega arith))
     (λ z. one-ordered _ _ (columnDL h) (omega (arith, length-columnDL h, dl-some (h .blocks) z)))
 
-module _ {s : List ℕ} (memo : List Copy) {h : PlacedColumn} {a e : ℕ} (next : ℕ) (o : Room s h a e) where
-  pub parts-ordered : Ordered a (columnParts s memo h next) e
+module _ {s : List ℕ} (memo : List Copy) (ats : List Attachment) {h : PlacedColumn} {a e : ℕ} (next : ℕ) (o : Room s h a e) where
+  pub parts-ordered : Ordered a (columnParts s memo ats h next) e
   unfolding columnParts Ordered
   parts-ordered =
       let g = o .cn in (
@@ -332,21 +370,21 @@ module _ {s : List ℕ} (memo : List Copy) {h : PlacedColumn} {a e : ℕ} (next 
           le-refl _,
           rw (length-columnCG s memo h (o .group), ← g) (
             le-refl _,
-            rw (length-columnCN s memo h (o .channel)) (dls-ordered h e (o .ends)),
+            rw (length-columnCN s memo ats h (o .channel)) (dls-ordered h e (o .ends)),
           ),
         ),
       )
 
   -- one after the other
   pub wrote-column : {p q t r : ℕ} {out x y z last : List ℕ} → Wrote a (block (h .dg) (columnDG s memo h next) ∷ []) p out x
-      → Wrote p (block (h .dg + 64) (columnCG s memo h) ∷ []) q x y → Wrote q (block (h .cn) (columnCN s memo h) ∷ []) t y z
-      → Wrote t (columnDLs h) r z last → Wrote a (columnParts s memo h next) r out last
+      → Wrote p (block (h .dg + 64) (columnCG s memo h) ∷ []) q x y → Wrote q (block (h .cn) (columnCN s memo ats h) ∷ []) t y z
+      → Wrote t (columnDLs h) r z last → Wrote a (columnParts s memo ats h next) r out last
   unfolding columnParts
   wrote-column v w u d =
       let i = parts-ordered in
       let dg : List Block = block (h .dg) (columnDG s memo h next) ∷ [] in
       let cg : List Block = block (h .dg + 64) (columnCG s memo h) ∷ [] in
-      let cn : List Block = block (h .cn) (columnCN s memo h) ∷ [] in
+      let cn : List Block = block (h .cn) (columnCN s memo ats h) ∷ [] in
       let j = ordered-first a (dg ++ cg ++ cn) (columnDLs h) e i in
       let k = ordered-first a (dg ++ cg) cn e j in
       wrote-append e {xs = dg ++ cg ++ cn} (wrote-append e {xs = dg ++ cg} (wrote-append e {xs = dg} v w k) u j) d i
@@ -359,80 +397,88 @@ past-one b n w l = w .end ∙ rw l
 -- ---- columns in words
 
 -- the CG of column number m
-cg-in : (columns memo : List ℕ) (k m n : ℕ) → cgAt m (placedIn columns memo k n) ≡ ifLt m n (getD memo (placedAt + 3 * (k + m)) 0 + 64) 0
+cg-in : (ph : Bool) (s columns memo : List ℕ) (k m n : ℕ) → cgAt m (placedIn ph s columns memo k n) ≡ ifLt m n (getD memo (placedAt + 3 * (k + m)) 0 + 64) 0
 unfolding cgAt placedIn placedOne
-cg-in columns memo k m zero = lt-no m 0 _ _ (omega arith) refl
-cg-in columns memo k zero (suc n) = lt-yes 0 (suc n) _ _ (omega arith) (rw add-zero)
-cg-in columns memo k (suc m) (suc n) =
+cg-in ph s columns memo k m zero = lt-no m 0 _ _ (omega arith) refl
+cg-in ph s columns memo k zero (suc n) = lt-yes 0 (suc n) _ _ (omega arith) (rw add-zero)
+cg-in ph s columns memo k (suc m) (suc n) =
     let e : k + suc m ≡ k + 1 + m = omega arith in
-    cg-in columns memo (k + 1) m n ∙ rw e (more-lt m n _ _)
+    cg-in ph s columns memo (k + 1) m n ∙ rw e (more-lt m n _ _)
   where
     more-lt : (m n a b : ℕ) → ifLt m n a b ≡ ifLt (suc m) (suc n) a b
     more-lt m n a b =
         ⊎-elim (λ l. sym (lt-yes m n a b l refl) ∙ lt-yes (suc m) (suc n) a b (omega arith) refl)
         (λ l. sym (lt-no m n a b l refl) ∙ lt-no (suc m) (suc n) a b (omega arith) refl) (lt-or-le m n)
 
-master-in : (columns memo : List ℕ) (n w : ℕ) → masterCG (placedIn columns memo 0 n) (masterIn w) ≡ masterPlace memo n w
+master-in : (ph : Bool) (s columns memo : List ℕ) (n w : ℕ) → masterCG (placedIn ph s columns memo 0 n) (masterIn w) ≡ masterPlace memo n w
 unfolding masterIn masterPlace
-master-in columns memo n zero = refl
-master-in columns memo n (suc m) = cg-in columns memo 0 m n ∙ rw zero-add
+master-in ph s columns memo n zero = refl
+master-in ph s columns memo n (suc m) = cg-in ph s columns memo 0 m n ∙ rw zero-add
 
-next-in : (columns memo : List ℕ) (n k j : ℕ) → k + suc j ≡ n → nextDG (placedIn columns memo (k + 1) j) ≡ nextPlace memo n k
+next-in : (ph : Bool) (s columns memo : List ℕ) (n k j : ℕ) → k + suc j ≡ n → nextDG (placedIn ph s columns memo (k + 1) j) ≡ nextPlace memo n k
 unfolding placedIn placedOne nextPlace
-next-in columns memo n k zero e = lt-no _ _ _ _ (omega arith) refl
-next-in columns memo n k (suc j) e = lt-yes _ _ _ _ (omega arith) refl
+next-in ph s columns memo n k zero e = lt-no _ _ _ _ (omega arith) refl
+next-in ph s columns memo n k (suc j) e = lt-yes _ _ _ _ (omega arith) refl
 
-placed-cons : (columns memo : List ℕ) (k j : ℕ) → placedIn columns memo k (suc j) ≡ placedOne columns memo k ∷ placedIn columns memo (k + 1) j
+placed-cons : (ph : Bool) (s columns memo : List ℕ) (k j : ℕ) → placedIn ph s columns memo k (suc j) ≡ placedOne ph s columns memo k ∷ placedIn ph s columns memo (k + 1) j
 unfolding placedIn
-placed-cons columns memo k j = refl
+placed-cons ph s columns memo k j = refl
+
+-- the references that a column keeps, by their number
+kept-links : (ph : Bool) (s : List ℕ) (c : ℕ) → linksFrom s (length (photosOf ph s c)) (c + 88) ≡ photosOf ph s c
+unfolding photosOf linksFrom references
+kept-links true s c = ap (λ (n : ℕ). linksFrom s n (c + 88)) (length-linksFrom s (photoCount s c) (c + 88))
+kept-links false s c = refl
 
 -- each block of column number k
-module _ (rs : Rules) (s : List ℕ) (size : ℕ) (m : List Copy) (columns memo : List ℕ) (n k : ℕ) where
-  dg-same : {x y : ℕ} → x ≡ y → dgBytes s size m (placedOne columns memo k) x ≡ columnDG s m (columnOf (rs .table) s size columns memo n k) y
-  unfolding columnDG columnOf columnBlocks columnWidth placedOne columnIn
-  dg-same {x} e = dg-from s size m (placedOne columns memo k) x ∙ rw e
+module _ (ph : Bool) (rs : Rules) (s : List ℕ) (size : ℕ) (m : List Copy) (ats : List Attachment) (columns memo : List ℕ) (n k : ℕ) where
+  dg-same : {x y : ℕ} → x ≡ y → dgBytes s size m (placedOne ph s columns memo k) x ≡ columnDG s m (columnOf ph (rs .table) s size columns memo n k) y
+  unfolding columnDG columnOf columnBlocks columnWidth placedOne columnIn cnSize
+  dg-same {x} e = dg-from s size m (placedOne ph s columns memo k) x ∙ rw e
 
-  cg-same : cgBytes s m (placedIn columns memo 0 n) (placedOne columns memo k) ≡ columnCG s m (columnOf (rs .table) s size columns memo n k)
+  cg-same : cgBytes s m (placedIn ph s columns memo 0 n) (placedOne ph s columns memo k) ≡ columnCG s m (columnOf ph (rs .table) s size columns memo n k)
   unfolding columnCG columnOf placedOne columnIn
-  cg-same = cg-from s m (placedIn columns memo 0 n) (placedOne columns memo k) ∙ rw (master-in columns memo n (getD columns (8 * k + 5) 0))
+  cg-same = cg-from s m (placedIn ph s columns memo 0 n) (placedOne ph s columns memo k) ∙ rw (master-in ph s columns memo n (getD columns (8 * k + 5) 0))
 
-  cn-same : cnBytes rs s m (placedOne columns memo k) ≡ columnCN s m (columnOf (rs .table) s size columns memo n k)
-  unfolding columnCN columnOf placedOne columnIn
-  cn-same = cn-from rs s m (placedOne columns memo k) _ refl
+  cn-same : cnBytes rs s m ats (placedOne ph s columns memo k) ≡ columnCN s m ats (columnOf ph (rs .table) s size columns memo n k)
+  unfolding columnCN columnFront columnOf placedOne columnIn cnSize
+  cn-same =
+      cn-from rs s m ats (placedOne ph s columns memo k) _ refl
+      ∙ rw (kept-links ph s (getD columns (8 * k) 0))
 
-  dl-same : dlBlocks s size (placedOne columns memo k) ≡ columnDLs (columnOf (rs .table) s size columns memo n k)
-  unfolding dlBlocks columnDLs columnDL columnOf columnBlocks columnWidth columnPayload placedOne columnIn
-  dl-same = rw (dl-from s size m (placedOne columns memo k))
+  dl-same : dlBlocks s size (placedOne ph s columns memo k) ≡ columnDLs (columnOf ph (rs .table) s size columns memo n k)
+  unfolding dlBlocks columnDLs columnDL columnOf columnBlocks columnWidth columnPayload placedOne columnIn cnSize
+  dl-same = rw (dl-from s size m (placedOne ph s columns memo k))
 
   parts-open : (next : ℕ) (bs : List Block)
-      → block (placedOne columns memo k .dg) (columnDG s m (columnOf (rs .table) s size columns memo n k) next)
-      ∷ block (cgOf (placedOne columns memo k)) (columnCG s m (columnOf (rs .table) s size columns memo n k))
-      ∷ block (cnOf (placedOne columns memo k)) (columnCN s m (columnOf (rs .table) s size columns memo n k)) ∷ (columnDLs (columnOf (rs .table) s size columns memo n k) ++ bs)
-      ≡ columnParts s m (columnOf (rs .table) s size columns memo n k) next ++ bs
+      → block (placedOne ph s columns memo k .dg) (columnDG s m (columnOf ph (rs .table) s size columns memo n k) next)
+      ∷ block (cgOf (placedOne ph s columns memo k)) (columnCG s m (columnOf ph (rs .table) s size columns memo n k))
+      ∷ block (cnOf (placedOne ph s columns memo k)) (columnCN s m ats (columnOf ph (rs .table) s size columns memo n k)) ∷ (columnDLs (columnOf ph (rs .table) s size columns memo n k) ++ bs)
+      ≡ columnParts s m ats (columnOf ph (rs .table) s size columns memo n k) next ++ bs
   unfolding columnParts columnOf placedOne columnIn
   parts-open next bs = refl
 
 -- of what is chosen the blocks take the table alone
-pub by-table : (rs : Rules) (s : List ℕ) (size : ℕ) (m : List Copy) (all ps : List Placed)
-    → structureBlocks (onTable (rs .table)) s size m all ps ≡ structureBlocks rs s size m all ps
+pub by-table : (rs : Rules) (s : List ℕ) (size : ℕ) (m : List Copy) (ats : List Attachment) (all ps : List Placed)
+    → structureBlocks (onTable (rs .table)) s size m ats all ps ≡ structureBlocks rs s size m ats all ps
 unfolding structureBlocks cnBytes
-by-table rs s size m all [] = refl
-by-table rs s size m all (p ∷ ps) = rw (by-table rs s size m all ps)
+by-table rs s size m ats all [] = refl
+by-table rs s size m ats all (p ∷ ps) = rw (by-table rs s size m ats all ps)
 
 -- one column's blocks, then the others'
-pub structure-cons : (rs : Rules) (s : List ℕ) (size : ℕ) (m : List Copy) (columns memo : List ℕ) (n k j : ℕ) → k + suc j ≡ n
-    → structureBlocks rs s size m (placedIn columns memo 0 n) (placedIn columns memo k (suc j))
-    ≡ columnParts s m (columnOf (rs .table) s size columns memo n k) (nextPlace memo n k)
-    ++ structureBlocks rs s size m (placedIn columns memo 0 n) (placedIn columns memo (k + 1) j)
+pub structure-cons : (ph : Bool) (rs : Rules) (s : List ℕ) (size : ℕ) (m : List Copy) (ats : List Attachment) (columns memo : List ℕ) (n k j : ℕ) → k + suc j ≡ n
+    → structureBlocks rs s size m ats (placedIn ph s columns memo 0 n) (placedIn ph s columns memo k (suc j))
+    ≡ columnParts s m ats (columnOf ph (rs .table) s size columns memo n k) (nextPlace memo n k)
+    ++ structureBlocks rs s size m ats (placedIn ph s columns memo 0 n) (placedIn ph s columns memo (k + 1) j)
 unfolding structureBlocks
-structure-cons rs s size m columns memo n k j e =
-    ap (structureBlocks rs s size m (placedIn columns memo 0 n)) (placed-cons columns memo k j)
+structure-cons ph rs s size m ats columns memo n k j e =
+    ap (structureBlocks rs s size m ats (placedIn ph s columns memo 0 n)) (placed-cons ph s columns memo k j)
     ∙ rw (
-      dg-same rs s size m columns memo n k (next-in columns memo n k j e),
-      cg-same rs s size m columns memo n k,
-      cn-same rs s size m columns memo n k,
-      dl-same rs s size m columns memo n k,
-    ) (parts-open rs s size m columns memo n k (nextPlace memo n k) _)
+      dg-same ph rs s size m ats columns memo n k (next-in ph s columns memo n k j e),
+      cg-same ph rs s size m ats columns memo n k,
+      cn-same ph rs s size m ats columns memo n k,
+      dl-same ph rs s size m ats columns memo n k,
+    ) (parts-open ph rs s size m ats columns memo n k (nextPlace memo n k) _)
 
 -- ---- room, by the order of blocks
 dl-none : (n : ℕ) → n ≡ 0 → dlSize n ≡ 0
@@ -447,37 +493,37 @@ none-end : (a e : ℕ) → Ordered a [] e → a ≤ e
 unfolding Ordered
 none-end a e o = o
 
-dls-end : (h : PlacedColumn) (e : ℕ) → Ordered (h .cn + 160) (columnDLs h) e → h .cn + 160 + dlSize (h .blocks) ≤ e
+dls-end : (h : PlacedColumn) (e : ℕ) → Ordered (h .cn + cnLength h) (columnDLs h) e → h .cn + cnLength h + dlSize (h .blocks) ≤ e
 unfolding columnDLs
 dls-end h e =
-    on-eq (λ (bs : List Block). Ordered (h .cn + 160) bs e → h .cn + 160 + dlSize (h .blocks) ≤ e) (h .blocks) 0 _ _
+    on-eq (λ (bs : List Block). Ordered (h .cn + cnLength h) bs e → h .cn + cnLength h + dlSize (h .blocks) ≤ e) (h .blocks) 0 _ _
     (λ z o. omega (arith, none-end _ _ o, dl-none (h .blocks) z))
     (λ z o. omega (arith, some-end _ _ (columnDL h) o, length-columnDL h, dl-some (h .blocks) z))
 
-parts-room : (s : List ℕ) (memo : List Copy) (h : PlacedColumn) (a e next : ℕ) → Ordered a (columnParts s memo h next) e
+parts-room : (s : List ℕ) (memo : List Copy) (ats : List Attachment) (h : PlacedColumn) (a e next : ℕ) → Ordered a (columnParts s memo ats h next) e
     → h .cn ≡ h .dg + 64 + cgLength (h .remote) → dataAt s (h .group) + 32 ≤ length s → dataAt s (h .channel) + 72 ≤ length s → Room s h a e
 unfolding columnParts Ordered
-parts-room s memo h a e next o q g c =
+parts-room s memo ats h a e next o q g c =
     record {
       begins = o .0;
       cn = q;
-      ends = dls-end h e (rw (length-columnCN s memo h c) at (o .1 .1 .1));
+      ends = dls-end h e (rw (length-columnCN s memo ats h c) at (o .1 .1 .1));
       group = g;
       channel = c;
     }
 
-module _ (rs : Rules) (s : List ℕ) (size : ℕ) (m : List Copy) (columns memo : List ℕ) (n : ℕ) where
+module _ (ph : Bool) (rs : Rules) (s : List ℕ) (size : ℕ) (m : List Copy) (ats : List Attachment) (columns memo : List ℕ) (n : ℕ) where
   -- column number k has room
-  pub room-of : (k j a e : ℕ) → k + suc j ≡ n → InImage s (columnIn columns (8 * k))
-      → Ordered a (structureBlocks rs s size m (placedIn columns memo 0 n) (placedIn columns memo k (suc j))) e
-      → Room s (columnOf (rs .table) s size columns memo n k) a e
+  pub room-of : (k j a e : ℕ) → k + suc j ≡ n → InImage s (columnIn ph s columns (8 * k))
+      → Ordered a (structureBlocks rs s size m ats (placedIn ph s columns memo 0 n) (placedIn ph s columns memo k (suc j))) e
+      → Room s (columnOf ph (rs .table) s size columns memo n k) a e
   unfolding columnOf columnIn
   room-of k j a e q i o =
-      let t : Ordered a (columnParts s m (columnOf (rs .table) s size columns memo n k) (nextPlace memo n k)
-      ++ structureBlocks rs s size m (placedIn columns memo 0 n) (placedIn columns memo (k + 1) j)) e =
-      rw (structure-cons rs s size m columns memo n k j q) at o in
-      parts-room s m (columnOf (rs .table) s size columns memo n k) a e (nextPlace memo n k)
-      (ordered-first a (columnParts s m (columnOf (rs .table) s size columns memo n k) (nextPlace memo n k)) _ e t)
+      let t : Ordered a (columnParts s m ats (columnOf ph (rs .table) s size columns memo n k) (nextPlace memo n k)
+      ++ structureBlocks rs s size m ats (placedIn ph s columns memo 0 n) (placedIn ph s columns memo (k + 1) j)) e =
+      rw (structure-cons ph rs s size m ats columns memo n k j q) at o in
+      parts-room s m ats (columnOf ph (rs .table) s size columns memo n k) a e (nextPlace memo n k)
+      (ordered-first a (columnParts s m ats (columnOf ph (rs .table) s size columns memo n k) (nextPlace memo n k)) _ e t)
       (ap (λ (x : ℕ). getD memo (placedAt + 3 * k) 0 + 64 + x) (size-master (masterIn (getD columns (8 * k + 5) 0)))) (i .group) (i .channel)
 
 ordered-here : (a e : ℕ) (b : Block) (bs : List Block) → Ordered a (b ∷ bs) e → b .at ≤ e
@@ -489,68 +535,68 @@ unfolding Ordered
 ordered-next a e b bs o = o .1
 
 -- every column's DG lies before the end
-dg-in : (rs : Rules) (s : List ℕ) (size : ℕ) (m : List Copy) (all : List Placed) (columns memo : List ℕ) (k n i a e : ℕ)
-    → Ordered a (structureBlocks rs s size m all (placedIn columns memo k n)) e → i < n → getD memo (placedAt + 3 * (k + i)) 0 ≤ e
+dg-in : (ph : Bool) (rs : Rules) (s : List ℕ) (size : ℕ) (m : List Copy) (ats : List Attachment) (all : List Placed) (columns memo : List ℕ) (k n i a e : ℕ)
+    → Ordered a (structureBlocks rs s size m ats all (placedIn ph s columns memo k n)) e → i < n → getD memo (placedAt + 3 * (k + i)) 0 ≤ e
 unfolding structureBlocks placedIn placedOne
-dg-in rs s size m all columns memo k zero i a e o h = absurd (omega arith)
-dg-in rs s size m all columns memo k (suc n) zero a e o h = rw add-zero (ordered-here a e _ _ o)
-dg-in rs s size m all columns memo k (suc n) (suc i) a e o h =
+dg-in ph rs s size m ats all columns memo k zero i a e o h = absurd (omega arith)
+dg-in ph rs s size m ats all columns memo k (suc n) zero a e o h = rw add-zero (ordered-here a e _ _ o)
+dg-in ph rs s size m ats all columns memo k (suc n) (suc i) a e o h =
     let q : k + suc i ≡ k + 1 + i = omega arith in
     let x = ordered-next _ e _ _ (ordered-next _ e _ _ (ordered-next a e _ _ o)) in
-    rw q (dg-in rs s size m all columns memo (k + 1) n i _ e (ordered-back _ (dlBlocks s size (placedOne columns memo k)) _ e x) (omega arith))
+    rw q (dg-in ph rs s size m ats all columns memo (k + 1) n i _ e (ordered-back _ (dlBlocks s size (placedOne ph s columns memo k)) _ e x) (omega arith))
 
-pub near-ready : {rs : Rules} {s : List ℕ} {size : ℕ} {columns memo : List ℕ} {n used a e : ℕ} → StructureReady rs s size columns memo n used a e
+pub near-ready : {ph : Bool} {rs : Rules} {s : List ℕ} {size : ℕ} {columns memo : List ℕ} {ats : List Attachment} {n used a e : ℕ} → StructureReady ph rs s size columns memo ats n used a e
     → e < 9223372036854775808 → Near memo n
-near-ready {rs} {s} {size} {columns} {memo} {n} {used} {a} {e} q h =
+near-ready {ph} {rs} {s} {size} {columns} {memo} {ats} {n} {used} {a} {e} q h =
     record {
       few = q .few;
       long = q .placed;
       below = λ i l.
           let x : getD memo (placedAt + 3 * i) 0 ≤ e =
-          rw zero-add at (dg-in rs s size (copiesIn memo used) (placedIn columns memo 0 n) columns memo 0 n i a e (q .ordered) l) in
+          rw zero-add at (dg-in ph rs s size (copiesIn memo used) ats (placedIn ph s columns memo 0 n) columns memo 0 n i a e (q .ordered) l) in
           omega (arith, x, h);
     }
 
 -- ---- all columns, the first of which is number k, are left to be written; written, they give what all give
-pub record Structures (rs : Rules) (s : List ℕ) (size : ℕ) (columns memo : List ℕ) (n used a : ℕ) (out₀ : List ℕ) (k to : ℕ) (out : List ℕ) : Type 0 where
+pub record Structures (ph : Bool) (rs : Rules) (s : List ℕ) (size : ℕ) (columns memo : List ℕ) (ats : List Attachment) (n used a : ℕ) (out₀ : List ℕ) (k to : ℕ) (out : List ℕ) : Type 0 where
   pub few : k ≤ n
   pub same : length out ≡ length out₀
-  pub ordered : Ordered to (structureBlocks rs s size (copiesIn memo used) (placedIn columns memo 0 n) (placedIn columns memo k (n - k))) (length out)
+  pub ordered : Ordered to (structureBlocks rs s size (copiesIn memo used) ats (placedIn ph s columns memo 0 n) (placedIn ph s columns memo k (n - k))) (length out)
   pub rest : (r : ℕ) (last : List ℕ)
-      → Wrote to (structureBlocks rs s size (copiesIn memo used) (placedIn columns memo 0 n) (placedIn columns memo k (n - k))) r out last
-      → Wrote a (structureBlocks rs s size (copiesIn memo used) (placedIn columns memo 0 n) (placedIn columns memo 0 n)) r out₀ last
+      → Wrote to (structureBlocks rs s size (copiesIn memo used) ats (placedIn ph s columns memo 0 n) (placedIn ph s columns memo k (n - k))) r out last
+      → Wrote a (structureBlocks rs s size (copiesIn memo used) ats (placedIn ph s columns memo 0 n) (placedIn ph s columns memo 0 n)) r out₀ last
 
-module _ {rs : Rules} {s : List ℕ} {size : ℕ} {columns memo : List ℕ} {n used a : ℕ} {out₀ : List ℕ} where
-  pub structures-begin : StructureReady rs s size columns memo n used a (length out₀) → Structures rs s size columns memo n used a out₀ 0 a out₀
+module _ {ph : Bool} {rs : Rules} {s : List ℕ} {size : ℕ} {columns memo : List ℕ} {ats : List Attachment} {n used a : ℕ} {out₀ : List ℕ} where
+  pub structures-begin : StructureReady ph rs s size columns memo ats n used a (length out₀) → Structures ph rs s size columns memo ats n used a out₀ 0 a out₀
   structures-begin q =
       record { few = omega arith; same = refl; ordered = rw sub-zero (q .ordered); rest = λ r last w. rw sub-zero at w }
 
-  pub structures-end : {k to : ℕ} {out : List ℕ} → Structures rs s size columns memo n used a out₀ k to out → n ≤ k
-      → Wrote a (structureBlocks rs s size (copiesIn memo used) (placedIn columns memo 0 n) (placedIn columns memo 0 n)) to out₀ out
+  pub structures-end : {k to : ℕ} {out : List ℕ} → Structures ph rs s size columns memo ats n used a out₀ k to out → n ≤ k
+      → Wrote a (structureBlocks rs s size (copiesIn memo used) ats (placedIn ph s columns memo 0 n) (placedIn ph s columns memo 0 n)) to out₀ out
   unfolding placedIn structureBlocks
   structures-end {k} {to} {out} t h =
       let e : n - k ≡ 0 = omega arith in
       t .rest to out (rw e (wrote-none to out))
 
-  pub structures-room : {k to : ℕ} {out : List ℕ} {e : ℕ} → StructureReady rs s size columns memo n used a e
-      → Structures rs s size columns memo n used a out₀ k to out → k < n → Room s (columnOf (rs .table) s size columns memo n k) to (length out)
+  pub structures-room : {k to : ℕ} {out : List ℕ} {e : ℕ} → StructureReady ph rs s size columns memo ats n used a e
+      → Structures ph rs s size columns memo ats n used a out₀ k to out → k < n → Room s (columnOf ph (rs .table) s size columns memo n k) to (length out)
   structures-room {k} {to} {out} q t h =
       let e : n - k ≡ suc (n - (k + 1)) = omega arith in
-      room-of rs s size (copiesIn memo used) columns memo n k (n - (k + 1)) to (length out) (omega arith) (q .seen k h) (rw e at (t .ordered))
+      room-of ph rs s size (copiesIn memo used) ats columns memo n k (n - (k + 1)) to (length out) (omega arith) (q .seen k h) (rw e at (t .ordered))
 
-  pub structures-turn : {k to r next : ℕ} {h : PlacedColumn} {out last : List ℕ} → Structures rs s size columns memo n used a out₀ k to out → k < n
-      → h ≡ columnOf (rs .table) s size columns memo n k → next ≡ nextPlace memo n k
-      → Wrote to (columnParts s (copiesIn memo used) h next) r out last → length last ≡ length out
-      → Structures rs s size columns memo n used a out₀ (k + 1) r last
+  pub structures-turn : {k to r next : ℕ} {h : PlacedColumn} {out last : List ℕ} → Structures ph rs s size columns memo ats n used a out₀ k to out → k < n
+      → h ≡ columnOf ph (rs .table) s size columns memo n k → next ≡ nextPlace memo n k
+      → Wrote to (columnParts s (copiesIn memo used) ats h next) r out last → length last ≡ length out
+      → Structures ph rs s size columns memo ats n used a out₀ (k + 1) r last
   structures-turn {k} {to} {r} {out = out} {last = last} t h c x v l =
-      let w : Wrote to (columnParts s (copiesIn memo used) (columnOf (rs .table) s size columns memo n k) (nextPlace memo n k)) r out last = rw (c, x) at v in
+      let w : Wrote to (columnParts s (copiesIn memo used) ats (columnOf ph (rs .table) s size columns memo n k) (nextPlace memo n k)) r out last = rw (c, x) at v in
       let m : List Copy = copiesIn memo used in
-      let all : List Placed = placedIn columns memo 0 n in
+      let all : List Placed = placedIn ph s columns memo 0 n in
       let e : n - k ≡ suc (n - (k + 1)) = omega arith in
-      let parts : List Block = columnParts s m (columnOf (rs .table) s size columns memo n k) (nextPlace memo n k) in
-      let later : List Block = structureBlocks rs s size m all (placedIn columns memo (k + 1) (n - (k + 1))) in
-      let whole : structureBlocks rs s size m all (placedIn columns memo k (n - k)) ≡ parts ++ later =
-      rw e (structure-cons rs s size m columns memo n k (n - (k + 1)) (omega arith)) in
+      let parts : List Block = columnParts s m ats (columnOf ph (rs .table) s size columns memo n k) (nextPlace memo n k) in
+      let later : List Block = structureBlocks rs s size m ats all (placedIn ph s columns memo (k + 1) (n - (k + 1))) in
+      let whole : structureBlocks rs s size m ats all (placedIn ph s columns memo k (n - k)) ≡ parts ++ later =
+      rw e (structure-cons ph rs s size m ats columns memo n k (n - (k + 1)) (omega arith)) in
       let o : Ordered to (parts ++ later) (length out) = rw whole at (t .ordered) in
       record {
         few = omega arith;

@@ -114,7 +114,21 @@ pub(crate) fn write_file(
         numbers.history,
         numbers.metadata,
     );
-    let e = write_structure(out, d, image, table, size, columns, copies, n, used);
+    let photos = choices.photos;
+    let e = write_structure(
+        out,
+        d,
+        image,
+        photos,
+        table,
+        size,
+        columns,
+        copies,
+        n,
+        used,
+        numbers.metadata,
+        numbers.attachments,
+    );
     let kept = first_fragments(fragments);
     let f = write_data(
         out,

@@ -7,6 +7,7 @@ mod data;
 mod file;
 mod front;
 mod gap;
+mod led;
 mod omissions;
 mod own;
 mod placed;

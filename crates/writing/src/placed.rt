@@ -4,6 +4,7 @@ use channels::channel_type;
 use channels::per_full;
 use channels::width_of;
 use choices::treatment_of;
+use photos::photos_of;
 ghost use mathlib.Core.Path.{_≡_};
 ghost use Prim.Native.Nat.{_≤_, _<_};
 ghost use lib.ListN.{length};
@@ -16,7 +17,7 @@ ghost use Rattle.writing.specs.PlacedIn.{masterIn, signalIn};
 ghost use Rattle.writing.specs.Structure.{masterPlace, nextPlace, columnOf, Near};
 
 // Its CN in the image and the type that it is stored with, its CG and DG, its number of records, whether its master is in another group and that group's new CG; the places of its
-// DG, CN, first data block and SD, 0 without signal data; the number of its data blocks and the payload of one.
+// DG, CN, first data block and SD, 0 without signal data; the number of its data blocks, of its references to attachments, and the payload of one.
 pub struct PlacedColumn {
     pub channel: u64,
     pub stored: u64,
@@ -30,6 +31,7 @@ pub struct PlacedColumn {
     pub first: u64,
     pub sd: u64,
     pub blocks: u64,
+    pub photos: u64,
     pub payload: u64,
 }
 
@@ -120,6 +122,7 @@ fn stored_type(image: &[u8], table: &[u8], c: u64) -> u64
 // Column number k of n.
 pub(crate) fn column_of(
     image: &[u8],
+    photos: bool,
     table: &[u8],
     size: u64,
     columns: &[u64],
@@ -128,7 +131,7 @@ pub(crate) fn column_of(
     k: u64,
 ) -> PlacedColumn
     requires { ⌜ Near (now memo) n × (k < n) × (4096 ≤ length (now columns)) ⌝ }
-    ensures { λ r. ⌜ r ≡ columnOf (now (table .entry)) (now (image .entry)) size (now (columns .entry)) (now (memo .entry)) n k ⌝ }
+    ensures { λ r. ⌜ (r ≡ columnOf photos (now (table .entry)) (now (image .entry)) size (now (columns .entry)) (now (memo .entry)) n k) × (r .photos ≤ 65535) ⌝ }
 {
     let i = (8 * k) as usize;
     let j = (6656 + 3 * k) as usize;
@@ -144,6 +147,7 @@ pub(crate) fn column_of(
     let blocks = blocks_of(image, size, group, channel, records);
     let payload = payload_of(image, size, group, channel, records);
     let stored = stored_type(image, table, channel);
+    let references = photos_of(photos, image, channel);
     PlacedColumn {
         channel,
         stored,
@@ -157,6 +161,7 @@ pub(crate) fn column_of(
         first: memo[j + 1],
         sd,
         blocks,
+        photos: references,
         payload,
     }
 }

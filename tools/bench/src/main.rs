@@ -36,6 +36,7 @@ extern "C" {
 struct Options {
     unit: u64,
     share: bool,
+    photos: bool,
 }
 
 // Of C: the processor time of this thread.
@@ -93,7 +94,7 @@ fn call(image: &[u8], lent: &Lent, work: &mut [Vec<u64>; 4], out: &mut [u8], lis
         return unsafe {
             sitaungo_convert_with(
                 image.as_ptr(), image.len(), BLOCK, lent.ident.as_ptr(), 64, lent.text.as_ptr(), lent.text.len(), lent.time,
-                Options { unit: 8, share: true }, [].as_ptr(), 0,
+                Options { unit: 8, share: true, photos: false }, [].as_ptr(), 0,
                 a.as_mut_ptr(), a.len(), b.as_mut_ptr(), b.len(), c.as_mut_ptr(), c.len(), d.as_mut_ptr(), d.len(),
                 out.as_mut_ptr(), out.len(), list.as_mut_ptr(), list.len(),
             )

@@ -71,7 +71,8 @@ impl Pair {
         Finding { rust, port, verdict }
     }
 
-    fn convert(&mut self, call: &mut Call) -> Option<port_side::Answer> {
+    /// The port's answer, with as much output as it asks for.
+    pub fn convert(&mut self, call: &mut Call) -> Option<port_side::Answer> {
         let first = self.port.convert(call)?;
         match first.refused {
             Some((20, needed)) if needed > call.out as u64 && needed < 1 << 28 => {

@@ -3,6 +3,7 @@
 //! differ RUNS SEED: images made from a seed; the tables of docs/COMPARED.md, and each disagreement; the first one is shrunk and saved.
 //! differ image SEED K FILE: image K of a seed, written to a file.
 //! differ one FILE SIZE [share]: one image with one block size, without a choice or with one clock for many groups.
+//! differ one FILE SIZE photos [unit=N] [types=A,B,..] [share]: one image with references to attachments and what else is chosen.
 //! differ answers FILE: the list of answers for crates/answers.
 //! differ files RUNS SEED: the reader of column files beside a plain one.
 //! differ plots RUNS SEED: tables of ranges beside single reads and the plain reader.
@@ -10,6 +11,8 @@
 //! differ types RUNS SEED: the images of a seed with a table of treatments each, beside a model of planning.
 //! differ share RUNS SEED: images whose groups share clocks, with that choice, beside the Rust and a model.
 //! differ clocks SEED K FILE: image K of these, written to a file.
+//! differ photos RUNS SEED: images whose channels refer to attachments, with that choice and others, beside a model.
+//! differ references SEED K FILE: image K of these, written to a file.
 mod alone;
 mod answers;
 mod blocks;
@@ -22,6 +25,7 @@ mod generate;
 mod listed;
 mod model;
 mod omissions;
+mod photos;
 mod port_side;
 mod random;
 mod result;
@@ -53,8 +57,11 @@ fn main() -> ExitCode {
         ["port"] => port_side::run(),
         ["image", seed, k, file] => std::fs::write(file, Case::of(number(seed), number(k)).bytes()).unwrap(),
         ["clocks", seed, k, file] => std::fs::write(file, Case::clocks(number(seed), number(k)).bytes()).unwrap(),
+        ["references", seed, k, file] => std::fs::write(file, Case::photos(number(seed), number(k)).bytes()).unwrap(),
         ["one", file, size] => return one(file, number(size)),
+        ["one", file, size, "photos", ref words @ ..] => return status(photos::one(&std::fs::read(file).unwrap(), number(size), words)),
         ["one", file, size, "share"] => return status(share::one(&std::fs::read(file).unwrap(), number(size))),
+        ["photos", runs, seed] => return status(photos::compared(number(runs), number(seed))),
         ["share", runs, seed] => return status(share::compared(number(runs), number(seed))),
         ["answers", file] => return status(answers::write(file)),
         ["files", runs, seed] => return status(files::compared(number(runs), number(seed))),
@@ -63,7 +70,8 @@ fn main() -> ExitCode {
         ["types", runs, seed] => return status(types::compared(number(runs), number(seed))),
         [runs, seed] => return compared(number(runs), number(seed)),
         _ => {
-            eprintln!("differ RUNS SEED | (image | clocks) SEED K FILE | one FILE SIZE [share] | answers FILE | (files | plots | units | types | share) RUNS SEED");
+            eprintln!("differ RUNS SEED | (image | clocks | references) SEED K FILE | one FILE SIZE [share | photos CHOICE...] | answers FILE");
+            eprintln!("differ (files | plots | units | types | share | photos) RUNS SEED");
             return ExitCode::from(2);
         }
     }

@@ -1,6 +1,7 @@
 //! Planning by what a call chooses, written from documents 01 and 02 apart from the port: the columns and omissions that are due of a recording whose
 //! reading is sound, or the refusal that planning meets first.
 use crate::blocks::{data_field, field, kind_at, link, link_count, word};
+use crate::photos::model::references;
 use crate::walk::{claimed, data_groups, fragments, DataGroup, RECORDS};
 use std::collections::HashSet;
 use std::ops::Range;
@@ -66,6 +67,8 @@ pub struct Column {
     pub master: Option<usize>,
     /// The group that has the master: its own, or that at its group's remote link; of a time column that it is made of.
     pub axis: Option<usize>,
+    /// Its channel's references to attachments, where they are kept.
+    pub photos: Vec<usize>,
 }
 
 #[derive(Default)]
@@ -89,13 +92,16 @@ struct Model<'a> {
     groups: Vec<Group>,
     /// For each group the one whose master stands for its own: itself, or an earlier one.
     stands: &'a [usize],
+    /// The header's attachments, where references to them are kept.
+    attachments: Option<&'a [usize]>,
     /// Fragments met so far.
     fragments: usize,
     plan: Plan,
 }
 
-/// Of a recording that identification, HD, walk and counts accept. `stands`: for each group the one whose master stands for its own.
-pub fn plan(image: &[u8], treatments: &Treatments, stands: &[usize]) -> Result<Plan, Refusal> {
+/// Of a recording that identification, HD, walk and counts accept. `stands`: for each group the one whose master stands for its own. `attachments`: the
+/// header's, where references to them are kept.
+pub fn plan(image: &[u8], treatments: &Treatments, stands: &[usize], attachments: Option<&[usize]>) -> Result<Plan, Refusal> {
     let mut groups = Vec::new();
     let mut met = 0;
     for d in data_groups(image) {
@@ -104,7 +110,7 @@ pub fn plan(image: &[u8], treatments: &Treatments, stands: &[usize]) -> Result<P
         met += list.len();
         groups.extend(d.groups.into_iter().zip(counts).map(|(g, records)| Group { at: g.at, channels: g.channels, records }));
     }
-    let mut m = Model { image, treatments, groups, stands, fragments: met, plan: Plan::default() };
+    let mut m = Model { image, treatments, groups, stands, attachments, fragments: met, plan: Plan::default() };
     (0..m.groups.len()).try_for_each(|g| m.group(g))?;
     Ok(m.plan)
 }
@@ -207,7 +213,7 @@ impl Model<'_> {
             self.plan.omissions.push((at as u64, 1));
         }
         let axis = if own.is_some() { Some(g) } else { remote.filter(|_| agrees) };
-        let master = axis.map(|t| self.time(self.stands.get(t).copied().unwrap_or(t)));
+        let master = axis.map(|t| self.time(self.stands.get(t).copied().unwrap_or(t))).transpose()?;
         for cn in self.groups[g].channels.clone() {
             if Some(cn) != own {
                 self.channel(g, cn, master, axis)?;
@@ -217,10 +223,18 @@ impl Model<'_> {
     }
 
     /// The time column of a group with a master.
-    fn time(&mut self, g: usize) -> usize {
+    fn time(&mut self, g: usize) -> Result<usize, Refusal> {
         let (records, channel) = (self.groups[g].records, self.master(g).unwrap());
-        let column = Column { channel, records, stored: self.kind(channel), signal: None, time: true, master: None, axis: Some(g) };
-        self.plan.columns.iter().position(|c| c.channel == channel).unwrap_or_else(|| self.add(column))
+        if let Some(planned) = self.plan.columns.iter().position(|c| c.channel == channel) {
+            return Ok(planned);
+        }
+        let photos = self.photos(channel)?;
+        Ok(self.add(Column { channel, records, stored: self.kind(channel), signal: None, time: true, master: None, axis: Some(g), photos }))
+    }
+
+    /// 28, where references are kept.
+    fn photos(&self, channel: usize) -> Result<Vec<usize>, Refusal> {
+        self.attachments.map_or(Ok(Vec::new()), |attachments| references(self.image, channel, attachments))
     }
 
     fn add(&mut self, column: Column) -> usize {
@@ -233,11 +247,12 @@ impl Model<'_> {
             self.plan.omissions.push((channel as u64, reason));
             return Ok(());
         }
+        let photos = self.photos(channel)?;
         let (kind, data) = (self.kind(channel), link(self.image, channel, 5));
         let treated = self.treatments.treat(kind);
         let signal = if kind == 1 && treated == Keep && data != 0 { Some(self.signal_data(data)?) } else { None };
         let stored = if treated == StoreAs0 { 0 } else { kind };
-        self.add(Column { channel, records: self.groups[g].records, stored, signal, time: false, master, axis });
+        self.add(Column { channel, records: self.groups[g].records, stored, signal, time: false, master, axis, photos });
         Ok(())
     }
 

@@ -30,6 +30,7 @@ struct Outcome {
 struct Options {
     unit: u64,
     share: bool,
+    photos: bool,
 }
 
 #[rustfmt::skip]
@@ -92,12 +93,14 @@ pub struct Choices {
     pub types: Vec<u8>,
     /// Whether groups with equal times get one time column.
     pub share: bool,
+    /// Whether columns keep references to attachments.
+    pub photos: bool,
 }
 
 impl Choices {
     /// What the call that chooses nothing stands for.
     pub fn none() -> Choices {
-        Choices { unit: 8, types: Vec::new(), share: false }
+        Choices { unit: 8, types: Vec::new(), share: false, photos: false }
     }
 
     pub fn share(share: bool) -> Option<Choices> {
@@ -178,7 +181,7 @@ fn packed(call: &Call, lists: bool) -> Vec<u8> {
     let mut p = Pack::default();
     p.bytes(call.image);
     p.words(&[call.image_len as u64, call.size, call.lent.time, call.out as u64, call.list as u64]);
-    p.words(&[lists as u64, call.choices.is_some() as u64, choices.unit, choices.share as u64]);
+    p.words(&[lists as u64, call.choices.is_some() as u64, choices.unit, choices.share as u64, choices.photos as u64]);
     p.words(&call.work.map(|n| n as u64));
     p.bytes(&choices.types);
     p.bytes(&call.lent.ident);
@@ -241,11 +244,11 @@ impl Slices {
         let mut u = Unpack(request);
         let bytes = u.bytes();
         let [image_len, size, time, out, list] = u.words();
-        let [lists, chooses, unit, share] = u.words();
+        let [lists, chooses, unit, share, photos] = u.words();
         let work = u.words().map(|n| n as usize);
         let longer = lengthened(bytes, image_len as usize);
         let (image, out, list, chooses) = (longer.as_deref().unwrap_or(bytes), out as usize, list as usize, chooses == 1);
-        let options = Options { unit, share: share == 1 };
+        let options = Options { unit, share: share == 1, photos: photos == 1 };
         let r = Request { image, size, chooses, options, types: u.bytes(), time, out, list, work, ident: u.bytes(), text: u.bytes() };
         self.prepare(&r);
         if lists == 1 {

@@ -2,8 +2,9 @@
 use crate::blocks::{data_field, kind_at, link, link_count, word};
 use crate::walk::{data_groups, DataGroup};
 
-/// A column: where its CG, CN, DL, data blocks and SD stand.
+/// A column: where its DG, CG, CN, DL, data blocks and SD stand.
 pub struct Column {
+    pub dg: usize,
     pub cg: usize,
     pub cn: usize,
     pub dl: usize,
@@ -20,7 +21,7 @@ pub fn columns(file: &[u8]) -> Vec<Column> {
         let (dl, cn) = (link(file, d.at, 2), *g.channels.first()?);
         let listed = if dl == 0 { 1 } else { link_count(file, dl).min(file.len() as u64) as usize };
         let blocks = (1..listed).map(|i| link(file, dl, i)).collect();
-        Some(Column { cg: g.at, cn, dl, blocks, signal: Some(link(file, cn, 5)).filter(|at| *at != 0) })
+        Some(Column { dg: d.at, cg: g.at, cn, dl, blocks, signal: Some(link(file, cn, 5)).filter(|at| *at != 0) })
     };
     data_groups(file).iter().filter_map(one).collect()
 }

@@ -53,6 +53,11 @@ struct Made {
 
 impl Maker<'_> {
     pub fn clocks(mut self) -> Draft {
+        self.record_clocks();
+        self.draft
+    }
+
+    pub fn record_clocks(&mut self) {
         self.draft.version = if self.random.percent(97) { *b"4.10    " } else { super::version::any(self.random) };
         self.parts = 4;
         if self.random.percent(3) {
@@ -71,7 +76,6 @@ impl Maker<'_> {
         self.chain_up(HD, &data_groups);
         self.remote_users(&made);
         self.reserved_bytes();
-        self.draft
     }
 
     /// How many groups each DG has.

@@ -5,6 +5,10 @@ use crate::blocks::{Draft, Id, Image, Kind, Link, HD};
 use crate::random::Random;
 
 pub fn image(random: &mut Random) -> Image {
+    record(random).draft.place()
+}
+
+pub fn record(random: &mut Random) -> Maker<'_> {
     let near = random.pick(&[-1, 0, 0, 1, 1, 2]);
     let count = |limit: i64| (limit + near) as usize;
     let mut m = Maker::new(random);
@@ -21,7 +25,7 @@ pub fn image(random: &mut Random) -> Image {
         _ => m.wide_sums(),
     }
     m.draft.mark("counts around a limit");
-    m.draft.place()
+    m
 }
 
 /// One group of one-byte records over a fragment of so many bytes, listed 1,024 times, whose header ends the image; and the address of its CN.

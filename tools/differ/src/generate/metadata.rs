@@ -88,7 +88,7 @@ impl Maker<'_> {
         self.share(id)
     }
 
-    fn not_copied(&mut self) -> Id {
+    pub fn not_copied(&mut self) -> Id {
         self.draft.mark("metadata link to a kind that isn't copied");
         let kind = *self.random.pick(&NOT_COPIED);
         let n = self.random.below(9);
@@ -195,7 +195,7 @@ impl Maker<'_> {
         Some(chain[0])
     }
 
-    fn attachment(&mut self) -> Id {
+    pub fn attachment(&mut self) -> Id {
         let n = if self.random.percent(10) { self.random.range(5, 8) } else { 4 };
         let mut links: Vec<Link> = (0..n).map(|_| self.metadata(50)).collect();
         links[0] = None;

@@ -5,12 +5,14 @@ mod data;
 mod groups;
 mod limits;
 mod metadata;
+mod photos;
 mod version;
 
 use crate::blocks::{Draft, Id, Image, HD};
 use crate::random::Random;
 
 pub use limits::many_blocks;
+pub use photos::image as photos;
 
 /// Block sizes that conversions are tried with.
 pub const SIZES: [u64; 6] = [1, 7, 64, 100, 1000, 4_194_304];
@@ -64,6 +66,11 @@ impl<'a> Maker<'a> {
     }
 
     fn recording(mut self) -> Draft {
+        self.record();
+        self.draft
+    }
+
+    fn record(&mut self) {
         self.draft.version = version::any(self.random);
         self.header();
         let n = self.random.pick(&[0, 1, 1, 1, 1, 1, 1, 1, 1, 1, 1, 2, 2, 2, 2, 2, 3, 3, 4]);
@@ -74,7 +81,6 @@ impl<'a> Maker<'a> {
         self.chain_up(HD, &data_groups);
         self.remote_masters();
         self.reserved_bytes();
-        self.draft
     }
 
     fn reserved_bytes(&mut self) {

@@ -1,7 +1,7 @@
 //! differ share RUNS SEED: images whose groups share clocks on purpose, converted with the choice of one clock for many groups, held to the Rust with its
 //! own and to a model; see docs/COMPARED.md. Every image is converted without the choice too, and every `ALL`th with a unit, a table and a listing.
 pub mod listed;
-mod model;
+pub mod model;
 mod tally;
 
 use crate::case::Case;
@@ -136,7 +136,7 @@ fn held(pair: &mut Pair, s: &Subject, k: u64, seed: u64, tally: &mut Tally) -> R
         return Err("the model shares otherwise than the Rust by decoded units".into());
     }
     let stands = clocks.stands(By::Bytes);
-    let due = plan(s.image, &BUILT_IN, &stands).map_err(|due| format!("the model refuses with {due:?}, the port accepts"))?;
+    let due = plan(s.image, &BUILT_IN, &stands, None).map_err(|due| format!("the model refuses with {due:?}, the port accepts"))?;
     planned(&clocks, &stands, &due, with)?;
     tally.count_planned(&stands, &due, sound);
     if k % ALL == 0 {
@@ -202,7 +202,7 @@ fn more(pair: &mut Pair, s: &Subject, clocks: &Clocks, stands: &[usize], random:
     }
     let table = tables::sound(random);
     let treatments = Treatments::of(&table).ok_or("no table")?;
-    let Ok(due) = plan(s.image, &treatments, stands) else { return Ok(()) };
+    let Ok(due) = plan(s.image, &treatments, stands, None) else { return Ok(()) };
     let choices = Choices { types: table.clone(), ..choices };
     let out = match pair.port.convert(&call(choices.clone(), 0)).ok_or("the port ended")?.refused {
         Some((20, bytes)) => bytes as usize,

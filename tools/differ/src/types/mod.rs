@@ -1,7 +1,7 @@
 //! differ types RUNS SEED: images converted with a table of treatments each; see docs/COMPARED.md. Every image is converted without a choice, held to the
 //! Rust; with an empty table, which changes nothing; and with a random one, held to a model of planning and to the Rust's result of the recording that
 //! stands for it by what is built in. Every `ALL`th is tried with more tables, some of them wrong.
-mod aim;
+pub mod aim;
 pub mod tables;
 mod tally;
 mod treated;
@@ -89,7 +89,7 @@ impl Run {
             self.tally.overlapping += 1;
             return Ok(());
         };
-        let usual = if reading.is_none() { plan(image, &BUILT_IN, &[]) } else { Ok(Plan::default()) };
+        let usual = if reading.is_none() { plan(image, &BUILT_IN, &[], None) } else { Ok(Plan::default()) };
         let s = Subject { image, size, found: &found, reading, usual };
         empty_table(&mut pair.port, &s)?;
         usual_plan(&s)?;
@@ -109,7 +109,7 @@ impl Run {
         let Some(treatments) = Treatments::of(table) else { return self.wrong(&mut pair.port, s, table) };
         let due = match s.reading {
             Some(refusal) => Err((Stage::Reading, refusal)),
-            None => plan(s.image, &treatments, &[]).map_err(|refusal| (Stage::Planning, refusal)),
+            None => plan(s.image, &treatments, &[], None).map_err(|refusal| (Stage::Planning, refusal)),
         };
         match due {
             Ok(plan) => self.planned(pair, s, table, &treatments, &plan, listed),
@@ -160,7 +160,7 @@ impl Run {
         work[table.len() % 4] -= 1;
         refuses(port, &call, (27, 0))?;
         self.lists(port, &call, "refused 27 place 0\n")?;
-        refuses(port, &Call { choices: Some(Choices { unit: 12, types: table.to_vec(), share: false }), ..call.clone() }, (26, 0))?;
+        refuses(port, &Call { choices: Some(Choices { unit: 12, types: table.to_vec(), ..Choices::none() }), ..call.clone() }, (26, 0))?;
         refuses(port, &Call { size: 0, ..call.clone() }, (2, 0))?;
         refuses(port, &Call { work, ..call.clone() }, (1, 0))?;
         self.tally.wrong += 1;
@@ -200,7 +200,7 @@ fn without_a_choice(pair: &mut Pair, image: &[u8], size: u64, k: u64) -> Result<
 
 /// The refusal that reading ends with: that of the recording without columns, and without what its HD leads to. None where one byte has two meanings,
 /// so that types or links can't be changed alone.
-fn reading(pair: &mut Pair, image: &[u8], size: u64) -> Result<Option<Option<Refusal>>, String> {
+pub fn reading(pair: &mut Pair, image: &[u8], size: u64) -> Result<Option<Option<Refusal>>, String> {
     if !treated::is_plain(image) {
         return Ok(None);
     }

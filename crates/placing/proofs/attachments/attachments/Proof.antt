@@ -1,7 +1,8 @@
 -- What is left of the chain gives what the whole gives.
 use native.Mathlib.Omega.{arith}
 use borrow.Author.Needs.{needs}
-use Rattle.placing.specs.AttachingLaws.{indexed-attached, Fitting, attaches-fits, Chaining, chain-begin, chain-out, chain-ends, chain-refused, chain-stopped, chain-next}
+use Rattle.placing.specs.AttachingLaws.{indexed-attached, Chaining, chain-begin, chain-out, chain-ends, chain-refused, chain-stopped, chain-next}
+use Rattle.photos.specs.FollowedLaws.{Fitting, goes-fits}
 use Rattle.placing.specs.TurnLaws.{indexed-at, so-begun, after-at}
 use Rattle.placing.specs.Index.{Indexed}
 use Rattle.placing.specs.Got.{After}
@@ -54,7 +55,7 @@ enum-told-2 c = search needs
 at-links : (c : tie.After-enum-told2 Inv-loop μ-loop) → Fitting
     (c .before .before .before .before .before .before .before .before .args .image .now)
     (c .before .before .before .before .before .loop .at) (c .before .before .before .before .before .loop .count)
-at-links c = attaches-fits _ _ _ _ (so-begun (c .before .before .attaches .ensures) (c .enum-told2 .given .1))
+at-links c = goes-fits _ _ _ _ (so-begun (c .before .before .attaches .ensures) (c .enum-told2 .given .1))
 
 -- the state after the links
 at-own : (c : tie.After-known-told2 Inv-loop μ-loop) → After 0

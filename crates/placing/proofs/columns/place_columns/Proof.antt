@@ -6,14 +6,14 @@ use Rattle.placing.proofs.columns.place_columns.Statement.{statement}
 use Rattle.placing.proofs.columns.place_columns.Tie as tie
 
 abbrev Inv-loop : tie.InvT-loop
-Inv-loop image unit size fragments columns n memo₀ a d p₀ q₀ left₀ dg₀ past₀ memo p q left dg past = Placing unit image size columns
+Inv-loop image unit photos size fragments columns n memo₀ a d p₀ q₀ left₀ dg₀ past₀ memo p q left dg past = Placing unit photos image size columns
     fragments n a d memo₀ memo p q left dg past
 
 abbrev μ-loop : tie.MeasureT-loop
-μ-loop image unit size fragments columns n memo₀ a d p₀ q₀ left₀ dg₀ past₀ memo p q left dg past = left
+μ-loop image unit photos size fragments columns n memo₀ a d p₀ q₀ left₀ dg₀ past₀ memo p q left dg past = left
 
 loop-holds : tie.Need-loop-holds Inv-loop μ-loop
-loop-holds c = place-begin _ _ _ _ _ _ _ _ _ (c .before .before .before .before .pre .0) (c .before .before .before .before .pre .1) (c .before .before .before .before .pre .2) (c .before .before .before .before .pre .3) (c .before .before .before .before .pre .4) (c .before .before .before .before .pre .5) (c .before .before .before .before .pre .6)
+loop-holds c = place-begin _ _ _ _ _ _ _ _ _ _ (c .before .before .before .before .pre .0) (c .before .before .before .before .pre .1) (c .before .before .before .before .pre .2) (c .before .before .before .before .pre .3) (c .before .before .before .before .pre .4) (c .before .before .before .before .pre .5) (c .before .before .before .before .pre .6)
 
 first-of-requires : tie.Need-first-of-requires Inv-loop μ-loop
 first-of-requires c κs = (omega (arith, c .before .loop .inv .at), omega (arith, c .before .loop .inv .nearData), c .before .loop .inv .least, c .before .loop .inv .most)

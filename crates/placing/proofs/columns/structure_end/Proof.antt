@@ -6,13 +6,13 @@ use Rattle.placing.proofs.columns.structure_end.Statement.{statement}
 use Rattle.placing.proofs.columns.structure_end.Tie as tie
 
 abbrev Inv-loop : tie.InvT-loop
-Inv-loop image size columns n a p₀ left₀ end₀ p left end = Structuring image size columns n a p left end
+Inv-loop image photos size columns n a p₀ left₀ end₀ p left end = Structuring photos image size columns n a p left end
 
 abbrev μ-loop : tie.MeasureT-loop
-μ-loop image size columns n a p₀ left₀ end₀ p left end = left
+μ-loop image photos size columns n a p₀ left₀ end₀ p left end = left
 
 loop-holds : tie.Need-loop-holds Inv-loop μ-loop
-loop-holds c = structures-begin _ _ _ _ _ (c .before .before .pre .0) (c .before .before .pre .1) (c .before .before .pre .2)
+loop-holds c = structures-begin _ _ _ _ _ _ (c .before .before .pre .0) (c .before .before .pre .1) (c .before .before .pre .2)
 
 structure-at-requires : tie.Need-structure-at-requires Inv-loop μ-loop
 structure-at-requires c κs = (omega (arith, c .before .loop .inv .at), structure-few (c .before .loop .inv) (c .loop-test .taken))

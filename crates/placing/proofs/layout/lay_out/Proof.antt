@@ -27,8 +27,8 @@ add-fh c = let o = begins-at _ _ _ _ (c .before .before .before .before .before 
     (c .before .before .before .before .before .before .before .before .before .before .before .before .before .before .pre .3) in omega
     arith
 
-add-t30 : tie.Need-add-t30
-add-t30 c = let o = begins-at _ _ _ _ (c .before .before .before .before .before .before .before .before .before .first-copies .ensures .0)
+add-t31 : tie.Need-add-t31
+add-t31 c = let o = begins-at _ _ _ _ (c .before .before .before .before .before .before .before .before .before .first-copies .ensures .0)
     (c .before .before .before .before .before .begun .given .1) in let z = first-near o (c .before .before .before .aligned .ensures) _
     (c .before .before .md-bytes .ensures)
     (c .before .before .before .before .before .before .before .before .before .before .before .before .before .before .before .before .pre .3)
@@ -83,21 +83,21 @@ enum-known-rest : tie.Need-enum-known-rest
 enum-known-rest c = search needs
 
 same-length : tie.Need-same-length
-same-length c = omega (arith, c .before .before .before .before .before .before .before .before .before .before .before .before .before .before .before .before .before .before .before .before .before .before .before .first-copies .kept .1 .0, c .before .before .before .before .before .before .before .before .before .before .before .before .before .copy-columns .kept .1 .1 .1 .0, c .before .before .before .before .before .place-rest .kept .1 .1 .1 .1 .1 .1 .0)
+same-length c = omega (arith, c .before .before .before .before .before .before .before .before .before .before .before .before .before .before .before .before .before .before .before .before .before .before .before .first-copies .kept .1 .0, c .before .before .before .before .before .before .before .before .before .before .before .before .before .copy-columns .kept .1 .1 .1 .0, c .before .before .before .before .before .place-rest .kept .1 .1 .1 .1 .1 .1 .1 .0)
 
 returns : tie.Need-returns
 returns c = let o = begins-at _ _ _ _
     (c .before .before .before .before .before .before .before .before .before .before .before .before .before .before .before .before .before .before .before .before .before .before .before .first-copies .ensures .0)
     (c .before .before .before .before .before .before .before .before .before .before .before .before .before .before .before .before .before .before .before .begun .given .1)
-    in whole-done _ _ _ _ _ _ _ _ o
+    in whole-done _ _ _ _ _ _ _ _ _ o
     (c .before .before .before .before .before .before .before .before .before .before .before .before .before .before .before .before .before .aligned .ensures)
     (c .before .before .before .before .before .before .before .before .before .before .before .before .before .before .before .before .md-bytes .ensures)
     (c .before .before .before .before .before .before .before .before .before .before .before .before .before .copy-columns .ensures .0)
-    (c .before .before .before .before .before .before .before .before .before .got .given .1) (rests-at _ _ _ _ _ _ _ _ _ _
+    (c .before .before .before .before .before .before .before .before .before .got .given .1) (rests-at _ _ _ _ _ _ _ _ _ _ _
     (c .before .before .before .before .before .place-rest .ensures) (c .before .rest .given .1))
     (c .before .before .before .before .before .before .before .before .before .before .before .before .before .before .before .before .before .before .before .before .before .before .before .first-copies .kept .1 .0)
     (c .before .before .before .before .before .before .before .before .before .before .before .before .before .copy-columns .kept .1 .1 .1 .0)
-    (c .before .before .before .before .before .place-rest .kept .1 .1 .1 .1 .1 .1 .0)
+    (c .before .before .before .before .before .place-rest .kept .1 .1 .1 .1 .1 .1 .1 .0)
     (c .before .before .before .before .before .before .before .before .before .before .before .before .before .before .before .before .before .before .before .before .before .before .before .before .before .before .before .before .before .before .pre .1)
     (c .before .before .before .before .before .before .before .before .before .before .before .before .before .copy-columns .ensures .1 .0)
 
@@ -111,7 +111,7 @@ returns-2 : tie.Need-returns-2
 returns-2 c = let o = begins-at _ _ _ _
     (c .before .before .before .before .before .before .before .before .before .before .before .before .before .before .before .before .before .before .before .before .before .before .before .first-copies .ensures .0)
     (c .before .before .before .before .before .before .before .before .before .before .before .before .before .before .before .before .before .before .before .begun .given .1)
-    in whole-rest _ _ _ _ _ _ _ _ o
+    in whole-rest _ _ _ _ _ _ _ _ _ o
     (c .before .before .before .before .before .before .before .before .before .before .before .before .before .before .before .before .before .aligned .ensures)
     (c .before .before .before .before .before .before .before .before .before .before .before .before .before .before .before .before .md-bytes .ensures)
     (c .before .before .before .before .before .before .before .before .before .before .before .before .before .copy-columns .ensures .0)
@@ -127,7 +127,7 @@ same-length-3 c = search needs
 returns-3 : tie.Need-returns-3
 returns-3 c = let o = begins-at _ _ _ _
     (c .before .before .before .before .before .before .before .before .before .before .before .before .before .before .before .first-copies .ensures .0)
-    (c .before .before .before .before .before .before .before .before .before .before .before .begun .given .1) in whole-columns _ _ _ _ _
+    (c .before .before .before .before .before .before .before .before .before .before .before .begun .given .1) in whole-columns _ _ _ _ _ _
     _ _ _ o (c .before .before .before .before .before .before .before .before .before .aligned .ensures)
     (c .before .before .before .before .before .before .before .before .md-bytes .ensures)
     (c .before .before .before .before .before .copy-columns .ensures .0) (c .before .got2 .given .1)
@@ -139,7 +139,7 @@ same-length-4 : tie.Need-same-length-4
 same-length-4 c = search needs
 
 returns-4 : tie.Need-returns-4
-returns-4 c = whole-first _ _ _ _ _ _ _ _ _ _ (c .before .before .before .before .before .first-copies .ensures .0)
+returns-4 c = whole-first _ _ _ _ _ _ _ _ _ _ _ (c .before .before .before .before .before .first-copies .ensures .0)
     (c .before .begun2 .given .1)
 
 pub lay-out-spec : {M : Type 1} → statement M
@@ -151,7 +151,7 @@ lay-out-spec =
     aligned-requires
     md-bytes-requires
     add-fh
-    add-t30
+    add-t31
     copy-columns-requires
     enum-known-got
     place-rest-requires

@@ -12,7 +12,7 @@ aligned-requires : tie.Need-aligned-requires
 aligned-requires c κs = search needs
 
 structure-end-requires : tie.Need-structure-end-requires
-structure-end-requires c κs = let x = rest-near (c .before .before .before .before .before .args .unit) (c .before .before .before .before .before .args .image .now)
+structure-end-requires c κs = let x = rest-near (c .before .before .before .before .before .args .unit) (c .before .before .before .before .before .args .photos) (c .before .before .before .before .before .args .image .now)
     (c .before .before .before .before .before .args .size) (c .before .before .before .before .before .args .columns .now)
     (c .before .before .before .before .before .args .fragments .now) (c .before .before .before .before .before .args .n)
     (c .before .before .before .before .before .args .state) (c .aligned .ensures) refl refl
@@ -23,7 +23,7 @@ structure-end-requires c κs = let x = rest-near (c .before .before .before .bef
     )
 
 place-columns-requires : tie.Need-place-columns-requires
-place-columns-requires c κs = let x = rest-near (c .before .before .before .before .before .before .before .args .unit) (c .before .before .before .before .before .before .before .args .image .now)
+place-columns-requires c κs = let x = rest-near (c .before .before .before .before .before .before .before .args .unit) (c .before .before .before .before .before .before .before .args .photos) (c .before .before .before .before .before .before .before .args .image .now)
     (c .before .before .before .before .before .before .before .args .size)
     (c .before .before .before .before .before .before .before .args .columns .now)
     (c .before .before .before .before .before .before .before .args .fragments .now)
@@ -44,7 +44,7 @@ link-at-requires : tie.Need-link-at-requires
 link-at-requires c κs = search needs
 
 attachments-requires : tie.Need-attachments-requires
-attachments-requires c κs = let x = rest-near (c .before .before .before .before .before .before .before .before .before .before .before .before .before .args .unit) (c .before .before .before .before .before .before .before .before .before .before .before .before .before .args .image .now)
+attachments-requires c κs = let x = rest-near (c .before .before .before .before .before .before .before .before .before .before .before .before .before .args .unit) (c .before .before .before .before .before .before .before .before .before .before .before .before .before .args .photos) (c .before .before .before .before .before .before .before .before .before .before .before .before .before .args .image .now)
     (c .before .before .before .before .before .before .before .before .before .before .before .before .before .args .size)
     (c .before .before .before .before .before .before .before .before .before .before .before .before .before .args .columns .now)
     (c .before .before .before .before .before .before .before .before .before .before .before .before .before .args .fragments .now)
@@ -58,7 +58,7 @@ attachments-requires c κs = let x = rest-near (c .before .before .before .befor
       omega (
         arith,
         c .before .before .before .before .before .before .before .before .before .before .before .before .before .pre .1,
-        c .before .before .before .before .before .place-columns .kept .1 .1 .1 .1 .1 .1 .0,
+        c .before .before .before .before .before .place-columns .kept .1 .1 .1 .1 .1 .1 .1 .0,
       ),
       c .before .before .before .before .before .before .before .before .before .before .before .before .before .pre .2,
       c .before .before .before .before .before .before .before .before .before .before .before .before .before .pre .3,
@@ -73,7 +73,7 @@ same-length : tie.Need-same-length
 same-length c = search needs
 
 returns : tie.Need-returns
-returns c = rest-moved _ _ _ _ _ _ _ _
+returns c = rest-moved _ _ _ _ _ _ _ _ _
     (c .before .before .before .before .before .before .before .before .before .before .before .before .before .before .aligned .ensures)
     (c .before .before .before .before .before .before .before .before .before .before .before .before .before .structure-end .ensures)
     (c .before .before .before .before .before .before .before .before .before .before .before .place-columns .ensures .0)
@@ -89,7 +89,7 @@ same-length-2 : tie.Need-same-length-2
 same-length-2 c = search needs
 
 returns-2 : tie.Need-returns-2
-returns-2 c = rest-refused _ _ _ _ _ _ _ _
+returns-2 c = rest-refused _ _ _ _ _ _ _ _ _
     (c .before .before .before .before .before .before .before .before .before .before .before .before .before .before .aligned .ensures)
     (c .before .before .before .before .before .before .before .before .before .before .before .before .before .structure-end .ensures)
     (c .before .before .before .before .before .before .before .before .before .before .before .place-columns .ensures .0)

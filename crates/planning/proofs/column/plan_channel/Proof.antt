@@ -17,8 +17,8 @@ enum-known-decision-2 c = search needs
 put-omission-requires : tie.Need-put-omission-requires
 put-omission-requires c κs = search needs
 
-add-t27 : tie.Need-add-t27
-add-t27 c = search needs
+add-t28 : tie.Need-add-t28
+add-t28 c = search needs
 
 enum-known-decision-3 : tie.Need-enum-known-decision-3
 enum-known-decision-3 c = search needs
@@ -27,17 +27,17 @@ signal-word-requires : tie.Need-signal-word-requires
 signal-word-requires c κs = search needs
 
 sub-put-column : tie.Need-sub-put-column
-sub-put-column c = omega (arith, channel-bounds _ _ _ _ _ _
+sub-put-column c = omega (arith, channel-bounds _ _ _ _ _ _ _
     (c .before .before .before .before .before .before .before .decide .result)
-    (c .before .before .before .before .before .before .before .decide .last .1 .1 .0)
+    (c .before .before .before .before .before .before .before .decide .last .1 .1 .1 .0)
     (c .before .before .before .before .before .before .before .decide .ensures) (c .before .before .before .decision3 .given .1)
     (omega arith))
 
 put-column-requires : tie.Need-put-column-requires
 put-column-requires c κs = search needs
 
-add-t31 : tie.Need-add-t31
-add-t31 c = search needs
+add-t32 : tie.Need-add-t32
+add-t32 c = search needs
 
 same-length : tie.Need-same-length
 same-length c = search needs
@@ -77,12 +77,12 @@ plan-channel-spec =
     enum-known-decision
     enum-known-decision-2
     put-omission-requires
-    add-t27
+    add-t28
     enum-known-decision-3
     signal-word-requires
     sub-put-column
     put-column-requires
-    add-t31
+    add-t32
     same-length
     returns
     same-length-2

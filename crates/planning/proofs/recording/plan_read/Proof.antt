@@ -1,46 +1,42 @@
--- Which masters stand for others, then the plan.
-use Rattle.planning.specs.AnswerLaws.{read-unshared, read-shared}
+-- The attachments, then the rest.
+use Rattle.planning.specs.AnswerLaws.{read-astray, read-followed}
 use borrow.Author.Needs.{needs}
 use Rattle.planning.proofs.recording.plan_read.Statement.{statement}
 use Rattle.planning.proofs.recording.plan_read.Tie as tie
 
-shared-in-requires : tie.Need-shared-in-requires
-shared-in-requires c κs = search needs
+photos-first-requires : tie.Need-photos-first-requires
+photos-first-requires c κs = search needs
 
-enum-known-known : tie.Need-enum-known-known
-enum-known-known c = search needs
-
-same-length : tie.Need-same-length
-same-length c = search needs
+enum-known-followed : tie.Need-enum-known-followed
+enum-known-followed c = search needs
 
 returns : tie.Need-returns
-returns c = read-unshared _ _ _ _ _ _ _ _ _ (c .before .before .before .shared-in .ensures) (c .before .known .given .1)
+returns c = read-astray _ _ _ _ _ _ _ _ (c .before .before .before .photos-first .ensures) (c .before .followed .given .1)
 
 enum-told : tie.Need-enum-told
 enum-told c = search needs
 
-plan-stood-requires : tie.Need-plan-stood-requires
-plan-stood-requires c κs = search needs
+plan-shared-requires : tie.Need-plan-shared-requires
+plan-shared-requires c κs = search needs
+
+same-length : tie.Need-same-length
+same-length c = search needs
 
 same-length-2 : tie.Need-same-length-2
 same-length-2 c = search needs
 
-same-length-3 : tie.Need-same-length-3
-same-length-3 c = search needs
-
 returns-2 : tie.Need-returns-2
-returns-2 c = read-shared _ _ _ _ _ _ _ _ _ (c .before .before .before .before .before .before .before .before .before .before .shared-in .ensures) (c .before .before .before .before .before .before .before .before .enum-told .given .1) (c .before .before .before .before .plan-stood .ensures)
+returns-2 c = read-followed _ _ _ _ _ _ _ _ (c .before .before .before .before .before .before .before .before .before .photos-first .ensures) (c .before .before .before .before .before .before .before .enum-told .given .1) (c .before .before .before .before .plan-shared .ensures)
 
 pub plan-read-spec : {M : Type 1} → statement M
 plan-read-spec =
     tie.close
     (tie.spec
-    shared-in-requires
-    enum-known-known
-    same-length
+    photos-first-requires
+    enum-known-followed
     returns
     enum-told
-    plan-stood-requires
+    plan-shared-requires
+    same-length
     same-length-2
-    same-length-3
     returns-2)

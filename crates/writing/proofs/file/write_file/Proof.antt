@@ -92,7 +92,7 @@ write-structure-requires c κs =
         (c .before .before .before .before .before .before .before .before .before .before .before .write-copies .ensures) in
     let b3 = new-done s _ b2 (c .before .before .before .before .before .before .before .write-history .ensures) in
     let b4 = columns-done s _ b3 (c .before .before .before .write-copies2 .ensures) in
-    structure-asks s _ b4
+    (structure-asks s _ b4, few-attachments s .0)
 
 first-fragments-requires : tie.Need-first-fragments-requires
 first-fragments-requires c κs = long-fragments (c .before .before .before .before .before .before .before .before .before .before .before .before .before .before .before .before .before .before .before .before .before .before .before .before .before .before .before .before .before .before .before .before .before .before .pre .0)

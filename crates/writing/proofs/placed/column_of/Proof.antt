@@ -63,30 +63,13 @@ shared-slice-read-dg : tie.Need-shared-slice-read-dg
 shared-slice-read-dg c = search needs
 
 add-cn : tie.Need-add-cn
-add-cn c =
-    omega (
-      arith,
-      c .before .before .before .before .before .before .before .before .before .before .before .pre .0 .below
-          (c .before .before .before .before .before .before .before .before .before .before .before .args .k)
-          (c .before .before .before .before .before .before .before .before .before .before .before .pre .1),
-    )
+add-cn c = omega (arith, c .before .before .before .before .before .before .before .before .before .before .before .pre .0 .below (c .before .before .before .before .before .before .before .before .before .before .before .args .k) (c .before .before .before .before .before .before .before .before .before .before .before .pre .1))
 
 cg-size-requires : tie.Need-cg-size-requires
 cg-size-requires c κs = search needs
 
 add-cn-2 : tie.Need-add-cn-2
-add-cn-2 c =
-    omega (
-      arith,
-      c .before .before .before .before .before .before .before .before .before .before .before .before .pre .0 .below
-          (c .before .before .before .before .before .before .before .before .before .before .before .before .args .k)
-          (c .before .before .before .before .before .before .before .before .before .before .before .before .pre .1),
-      c .cg-size .ensures,
-      size-near
-          (masterIn (getD
-              (c .before .before .before .before .before .before .before .before .before .before .before .before .args .columns .now)
-          (8 * c .before .before .before .before .before .before .before .before .before .before .before .before .args .k + 5) 0)),
-    )
+add-cn-2 c = omega (arith, c .before .before .before .before .before .before .before .before .before .before .before .before .pre .0 .below (c .before .before .before .before .before .before .before .before .before .before .before .before .args .k) (c .before .before .before .before .before .before .before .before .before .before .before .before .pre .1), c .cg-size .ensures, size-near (masterIn (getD (c .before .before .before .before .before .before .before .before .before .before .before .before .args .columns .now) (8 * c .before .before .before .before .before .before .before .before .before .before .before .before .args .k + 5) 0)))
 
 add-sd-link : tie.Need-add-sd-link
 add-sd-link c = search needs
@@ -118,28 +101,29 @@ payload-of-requires c κs = search needs
 stored-type-requires : tie.Need-stored-type-requires
 stored-type-requires c κs = search needs
 
-add-t26 : tie.Need-add-t26
-add-t26 c = search needs
+photos-of-requires : tie.Need-photos-of-requires
+photos-of-requires c κs = search needs
 
-mul-t24 : tie.Need-mul-t24
-mul-t24 c = search needs
+add-t28 : tie.Need-add-t28
+add-t28 c = search needs
 
-shared-slice-read-t23 : tie.Need-shared-slice-read-t23
-shared-slice-read-t23 c = search needs
+mul-t26 : tie.Need-mul-t26
+mul-t26 c = search needs
 
-add-t32 : tie.Need-add-t32
-add-t32 c = search needs
+shared-slice-read-t25 : tie.Need-shared-slice-read-t25
+shared-slice-read-t25 c = search needs
 
-mul-t33 : tie.Need-mul-t33
-mul-t33 c = search needs
+add-t34 : tie.Need-add-t34
+add-t34 c = search needs
 
-shared-slice-read-t22 : tie.Need-shared-slice-read-t22
-shared-slice-read-t22 c = search needs
+mul-t35 : tie.Need-mul-t35
+mul-t35 c = search needs
+
+shared-slice-read-t24 : tie.Need-shared-slice-read-t24
+shared-slice-read-t24 c = search needs
 
 returns : tie.Need-returns
-returns c =
-    column-made _ _ _ _ _ _ _ (c .before .before .before .before .before .before .before .before .before .before .before .has-master .ensures) (c .before .before .before .before .before .before .before .before .before .before .master-place .ensures) (c .before .before .before .before .before .before .before .before .cg-size .ensures) (c .before .before .before .before .before .sd-link .ensures)
-    (c .before .before .before .before .blocks-of .ensures) (c .before .before .before .payload-of .ensures) (c .before .before .stored-type .ensures)
+returns c = (column-made _ _ _ _ _ _ _ _ (c .before .before .before .before .before .before .before .before .before .before .before .before .has-master .ensures) (c .before .before .before .before .before .before .before .before .before .before .before .master-place .ensures) (c .before .before .before .before .before .before .before .before .before .cg-size .ensures) (c .before .before .before .before .before .before .sd-link .ensures) (c .before .before .before .before .before .blocks-of .ensures) (c .before .before .before .before .payload-of .ensures) (c .before .before .before .stored-type .ensures) (c .before .before .photos-of .ensures .0), c .before .before .photos-of .ensures .1)
 
 pub column-of-spec : {M : Type 1} → statement M
 column-of-spec =
@@ -176,10 +160,11 @@ column-of-spec =
     blocks-of-requires
     payload-of-requires
     stored-type-requires
-    add-t26
-    mul-t24
-    shared-slice-read-t23
-    add-t32
-    mul-t33
-    shared-slice-read-t22
+    photos-of-requires
+    add-t28
+    mul-t26
+    shared-slice-read-t25
+    add-t34
+    mul-t35
+    shared-slice-read-t24
     returns)

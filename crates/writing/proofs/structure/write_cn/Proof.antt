@@ -1,6 +1,6 @@
 -- Zeros, then the CN.
-use Rattle.writing.specs.StructureLaws.{wrote-cn}
 use native.Mathlib.Omega.{arith}
+use Rattle.writing.specs.StructureLaws.{wrote-cn}
 use borrow.Author.Needs.{needs}
 use Rattle.writing.proofs.structure.write_cn.Statement.{statement}
 use Rattle.writing.proofs.structure.write_cn.Tie as tie
@@ -18,18 +18,22 @@ part-fill-cn-end : tie.Need-part-fill-cn-end
 part-fill-cn-end c = search needs
 
 fill-cn-requires : tie.Need-fill-cn-requires
-fill-cn-requires c κs = c .before .before .before .before .before .before .before .before .pre .3
+fill-cn-requires c κs = (c .before .before .before .before .before .before .before .before .pre .3, c .before .before .before .before .before .before .before .before .pre .4, search needs, c .before .before .before .before .before .before .before .before .pre .5, c .before .before .before .before .before .before .before .before .pre .6)
+
+mul-result : tie.Need-mul-result
+mul-result c = omega (arith, c .before .before .before .before .before .before .before .before .before .before .before .before .pre .1)
 
 add-result : tie.Need-add-result
-add-result c = search needs
+add-result c = omega (arith, c .before .before .before .before .before .before .before .before .before .before .before .before .pre .1)
+
+add-result-2 : tie.Need-add-result-2
+add-result-2 c = omega (arith, c .before .before .before .before .before .before .before .before .before .before .before .before .pre .1)
 
 same-length : tie.Need-same-length
 same-length c = search needs
 
 returns : tie.Need-returns
-returns c =
-    wrote-cn _ _ _ _ _ _ _ (c .before .before .before .before .before .before .gap .ensures) (c .before .before .fill-cn .ensures)
-    (omega arith) (c .before .before .before .before .before .before .before .before .before .before .before .pre .2)
+returns c = wrote-cn _ _ _ _ _ _ _ _ (c .before .before .before .before .before .before .before .gap .ensures) (c .before .before .before .fill-cn .ensures) (omega arith) (c .before .before .before .before .before .before .before .before .before .before .before .before .pre .2)
 
 pub write-cn-spec : {M : Type 1} → statement M
 write-cn-spec =
@@ -40,6 +44,8 @@ write-cn-spec =
     part-fill-cn-start
     part-fill-cn-end
     fill-cn-requires
+    mul-result
     add-result
+    add-result-2
     same-length
     returns)

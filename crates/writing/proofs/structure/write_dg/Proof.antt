@@ -1,6 +1,6 @@
 -- Zeros, then the DG.
-use Rattle.writing.specs.StructureLaws.{wrote-dg}
 use native.Mathlib.Omega.{arith}
+use Rattle.writing.specs.StructureLaws.{wrote-dg}
 use borrow.Author.Needs.{needs}
 use Rattle.writing.proofs.structure.write_dg.Statement.{statement}
 use Rattle.writing.proofs.structure.write_dg.Tie as tie
@@ -27,10 +27,7 @@ same-length : tie.Need-same-length
 same-length c = search needs
 
 returns : tie.Need-returns
-returns c =
-    wrote-dg _ _ _ _ _ _ _ _ (c .before .before .before .before .before .before .gap .ensures)
-    (c .before .before .fill-dg .ensures)
-    (omega arith)
+returns c = wrote-dg _ _ _ _ _ _ _ _ (c .before .before .before .before .before .before .gap .ensures) (c .before .before .fill-dg .ensures) (omega arith)
 
 pub write-dg-spec : {M : Type 1} → statement M
 write-dg-spec =

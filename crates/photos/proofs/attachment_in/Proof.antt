@@ -1,9 +1,9 @@
 -- The tests follow the definition's, in a form that can't overflow.
 use native.Mathlib.Omega.{arith}
 use borrow.Author.Needs.{needs}
-use Rattle.placing.specs.AttachingLaws.{at-few, at-short, at-long, at-past, at-fine}
-use Rattle.placing.proofs.attachments.attachment_in.Statement.{statement}
-use Rattle.placing.proofs.attachments.attachment_in.Tie as tie
+use Rattle.photos.specs.FollowedLaws.{at-few, at-short, at-long, at-past, at-fine}
+use Rattle.photos.proofs.attachment_in.Statement.{statement}
+use Rattle.photos.proofs.attachment_in.Tie as tie
 
 links-at-requires : tie.Need-links-at-requires
 links-at-requires c κs = search needs
