@@ -1,7 +1,7 @@
 /* Sitaungo: one row-oriented MDF 4 recording into one column-oriented MDF 4.20 file.
  *
  * Library libsitaungo.a (rt staticlib sitaungo), x86-64 Linux. The functions are proved: for every input, numbers, output, list, lines,
- * buffer, destination and work words are those of the definitions in crates/result/specs, crates/listing/specs and crates/file/specs. They allocate nothing, keep nothing between
+ * buffer, destination and work words are those of the definitions in crates/result/specs, crates/listing/specs, crates/file/specs and crates/sheet/specs. They allocate nothing, keep nothing between
  * calls, open no file and always return; several threads may call them, each with slices of its own.
  *
  * What the caller owes, since no proof can see it:
@@ -10,7 +10,7 @@
  * - Nobody else changes a slice during the call, a mapped file included.
  * - What a work slice, out, list or lines holds at entry doesn't matter: anything may stand there.
  * - Length times element size is below 2^63.
- * - The calling thread has 256 KiB of stack left: 117,232 bytes were measured, whatever the recording; reading takes 48,312, a plot hardly more.
+ * - The calling thread has 256 KiB of stack left: 117,232 bytes were measured, whatever the recording; reading takes 48,312, a plot or a sheet hardly more.
  */
 #ifndef SITAUNGO_H
 #define SITAUNGO_H
@@ -24,13 +24,14 @@ extern "C" {
 #endif
 
 /* Of library and command. The command writes it into the history entry of each result. */
-#define SITAUNGO_VERSION "1.4.0"
+#define SITAUNGO_VERSION "1.5.0"
 
 /* ---- lengths of the slices */
 
 #define SITAUNGO_WORK_WORDS 8192      /* words that each of the four work slices needs at least */
 #define SITAUNGO_LIST_WORDS 2049      /* words that are enough for every omission list */
 #define SITAUNGO_LISTING_BYTES 119354 /* bytes that are enough for every listing */
+#define SITAUNGO_SHEET_BYTES 42201    /* bytes that are enough for every sheet */
 #define SITAUNGO_IDENT_BYTES 64       /* bytes of the identification, exactly */
 #define SITAUNGO_TEXT_BYTES 4096      /* bytes that the history text has at most */
 #define SITAUNGO_TYPES_BYTES 15       /* bytes that a table of treatments has at most */
@@ -280,6 +281,14 @@ struct sitaungo_plotting {
  * position 0; the image's refusals come with position 0, and of each entry 22, 23, then 25 where place plus length passes the destination. */
 struct sitaungo_plotting sitaungo_plot(
     const uint8_t *image, size_t image_length, const struct sitaungo_request *table, size_t entries, uint8_t *destination, size_t destination_length);
+
+/* Lays the inventory sheet of a column file over `lines` and answers its length; what passes the end of `lines` is lost. The sheet has pages of at most 60
+ * lines: `page P of N`, then a line for each of 59 columns, on the last page of those left; without columns one page with its heading. A column's line has
+ * its number, `t` for channel type 2 or 3 or `s` for any other, the first 32 bytes of its channel's name up to a zero byte, its data bytes, its records, and
+ * its master column or `-`, in fields of 8, 1, 32, 12, 12 and 10 characters with a blank between them: numbers right, one too wide as `#` all over, texts
+ * left; bytes outside 32 to 126 as `?`, no name as `-`. Each line has 80 characters and a newline. Of a file that is refused (4 to 13, 19, 24) the sheet is
+ * only `refused N place P`. */
+size_t sitaungo_sheet(const uint8_t *image, size_t image_length, uint8_t *lines, size_t lines_length);
 
 #ifdef __cplusplus
 }

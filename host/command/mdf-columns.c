@@ -1,7 +1,8 @@
 /* mdf-columns RECORDING RESULT: converts one row-oriented MDF 4 recording into one column-oriented MDF 4.20 file.
  *
  * The conversion is the proved one of libsitaungo. This program maps the recording, asks for the result's size, lends the conversion a
- * mapped temporary file of that size, syncs it and gives it RESULT's name (job.c). README.md has options and statuses. */
+ * mapped temporary file of that size, syncs it and gives it RESULT's name (job.c). With --sheet it prints the sheet of a column file
+ * (sheet.c). README.md has options and statuses. */
 #define _GNU_SOURCE
 #include <fcntl.h>
 #include <sys/stat.h>
@@ -12,6 +13,7 @@
 #include "messages.h"
 #include "options.h"
 #include "recording.h"
+#include "sheet.h"
 #include "signals.h"
 
 /* Static, since signal handlers look at the sink's target. */
@@ -45,6 +47,8 @@ int main(int count, char **words)
     o = parse(count, words);
     if (o.quiet)
         keep_quiet();
+    if (o.sheet)
+        return print_sheet(o.recordings[0]);
     open_sink(&sink, o.json, o.force);
     check_report();
     int status = o.folder ? run_batch(&o, &sink) : run_job(&o, o.recordings[0], o.result, &sink);

@@ -53,6 +53,14 @@ static const char *const refusals[] = {
         "it has references",
 };
 
+/* Those that say something else of a column file. */
+static const char *const reading[] = {
+    [SITAUNGO_REFUSED_PAST_END] = "the file ends too early: a block, a name or data runs past its end",
+    [SITAUNGO_REFUSED_NOT_MDF] = "this is not an MDF file: it does not begin with \"MDF\" and five blanks",
+    [SITAUNGO_REFUSED_LIMIT] = "the file passes a limit: 512 data groups, groups or channels, 256 lists in a chain",
+    [SITAUNGO_REFUSED_FORM] = "the file lacks the form of a column file",
+};
+
 static const char *const reasons[] = {
     [SITAUNGO_OMITTED_REMOTE_MASTER] = "the group's time channel lies in a group with another number of records, so its columns name no time column",
     [SITAUNGO_OMITTED_NO_FIT] = "the channel does not fit into its record",
@@ -67,6 +75,11 @@ static const char *const reasons[] = {
 const char *words_of_refusal(uint64_t number)
 {
     return number < sizeof refusals / sizeof *refusals && refusals[number] ? refusals[number] : "unknown refusal";
+}
+
+const char *words_of_reading(uint64_t number)
+{
+    return number < sizeof reading / sizeof *reading && reading[number] ? reading[number] : words_of_refusal(number);
 }
 
 const char *words_of_reason(uint64_t reason)

@@ -19,9 +19,10 @@ static const char usage[] =
     "usage: mdf-columns RECORDING RESULT [OPTION]...\n"
     "       mdf-columns -d FOLDER RECORDING... [OPTION]...\n"
     "       mdf-columns --check RECORDING RESULT [OPTION]...\n"
+    "       mdf-columns --sheet FILE\n"
     "\n"
     "Converts the row-oriented MDF 4 file RECORDING into the column-oriented MDF 4.20 file RESULT, or each RECORDING into\n"
-    "a file of its name in FOLDER; or holds RESULT to its RECORDING.\n"
+    "a file of its name in FOLDER; or holds RESULT to its RECORDING; or prints the inventory sheet of the column file FILE.\n"
     "\n"
     "  --block-size BYTES  payload of a data block, about; 4194304 if not given\n"
     "  --check             convert nothing: read RESULT back and hold it to the conversion of RECORDING made anew\n"
@@ -35,13 +36,14 @@ static const char usage[] =
     "  --resume            pass over a RESULT that is there and is the conversion of RECORDING\n"
     "  --sha256            print the digest of the stored bytes, read back, as sha256sum does\n"
     "  --share-time        groups with equal time channels get one time column\n"
+    "  --sheet             convert nothing: print pages of 60 lines with a line for each column of FILE\n"
     "  --types FILE        treat channel types as the table in FILE says: a count from 1 to 7, as many types, as many treatments,\n"
     "                      a byte each: 0 keep, 1 omit, 2 store as type 0; else type 4 is omitted, 5 stored as 0, any other kept\n"
     "  --unit BYTES        columns and signal data start on multiples of it, a power of two from 8 to 4096; 8 if not given\n"
     "  --verify            check before RESULT gets its name\n"
     "  --help, --version   print this, or the version\n"
     "\n"
-    "Status: 0 done; 1 failed; 2 the recording is refused; 3 RESULT is there and whole, but something after that failed;\n"
+    "Status: 0 done; 1 failed; 2 RECORDING or FILE is refused; 3 RESULT is there and whole, but something after that failed;\n"
     "4 channels would be left out; 5 what was read back is not the conversion. With 1, 2 and 4 RESULT is as it was.\n";
 
 __attribute__((noreturn)) static void misused(const char *why)
@@ -80,19 +82,22 @@ static void read_types(struct choices *c, const char *path)
     fclose(file);
 }
 
-enum { WORD = 1, BLOCK_SIZE = 256, CHECK, COMPLETE, FORCE, JSON, LISTING, PHOTOS, QUIET, RESUME, SHA256, SHARE_TIME, TYPES, UNIT, VERIFY, HELP, VERSION };
+enum {
+    WORD = 1, BLOCK_SIZE = 256, CHECK, COMPLETE, FORCE, JSON, LISTING, PHOTOS, QUIET, RESUME, SHA256, SHARE_TIME, SHEET, TYPES, UNIT, VERIFY, HELP, VERSION
+};
 
 static const struct option known[] = {
     {"block-size", required_argument, NULL, BLOCK_SIZE}, {"check", no_argument, NULL, CHECK}, {"complete", no_argument, NULL, COMPLETE},
     {"folder", required_argument, NULL, 'd'}, {"force", no_argument, NULL, FORCE}, {"json", required_argument, NULL, JSON},
     {"listing", no_argument, NULL, LISTING}, {"photos", no_argument, NULL, PHOTOS}, {"quiet", no_argument, NULL, QUIET},
     {"resume", no_argument, NULL, RESUME}, {"sha256", no_argument, NULL, SHA256}, {"share-time", no_argument, NULL, SHARE_TIME},
-    {"types", required_argument, NULL, TYPES}, {"unit", required_argument, NULL, UNIT}, {"verify", no_argument, NULL, VERIFY},
-    {"help", no_argument, NULL, HELP}, {"version", no_argument, NULL, VERSION}, {NULL, 0, NULL, 0},
+    {"sheet", no_argument, NULL, SHEET}, {"types", required_argument, NULL, TYPES}, {"unit", required_argument, NULL, UNIT},
+    {"verify", no_argument, NULL, VERIFY}, {"help", no_argument, NULL, HELP}, {"version", no_argument, NULL, VERSION}, {NULL, 0, NULL, 0},
 };
 
 static void take(struct options *o, int option)
 {
+    o->of_conversion |= option != WORD && option != QUIET && option != SHEET;
     switch (option) {
     case WORD: o->recordings[o->count++] = optarg; break;
     case 'd': o->folder = optarg; break;
@@ -107,6 +112,7 @@ static void take(struct options *o, int option)
     case RESUME: o->resume = true; break;
     case SHA256: o->digest = true; break;
     case SHARE_TIME: o->choices.share_time = true; break;
+    case SHEET: o->sheet = true; break;
     case TYPES: o->types = optarg; break;
     case UNIT: o->choices.unit = parse_bytes("--unit", optarg); break;
     case VERIFY: o->verify = true; break;
@@ -118,13 +124,17 @@ static void take(struct options *o, int option)
 
 static void check_options(const struct options *o)
 {
+    if (o->sheet && o->of_conversion)
+        misused("--sheet converts nothing: only --quiet goes with it");
+    if (o->sheet && o->count != 1)
+        misused("--sheet needs one FILE");
     if (o->check && (o->force || o->resume || o->verify))
         misused("--check converts nothing: --force, --resume and --verify don't go with it");
     if (o->listing && o->json && strcmp(o->json, "-") == 0)
         misused("--listing and --json - both need standard output");
     if (o->folder && o->count == 0)
         misused("a RECORDING is needed");
-    if (!o->folder && o->count != 2)
+    if (!o->folder && !o->sheet && o->count != 2)
         misused("a RECORDING and a RESULT are needed");
 }
 
@@ -143,7 +153,7 @@ struct options parse(int count, char **words)
     check_options(&o);
     if (o.types)
         read_types(&o.choices, o.types);
-    if (!o.folder)
+    if (!o.folder && !o.sheet)
         o.result = o.recordings[--o.count];
     return o;
 }

@@ -20,13 +20,6 @@ static const char *kind_of(mode_t mode)
     return "a device";
 }
 
-/* A recording over the limit is refused whatever it holds, so one byte past the limit is enough. */
-static size_t length_to_map(off_t size)
-{
-    uint64_t most = (uint64_t)SITAUNGO_IMAGE_BYTES + 1;
-    return (uint64_t)size < most ? (size_t)size : (size_t)most;
-}
-
 static int64_t nanoseconds(struct timespec t)
 {
     return (int64_t)t.tv_sec * 1000000000 + t.tv_nsec;
@@ -55,24 +48,36 @@ static bool look(struct recording *r)
     return fstat(r->descriptor, &r->found) == 0;
 }
 
-struct recording open_recording(const char *path)
+/* Its first `most` bytes are mapped. */
+static struct recording open_and_map(const char *what, const char *path, uint64_t most)
 {
-    struct recording r = {.path = path};
+    struct recording r = {.what = what, .path = path};
     /* without O_NONBLOCK a pipe that nobody writes to would be waited for */
     r.descriptor = open(path, O_RDONLY | O_CLOEXEC | O_NONBLOCK | O_NOCTTY);
     if (r.descriptor < 0 || !look(&r))
-        fail("can't open the recording %s: %s", path, strerror(errno));
+        fail("can't open the %s %s: %s", what, path, strerror(errno));
     if (!S_ISREG(r.found.st_mode))
-        fail("the recording %s is %s; a file is needed", path, kind_of(r.found.st_mode));
-    r.length = length_to_map(r.found.st_size);
+        fail("the %s %s is %s; a file is needed", what, path, kind_of(r.found.st_mode));
+    r.length = (size_t)((uint64_t)r.found.st_size < most ? (uint64_t)r.found.st_size : most);
     if (r.length == 0)
         return r;
     void *bytes = mmap(NULL, r.length, PROT_READ, MAP_SHARED, r.descriptor, 0);
     if (bytes == MAP_FAILED)
-        fail("can't map the recording %s: %s", path, strerror(errno));
+        fail("can't map the %s %s: %s", what, path, strerror(errno));
     r.bytes = bytes;
-    watch_mapping(MAPPED_RECORDING, bytes, r.length, "the recording %s can't be read to its end: it was cut off meanwhile, or its disk failed", path);
+    watch_mapping(MAPPED_RECORDING, bytes, r.length, "the %s %s can't be read to its end: it was cut off meanwhile, or its disk failed", what, path);
     return r;
+}
+
+/* A recording over the limit is refused whatever it holds, so one byte past the limit is enough. */
+struct recording open_recording(const char *path)
+{
+    return open_and_map("recording", path, (uint64_t)SITAUNGO_IMAGE_BYTES + 1);
+}
+
+struct recording open_column_file(const char *path)
+{
+    return open_and_map("column file", path, UINT64_MAX);
 }
 
 bool same_file(const struct stat *a, const struct stat *b)
@@ -90,9 +95,9 @@ void check_unchanged(const struct recording *r)
 {
     struct stat opened, named;
     if (fstat(r->descriptor, &opened) != 0)
-        fail("can't look at the recording %s: %s", r->path, strerror(errno));
+        fail("can't look at the %s %s: %s", r->what, r->path, strerror(errno));
     if (stat(r->path, &named) != 0)
-        fail("the recording %s was moved or removed while it was read: %s", r->path, strerror(errno));
+        fail("the %s %s was moved or removed while it was read: %s", r->what, r->path, strerror(errno));
     if (!same_state(&opened, &r->found) || !same_state(&named, &r->found))
-        fail("the recording %s was changed while it was read; convert it when it is finished", r->path);
+        fail("the %s %s was changed while it was read; call again when it is finished", r->what, r->path);
 }

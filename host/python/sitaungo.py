@@ -26,7 +26,7 @@ import weakref
 
 __all__ = [
     "CONVERSIONS", "Changed", "Column", "ColumnFile", "CommandFailed", "DATA_TYPES", "Description", "Error", "NameMissing", "NameRepeated", "NotApplied",
-    "Refused", "Undecoded", "convert",
+    "Refused", "Undecoded", "convert", "sheet",
 ]
 
 # What the refusals of reading say, by number.
@@ -152,6 +152,7 @@ class _Plotting(ctypes.Structure):
 
 
 _TABLE = 256  # entries of one plot
+_SHEET = 42201  # bytes that are enough for every sheet
 _HERE = os.path.dirname(os.path.abspath(__file__))
 _SLICE = [ctypes.c_void_p, ctypes.c_size_t]
 _RANGE = [ctypes.c_uint64] * 3
@@ -168,6 +169,7 @@ def _load():
         ("sitaungo_read_range", _Read, _SLICE + _RANGE + _SLICE),
         ("sitaungo_range_part", _Part, _SLICE + _RANGE),
         ("sitaungo_plot", _Plotting, _SLICE + _SLICE + _SLICE),
+        ("sitaungo_sheet", ctypes.c_size_t, _SLICE + _SLICE),
         ("mapped_watch", ctypes.c_int, _SLICE),
         ("mapped_lost", ctypes.c_bool, [ctypes.c_int]),
         ("mapped_hold", ctypes.c_bool, [ctypes.c_void_p, ctypes.c_char_p, ctypes.c_size_t]),
@@ -313,6 +315,16 @@ class _Image:
         answer = self.call(_library.sitaungo_plot, (_Request * len(table))(*table), len(table), *_slice(buffer))
         if not answer.accepted:
             raise self.refused(answer, position + answer.position)
+
+    def sheet(self):
+        """The inventory sheet; a refusal is one line in its place."""
+        lines = bytearray(_SHEET)
+        length = self.call(_library.sitaungo_sheet, *_slice(lines))
+        text = lines[:length].decode("ascii")
+        if text.startswith("refused "):
+            _, number, _, place = text.split()
+            raise self.refused(_Read(False, int(number), int(place)))
+        return text
 
     def has_columns(self, count):
         """Whether they are so many; where the file itself is refused, that is raised."""
@@ -756,6 +768,15 @@ class Column:
         return values.astype(complex if values.dtype.kind == "c" else float) * factor + constant
 
 
+# ---- the inventory sheet
+
+
+def sheet(path):
+    """The inventory sheet of a column file, as the command prints it (README, --sheet): pages of at most 60 lines, each of 80 characters and a newline,
+    with a line for each column. A file that lacks the form is Refused."""
+    return _Image(os.fspath(path)).sheet()
+
+
 # ---- converting
 
 
@@ -770,7 +791,7 @@ def _command():
 
 def _option(name, value):
     """The words of one choice: block_size=1000 is --block-size=1000, force=True is --force."""
-    if name in ("check", "d", "folder", "help", "json", "listing", "quiet", "version"):
+    if name in ("check", "d", "folder", "help", "json", "listing", "quiet", "sheet", "version"):
         raise TypeError("convert takes no choice %r" % name)
     option = "--" + name.replace("_", "-")
     if value is None or value is False:

@@ -78,6 +78,7 @@ def one_damaged(here, image):
         clean(run("--check", recording, result), 0)
         good = read(result)
         write(result, damaged(good))
+        clean(run("--sheet", result), 0, REFUSED)
         if read(result) != good:
             json.loads(clean(run("--check", recording, result, "--json", "-"), DIFFERENT).printed)
             clean(run(result, os.path.join(here, "again.mf4"), "--force", "--json", "-"), 0, REFUSED)

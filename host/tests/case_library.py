@@ -125,7 +125,7 @@ def plot_in_rust():
 
 @test
 def library_and_header():
-    """Refusals 1, 2, 20, 21, 25, 26, 27 and 28, every length of the header, units, tables of treatments, references and plots, from both sides."""
+    """Refusals 1, 2, 20, 21, 25, 26, 27 and 28, every length of the header, units, tables of treatments, references, plots and sheets, from both sides."""
     program = place("library")
     cc(os.path.join(ROOT, "host", "tests", "library.c"), LIBRARY, "-o", program)
     r = subprocess.run([program, EXAMPLE], stdout=subprocess.PIPE)

@@ -2,6 +2,7 @@
 import ctypes
 import gc
 import os
+import pathlib
 import random
 import struct
 import sys
@@ -515,6 +516,68 @@ def rewritten(path, other, folder, seconds, seed):
     print("%d readings: %s" % (sum(told.values()), ", ".join("%s %d" % x for x in sorted(told.items()))))
 
 
+# ---- inventory sheets
+
+
+def sheets(folder):
+    """The sheet of each file is the text beside it; a refusal there is Refused."""
+    told, before = [], len(os.listdir("/proc/self/fd"))
+    for name in sorted(name for name in os.listdir(folder) if name.endswith(".mf4")):
+        path = os.path.join(folder, name)
+        wanted = got(path[:-4] + ".txt").decode("ascii")
+        if wanted.startswith("refused"):
+            _, number, _, at = wanted.split()
+            why = refuses(int(number), sitaungo.sheet, path)
+            expect(why.place == int(at) and why.path == path and why.position is None, name, why)
+        else:
+            text = sitaungo.sheet(path)
+            expect(type(text) is str and text == wanted, name, text)
+        told.append(wanted[:7])
+    why = None
+    gc.collect()
+    expect(len(os.listdir("/proc/self/fd")) == before, "descriptors that were left open")
+    print("%d files, %d refused" % (len(told), told.count("refused")))
+
+
+def sheets_of_no_files(folder):
+    """What can't be opened or mapped, and every form of a path."""
+    raises(FileNotFoundError, sitaungo.sheet, os.path.join(folder, "missing"))
+    fifo = os.path.join(folder, "fifo")
+    os.mkfifo(fifo)
+    for path in (folder, fifo, "/dev/null"):
+        raises(OSError, sitaungo.sheet, path)
+    raises(TypeError, sitaungo.sheet, None)
+    raises(ValueError, sitaungo.sheet, "a\0b")
+    path = os.path.join(folder.encode(), b"\xff.mf4")
+    refuses(5, sitaungo.sheet, put(path, bytes(100)))
+    put(path, column_file([(2, (4, 0, 0, 64), 8, 1, [bytes(8)])]))
+    wanted = "page 1 of 1".ljust(80) + "\n" + "%8d t %-32s %12d %12d %-10s\n" % (0, "-", 8, 1, "-")
+    expect(sitaungo.sheet(path) == sitaungo.sheet(pathlib.Path(os.fsdecode(path))) == wanted, "forms of a path")
+    print("no files")
+
+
+def sheets_changed(*paths):
+    """Files that are written to or cut off while the library reads them: Changed, also where they would be refused."""
+    own = sitaungo._library.sitaungo_sheet
+
+    def changing(change, path):
+        def call(*words):
+            answer = own(*words)
+            change(path)
+            return answer
+
+        return call
+
+    for path in paths:
+        for change in (lambda path: os.truncate(path, 0), lambda path: put(path, got(path) + b"more")):
+            before = got(path)
+            time.sleep(0.02)  # the clock of the file system ticks
+            sitaungo._library.sitaungo_sheet = changing(change, path)
+            raises(sitaungo.Changed, sitaungo.sheet, path)
+            put(path, before)
+    print("changed")
+
+
 # ---- converting
 
 
@@ -550,7 +613,7 @@ def converting(recording, sample, refused, folder):
     expect(why.status == 4 and why.report["omissions"][0]["name"] == "rack.1.99" and got(result) == before, why)
     why = raises(sitaungo.CommandFailed, lambda: sitaungo.convert(recording, result, no_such_choice=True))
     expect(why.status == 1 and "no-such-choice" in why.said, why)
-    for choice in ("check", "json", "quiet", "listing", "d", "folder"):
+    for choice in ("check", "json", "quiet", "listing", "sheet", "d", "folder"):
         raises(TypeError, lambda: sitaungo.convert(recording, result, **{choice: True}))
     dashed = os.path.join(folder, "-d")
     os.chdir(folder)

@@ -16,7 +16,7 @@ _Static_assert(sizeof(struct sitaungo_request) == 32 && sizeof(struct sitaungo_p
 
 enum { ROOM = 4096, WIDE = 16384, GUARD = 0xA5 };
 
-static uint8_t image[65536], out[WIDE], lines[SITAUNGO_LISTING_BYTES], ident[SITAUNGO_IDENT_BYTES + 1], text[SITAUNGO_TEXT_BYTES + 1];
+static uint8_t image[1 << 18], out[WIDE], lines[SITAUNGO_LISTING_BYTES], ident[SITAUNGO_IDENT_BYTES + 1], text[SITAUNGO_TEXT_BYTES + 1];
 static uint64_t work[4][SITAUNGO_WORK_WORDS + 1], list[SITAUNGO_LIST_WORDS];
 static int checks, wrong;
 
@@ -413,6 +413,42 @@ static void try_plot(void)
     check(ends(plot(file, 1, 80), 5, 0, 0) && served(plot(file, 0, 0)), "an image that is no file");
 }
 
+/* ---- sheets */
+
+static size_t sheet_into(const uint8_t *file, size_t file_length, size_t length)
+{
+    memset(lines, GUARD, sizeof lines);
+    return sitaungo_sheet(file, file_length, lines, length);
+}
+
+/* Whatever is lent, the whole length is answered, and what has room is there. */
+static void shows(const uint8_t *file, size_t file_length, const char *expected)
+{
+    size_t n = strlen(expected), lent[] = {sizeof lines, n, n - 1, 81, 80, 10, 1, 0};
+    for (size_t i = 0; i < sizeof lent / sizeof *lent; i++) {
+        size_t kept = lent[i] < n ? lent[i] : n;
+        check(sheet_into(file, file_length, lent[i]) == n && memcmp(lines, expected, kept) == 0, expected);
+        check(all(lines + kept, sizeof lines - kept, GUARD), "bytes past the sheet or the lines lent");
+    }
+}
+
+static void try_sheet(void)
+{
+    const char *expected =
+        "page 1 of 1                                                                     \n"
+        "       0 t -                                           4           20 -         \n"
+        "       1 s -                                           2           20          0\n";
+    check(run(usual()).accepted, "a result to show");
+    shows(out, 1288, expected);
+    shows(out, sizeof out, expected);
+    shows(out, 0, "refused 4 place 0\n");
+    shows(out, 1284, expected);
+    shows(out, 1283, "refused 4 place 1272\n");
+    shows(image, image_length, "refused 24 place 0\n");
+    out[0] = 'X';
+    shows(out, 1288, "refused 5 place 0\n");
+}
+
 /* ---- references to attachments */
 
 /* Where blocks of the recording below stand, and those of its result. */
@@ -586,6 +622,35 @@ static void try_order_of_references(void)
     refuses(with_photos(), SITAUNGO_REFUSED_REFERENCE, CHANNEL, "behind a chain that returns");
 }
 
+/* So many columns without records; the length. */
+static size_t many_columns(size_t columns)
+{
+    size_t at = 168;
+    memset(image, 0, sizeof image);
+    memcpy(image, "MDF     4.20    ", 16);
+    put_block(64, "##HD", 6, 32);
+    for (size_t k = 0, before = 64; k < columns; k++) {
+        size_t dg = at, cg = put_block(dg, "##DG", 4, 8), cn = put_block(cg, "##CG", 6, 32);
+        at = put_block(cn, "##CN", 8, 72);
+        put_link(before, 0, dg);
+        put_link(dg, 1, cg);
+        put_link(cg, 1, cn);
+        before = dg;
+    }
+    return at;
+}
+
+static void try_longest_sheet(void)
+{
+    size_t length = many_columns(SITAUNGO_DATA_GROUPS);
+    check(sheet_into(image, length, sizeof lines) == SITAUNGO_SHEET_BYTES, "the longest sheet");
+    check(lines[SITAUNGO_SHEET_BYTES - 1] == '\n' && all(lines + SITAUNGO_SHEET_BYTES, sizeof lines - SITAUNGO_SHEET_BYTES, GUARD), "its end");
+    check(sheet_into(image, length, SITAUNGO_SHEET_BYTES - 1) == SITAUNGO_SHEET_BYTES && lines[SITAUNGO_SHEET_BYTES - 1] == GUARD, "one byte short");
+    length = many_columns(SITAUNGO_DATA_GROUPS + 1);
+    shows(image, length, "refused 19 place 168104\n");
+    shows(image, many_columns(0), "page 1 of 1                                                                     \n");
+}
+
 int main(int count, char **arguments)
 {
     FILE *file = count == 2 ? fopen(arguments[1], "rb") : NULL;
@@ -609,9 +674,11 @@ int main(int count, char **arguments)
     try_shared();
     try_listed(listing);
     try_plot();
+    try_sheet();
     try_references();
     try_bad_references();
     try_order_of_references();
+    try_longest_sheet();
     printf("%d checks, %d wrong\n", checks, wrong);
     return wrong != 0;
 }

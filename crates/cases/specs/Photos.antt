@@ -5,11 +5,11 @@ use mathlib.Core.Bool.{Bool, true, false}
 use mathlib.Core.List.{List, [], _∷_, _++_}
 use mathlib.Core.Path.{_≡_, refl, ap}
 use native.Mathlib.Omega.{arith}
-use lib.ListN.{getD, replicate, set}
+use lib.ListN.{length, getD, replicate, set}
 use Rattle.base.specs.Blit.{part}
 use Rattle.base.specs.Checked.{Checked, ok, refused}
 use Rattle.mdf.specs.Block.{linkAt}
-use Rattle.plan.specs.Photos.{references}
+use Rattle.plan.specs.Photos.{headerChain, headerAttachments, references}
 use Rattle.plan.specs.Columns.{omissionReasons}
 use Rattle.plan.specs.Layout.{Placed, cnOf}
 use Rattle.result.specs.Links.{Shown}
@@ -168,7 +168,7 @@ toCG = set (one 1 680 0) 408 232
 abbrev past : List ℕ → List ℕ
 past s = set s 377 9
 
--- "only planned columns are tested, each after its omission tests and before its SD chain"
+-- "only planned columns are tested, each after its omission tests and before its SD chain"; the last group is VLSD storage
 abbrev pub Tested : Type 0
 Tested =
     (on (toDT 680) ≡ refusal 28 344)
@@ -180,6 +180,7 @@ Tested =
     × (on (set (one 4 0 0) 470 5) ≡ columns [] (4 ∷ []))
     × (on (set (set (one 0 0 0) 470 5) 456 16) ≡ columns [] (2 ∷ []))
     × (on (set (set (one 0 680 0) 376 88) 377 1) ≡ columns [] (6 ∷ []))
+    × (on (set (one 0 680 0) 328 1) ≡ columns [] [])
 
 -- the group at 232, without a master, uses that of the one at 616
 abbrev remote : ℕ → ℕ → List ℕ
@@ -227,6 +228,21 @@ Stands =
     × (ending true true (two 2 1000 2 936) ≡ refusal 28 344)
     × (ending false true (two 2 936 2 1000) ≡ refusal 28 728)
 
+-- "64 attachments": n AT from a on, each of 56 bytes, 32 apart, each leading to the next
+abbrev many : ℕ → ℕ → List ℕ
+many zero a = replicate 56 0
+many (suc n) a = head 65 84 56 4 ++ (link (a + 32) ++ many n (a + 32))
+
+abbrev chained : ℕ → List ℕ
+chained n = replicate 112 0 ++ (link 120 ++ many n 120)
+
+abbrev pub Limit : Type 0
+Limit = (length (headerAttachments (chained 64)) ≡ 64) × (headerChain (chained 65) ≡ refused 19 2168)
+
+pub limit : Limit
+unfolding evaluated
+limit = (refl, refl)
+
 pub kept : Kept
 unfolding evaluated
 kept = (refl, refl, refl)
@@ -237,7 +253,7 @@ refuses = (refl, refl, refl, refl, refl, refl, refl, refl, refl, refl, refl)
 
 pub tested : Tested
 unfolding evaluated
-tested = (refl, refl, refl, refl, refl, refl, refl, refl, refl)
+tested = (refl, refl, refl, refl, refl, refl, refl, refl, refl, refl)
 
 pub times : Times
 unfolding evaluated

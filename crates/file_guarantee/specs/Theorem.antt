@@ -48,11 +48,11 @@ use Rattle.file_guarantee.specs.Cells.{cell-part}
 use Rattle.file_guarantee.specs.Reads.{Reads}
 
 -- ---- columns by number
-record PlacedAt (s : List ℕ) (size : ℕ) (ps : List Placed) (k : ℕ) (c : Column) : Type 0 where
-  placed : Placed
-  isIn : In placed ps
-  same : placed .column ≡ c
-  numbered : fileColumnAt k (fileColumns s size ps) ≡ some (fileColumn s size placed)
+pub record PlacedAt (s : List ℕ) (size : ℕ) (ps : List Placed) (k : ℕ) (c : Column) : Type 0 where
+  pub placed : Placed
+  pub isIn : In placed ps
+  pub same : placed .column ≡ c
+  pub numbered : fileColumnAt k (fileColumns s size ps) ≡ some (fileColumn s size placed)
 
 placed-at : (s : List ℕ) (size : ℕ) (ps : List Placed) (k : ℕ) (c : Column) → columnAt k (columnsPlaced ps) ≡ some c → PlacedAt s size ps k c
 unfolding columnAt columnsPlaced fileColumnAt fileColumns
@@ -160,11 +160,11 @@ module _ (x : Args) (d : Decided) (k : Known x d) (out : List ℕ) (room : d .la
         fewBlocks = omega (arith, blocks-many (x .image) (x .blockSize) (l .placed) good, many, k .fewColumns);
       }
 
-  opens : opened f ≡ ok cols
+  pub opens : opened f ≡ ok cols
   opens = opened-stands f cols file-stands
 
   -- ---- ranges
-  at : (n : ℕ) (c : Column) → columnAt n (d .planned .columns) ≡ some c → PlacedAt (x .image) (x .blockSize) (l .placed) n c
+  pub at : (n : ℕ) (c : Column) → columnAt n (d .planned .columns) ≡ some c → PlacedAt (x .image) (x .blockSize) (l .placed) n c
   at n c e = placed-at (x .image) (x .blockSize) (l .placed) n c (rw (columns-placed (o x d k)) e)
 
   read : (p : Placed) → In p (l .placed) → ColumnRead f (x .image) (x .blockSize) p

@@ -1,5 +1,4 @@
 pub mod Lines
-pub mod LaidLaws
 pub mod LinesLaws
 pub mod PlanLaws
 pub mod Listed

@@ -1,21 +1,14 @@
 -- The listing's lines, out of the words in which planning keeps columns and omissions: eight words for a column, two for an omission.
-use Prim.Native.Nat.{ℕ, zero, suc, _+_, _*_, _-_, _≤_, _<_}
+use Prim.Native.Nat.{ℕ, zero, suc, _+_, _*_, _-_, _<_}
 use mathlib.Core.List.{List, [], _∷_, _++_}
 use mathlib.Core.Path.{_≡_}
-use lib.ListN.{length, getD}
+use lib.ListN.{getD}
 use Rattle.base.specs.Choice.{ifEq}
-use Rattle.base.specs.Blit.{blit}
 use Rattle.plan.specs.Channel.{channelBytes, keepsInval}
 use Rattle.work_words.specs.PlanWords.{omissionsAt}
 use Rattle.placing.specs.InWords.{blocksAt, payloadAt, signalAt}
 use Rattle.result.specs.Fill.{one}
 use Rattle.result.specs.Listing.{decimal}
-
--- bs, no more than most bytes, laid over d₀ from index at on gives d; r is the index past bs
-pub record Laid (at : ℕ) (bs : List ℕ) (most : ℕ) (d₀ d : List ℕ) (r : ℕ) : Type 0 where
-  pub is : d ≡ blit at bs d₀
-  pub past : r ≡ at + length bs
-  pub small : length bs ≤ most
 
 -- a number and the byte after it
 unfoldable pub numberThen : ℕ → ℕ → List ℕ
@@ -74,18 +67,12 @@ omissionsIn w i (suc n) = omissionIn w i ++ omissionsIn w (i + 2) n
 
 -- ---- the whole
 
--- `columns`, `omitted`, `refused` with a blank after, `place` with a blank before and after
+-- `columns`, `omitted` with a blank after
 abbrev pub columnsWord : List ℕ
 columnsWord = 99 ∷ 111 ∷ 108 ∷ 117 ∷ 109 ∷ 110 ∷ 115 ∷ 32 ∷ []
 
 abbrev pub omittedWord : List ℕ
 omittedWord = 111 ∷ 109 ∷ 105 ∷ 116 ∷ 116 ∷ 101 ∷ 100 ∷ 32 ∷ []
-
-abbrev pub refusedWord : List ℕ
-refusedWord = 114 ∷ 101 ∷ 102 ∷ 117 ∷ 115 ∷ 101 ∷ 100 ∷ 32 ∷ []
-
-abbrev pub placeWord : List ℕ
-placeWord = 32 ∷ 112 ∷ 108 ∷ 97 ∷ 99 ∷ 101 ∷ 32 ∷ []
 
 unfoldable pub columnsPart : List ℕ → ℕ → List ℕ → List ℕ → ℕ → List ℕ
 columnsPart s size w f n = columnsWord ++ numberThen n 10 ++ linesIn s size w f 0 n
@@ -96,9 +83,6 @@ omissionsPart w n = omittedWord ++ numberThen n 10 ++ omissionsIn w omissionsAt 
 -- n columns and m omissions
 unfoldable pub planIn : List ℕ → ℕ → List ℕ → List ℕ → ℕ → ℕ → List ℕ
 planIn s size w f n m = columnsPart s size w f n ++ omissionsPart w m
-
-unfoldable pub refusalLine : ℕ → ℕ → List ℕ
-refusalLine number place = refusedWord ++ decimal number ++ placeWord ++ numberThen place 10
 
 -- the bytes of each of n columns are a number of 64 bits
 pub record AllCount (s w f : List ℕ) (n : ℕ) : Type 0 where

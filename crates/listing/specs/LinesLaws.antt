@@ -14,8 +14,9 @@ use Rattle.placing.specs.InWords.{widthAt, blocksAt, payloadAt, signalAt}
 use Rattle.placing.specs.InWordsLaws.{signal-by}
 use Rattle.result.specs.Fill.{one}
 use Rattle.result.specs.Listing.{decimal}
+use Rattle.texts.specs.Laid.{Laid}
+use Rattle.texts.specs.LaidLaws.{laid-none, laid-then, laid-as, laid-most}
 use Rattle.listing.specs.Lines.{
-  Laid,
   numberThen,
   letterOf,
   Letter,
@@ -30,14 +31,10 @@ use Rattle.listing.specs.Lines.{
   omissionsIn,
   columnsWord,
   omittedWord,
-  refusedWord,
-  placeWord,
   columnsPart,
   omissionsPart,
   planIn,
-  refusalLine,
 }
-use Rattle.listing.specs.LaidLaws.{laid-none, laid-then, laid-as, laid-most}
 
 -- ---- the pieces of a line
 pub one-yes : {b v : Bool} → b ≡ v → b ≡ true → 1 ≡ one v
@@ -174,8 +171,3 @@ pub plan-put : (s : List ℕ) (size : ℕ) (w f : List ℕ) (n m : ℕ) {at p r 
     → Laid at (planIn s size w f n m) 119354 d₀ d₂ r
 unfolding planIn
 plan-put s size w f n m h l a b = laid-most (laid-then a b) (omega arith)
-
-pub refusal-laid : (number place : ℕ) {at p q t r : ℕ} {d₀ d₁ d₂ d₃ d₄ : List ℕ} → Laid at refusedWord 8 d₀ d₁ p → Laid p (decimal number) 20 d₁ d₂ q
-    → Laid q placeWord 8 d₂ d₃ t → Laid t (numberThen place 10) 21 d₃ d₄ r → Laid at (refusalLine number place) 57 d₀ d₄ r
-unfolding refusalLine
-refusal-laid number place a b c e = laid-then (laid-then (laid-then a b) c) e

@@ -7,13 +7,13 @@ use Rattle.base.specs.Blit.{blit}
 use Rattle.base.specs.Choice.{ifLt}
 use Rattle.base.specs.Checked.{andThen}
 use Rattle.result.specs.Result.{Args, lentIn, answer, workIn, workLeft}
-use Rattle.result.specs.Listing.{listing}
-use Rattle.listing.specs.Lines.{planIn, refusalLine}
+use Rattle.result.specs.Listing.{refusalText, listing}
+use Rattle.listing.specs.Lines.{planIn}
 
 -- 20, 21, or the plan of n columns and m omissions in words w and f, for a file of so many bytes, an output and a list of so many
 unfoldable pub answerIn : List ℕ → ℕ → List ℕ → List ℕ → ℕ → ℕ → ℕ → ℕ → ℕ → List ℕ
 answerIn s size w f n m bytes out list =
-    ifLt out bytes (refusalLine 20 bytes) (ifLt list (2 * m + 1) (refusalLine 21 (2 * m + 1)) (planIn s size w f n m))
+    ifLt out bytes (refusalText 20 bytes) (ifLt list (2 * m + 1) (refusalText 21 (2 * m + 1)) (planIn s size w f n m))
 
 -- the listing of a call with work slices ws, an output and a list of so many
 abbrev pub listingOf : Args → ℕ → ℕ → List (List ℕ) → List ℕ

@@ -16,7 +16,7 @@ use Rattle.work_words.specs.Words.{laidItems}
 use Rattle.work_words.specs.CopyWords.{laidCopies}
 use Rattle.plan.specs.Columns.{Omission, omissionAddresses, omissionReasons, omissionWords}
 use Rattle.work_words.specs.PlanWords.{signalFragments, laidPlan}
-use Rattle.result.specs.Listing.{planLines, listing}
+use Rattle.result.specs.Listing.{planLines, refusalText, listing}
 use Rattle.result.specs.Result.{Args, Decided, decided, lentIn, answer, workIn}
 use Rattle.plan_laws.specs.Known.{Known, decided-known}
 use Rattle.guarantee.specs.Theorem.{sized, few-photos}
@@ -27,18 +27,19 @@ use Rattle.placing.specs.Decision.{four, DecidedIn, RefusedIn, Decides}
 use Rattle.placing.specs.DecisionLaws.{work-fine, cleared, signals-length}
 use Rattle.placing.specs.InWords.{AllBounded}
 use Rattle.placing.specs.BoundedLaws.{all-bounded}
-use Rattle.listing.specs.LaidLaws.{laid-as, laid-most}
-use Rattle.listing.specs.Lines.{Laid, planIn, refusalLine, AllCount}
+use Rattle.texts.specs.Laid.{Laid}
+use Rattle.texts.specs.LaidLaws.{laid-as, laid-most}
+use Rattle.listing.specs.Lines.{planIn, AllCount}
 use Rattle.listing.specs.Listed.{answerIn, Listed}
-use Rattle.listing.specs.PlanLaws.{plan-listed, laid-counts, refusal-listed}
+use Rattle.listing.specs.PlanLaws.{plan-listed, laid-counts}
 
 -- ---- 20, 21, or the plan
 module _ (s : List ℕ) (size : ℕ) (w f : List ℕ) (n m bytes out list : ℕ) {d e : List ℕ} {r : ℕ} where
-  pub answer-output : out < bytes → Laid 0 (refusalLine 20 bytes) 57 d e r → Laid 0 (answerIn s size w f n m bytes out list) 119354 d e r
+  pub answer-output : out < bytes → Laid 0 (refusalText 20 bytes) 56 d e r → Laid 0 (answerIn s size w f n m bytes out list) 119354 d e r
   unfolding answerIn
   answer-output h a = laid-as (laid-most a (omega arith)) (lt-yes _ _ _ _ h refl)
 
-  pub answer-list : bytes ≤ out → list < 2 * m + 1 → Laid 0 (refusalLine 21 (2 * m + 1)) 57 d e r
+  pub answer-list : bytes ≤ out → list < 2 * m + 1 → Laid 0 (refusalText 21 (2 * m + 1)) 56 d e r
       → Laid 0 (answerIn s size w f n m bytes out list) 119354 d e r
   unfolding answerIn
   answer-list h l a = laid-as (laid-most a (omega arith)) (lt-no _ _ _ _ h (lt-yes _ _ _ _ l refl))
@@ -73,12 +74,11 @@ at-choice x m n a b = go (ltb m n)
     go false = refl
 
 apart : (x : Args) (d : Decided) (out bytes list words : ℕ)
-    → ifLt out bytes (refusalLine 20 bytes) (ifLt list words (refusalLine 21 words) (planLines (x .image) (x .blockSize) (d .planned)))
+    → ifLt out bytes (refusalText 20 bytes) (ifLt list words (refusalText 21 words) (planLines (x .image) (x .blockSize) (d .planned)))
     ≡ listing x (ifLt out bytes (refused 20 bytes) (ifLt list words (refused 21 words) (ok d)))
 apart x d out bytes list words =
-    rw (refusal-listed x 20 bytes, refusal-listed x 21 words)
-    (ap (λ (l : List ℕ). ifLt out bytes (listing x (refused 20 bytes)) l) (at-choice x list words (refused 21 words) (ok d))
-    ∙ at-choice x out bytes (refused 20 bytes) (ifLt list words (refused 21 words) (ok d)))
+    ap (λ (l : List ℕ). ifLt out bytes (listing x (refused 20 bytes)) l) (at-choice x list words (refused 21 words) (ok d))
+    ∙ at-choice x out bytes (refused 20 bytes) (ifLt list words (refused 21 words) (ok d))
 
 -- ---- what was decided stands in the words
 pub decides-done : {x : Args} {a b c d : List ℕ} {r : Decision} {a' b' c' d' : List ℕ} {i f k o h : ℕ} {n : Numbers}
@@ -170,13 +170,12 @@ refused-answer x out list (refused m q) e = cc
 refused-answer x out list (ok z) e = rw e
 
 pub refused-listed : {x : Args} {n p : ℕ} {ws ws' : List (List ℕ)} (out list : ℕ) {lines lines' : List ℕ} {r : ℕ} → RefusedIn x n p ws ws'
-    → Laid 0 (refusalLine n p) 57 lines lines' r → Listed x out list ws lines r lines' ws'
+    → Laid 0 (refusalText n p) 56 lines lines' r → Listed x out list ws lines r lines' ws'
 refused-listed {x} {n} {p} {ws} out list t z =
     let e = refused-answer x out list (workIn ws) (t .is) in
-    let y = rw (refusal-listed x n p) at z in
     record {
-      is = rw e (y .is);
-      long = rw e (y .past ∙ zero-add _);
+      is = rw e (z .is);
+      long = rw e (z .past ∙ zero-add _);
       small = omega (arith, z .past, z .small);
       words = t .words;
     }

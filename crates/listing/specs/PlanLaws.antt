@@ -8,7 +8,7 @@ use native.Mathlib.Nat.{add-zero}
 use native.Mathlib.Omega.{arith}
 use lib.ListN.{length, getD}
 use Rattle.base.specs.ChoiceLaws.{eq-yes, eq-no}
-use Rattle.base.specs.Checked.{refused, fine}
+use Rattle.base.specs.Checked.{fine}
 use Rattle.base.specs.Blit.{blit}
 use Rattle.base.specs.BlitLaws.{length-blit}
 use Rattle.mdf.specs.Chain.{Fragment}
@@ -23,8 +23,7 @@ use Rattle.placing.specs.InWords.{blocksAt, Columns, signalBytesOf, AllBounded,
 use Rattle.placing.specs.ColumnsLaws.{Reads, stand-reads, stand-rest, blocks-of, payload-of, signal-of, all-within, columns-stand}
 use Rattle.result.specs.Guarantee.{In, here, there}
 use Rattle.result.specs.Payload.{signalBytes}
-use Rattle.result.specs.Listing.{decimal, listedBytes, columnLine, columnLines, omissionLines, planLines, listing}
-use Rattle.result.specs.Result.{Args}
+use Rattle.result.specs.Listing.{decimal, listedBytes, columnLine, columnLines, omissionLines, planLines}
 use Rattle.listing.specs.Lines.{
   numberThen,
   letterOf,
@@ -42,7 +41,6 @@ use Rattle.listing.specs.Lines.{
   columnsPart,
   omissionsPart,
   planIn,
-  refusalLine,
   AllCount,
 }
 
@@ -176,8 +174,3 @@ module _ (p : Plan) (fs : List Fragment) (w f : List ℕ) (few : length (p .colu
   laid-counts ph s size b r =
       let a = all-within ph s size columnsLaid fragmentsLaid (length fs) 0 (p .columns) stand b r in
       record { each = λ k l. let e : 0 + 8 * k ≡ 8 * k = omega arith in let v = rw e at (a .each k l) in omega (arith, v .payload, v .signal) }
-
--- ---- a refusal
-pub refusal-listed : (x : Args) (number place : ℕ) → refusalLine number place ≡ listing x (refused number place)
-unfolding refusalLine numberThen
-refusal-listed x number place = simp append-assoc

@@ -1,4 +1,4 @@
-// The lines of columns and omissions, out of the words in which planning keeps them, and the line of a refusal.
+// The lines of columns and omissions, out of the words in which planning keeps them.
 use crate::text::put_byte;
 use crate::text::put_decimal;
 use crate::text::put_number;
@@ -11,8 +11,9 @@ use placing::columns::word;
 use planning::sizes::signal_size;
 ghost use mathlib.Core.Path.{_≡_};
 ghost use Prim.Native.Nat.{_+_, _*_, _≤_, _<_};
-ghost use Rattle.listing.specs.Lines.{Laid, lineFront, lineSizes, bytesAt, lineAmounts, lineIn, linesIn, omissionIn, omissionsIn};
-ghost use Rattle.listing.specs.Lines.{Letter, masterOf, columnsPart, omissionsPart, planIn, refusalLine, AllCount};
+ghost use Rattle.texts.specs.Laid.{Laid};
+ghost use Rattle.listing.specs.Lines.{lineFront, lineSizes, bytesAt, lineAmounts, lineIn, linesIn, omissionIn, omissionsIn};
+ghost use Rattle.listing.specs.Lines.{Letter, masterOf, columnsPart, omissionsPart, planIn, AllCount};
 ghost use Rattle.plan.specs.Channel.{keepsInval};
 ghost use Rattle.result.specs.Fill.{one};
 
@@ -221,15 +222,4 @@ pub(crate) fn put_plan_lines(
 {
     let p = put_columns(lines, at, image, size, columns, fragments, n);
     put_omissions(lines, p, columns, m)
-}
-
-// `refused N place P`.
-pub(crate) fn put_refusal(lines: &mut [u8], at: usize, number: u64, place: u64) -> usize
-    requires { ⌜ at ≤ 1099511627776 ⌝ }
-    ensures { λ r. ⌜ Laid at (refusalLine number place) 57 (now (lines .entry)) (now (lines .exit)) r ⌝ }
-{
-    let p = put_text(lines, at, b"refused ");
-    let q = put_decimal(lines, p, number);
-    let t = put_text(lines, q, b" place ");
-    put_number(lines, t, place, 10)
 }

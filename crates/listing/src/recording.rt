@@ -1,14 +1,15 @@
 // The listing of a recording: the columns and omissions that its conversion plans, or its refusal.
 use crate::lines::put_plan_lines;
-use crate::lines::put_refusal;
 use choices::Choices;
 use placing::decide::Decision;
 use placing::decide::decide;
 use reading::recording::clear;
+use texts::put_refusal;
 ghost use Prim.Native.Nat.{_≤_};
 ghost use Rattle.choices.specs.Chosen.{rules};
 ghost use Rattle.placing.specs.Decision.{untimed, four};
-ghost use Rattle.listing.specs.Lines.{Laid, AllCount};
+ghost use Rattle.texts.specs.Laid.{Laid};
+ghost use Rattle.listing.specs.Lines.{AllCount};
 ghost use Rattle.listing.specs.Listed.{answerIn, Listed};
 
 // 20 for an output shorter than the file, 21 for a list too short for m omissions, else the plan of n columns and m omissions that stands in words.
@@ -29,11 +30,11 @@ fn put_answer(
         (now (lines .entry)) (now (lines .exit)) r ⌝ }
 {
     if out < bytes {
-        return put_refusal(lines, 0, 20, bytes);
+        return put_refusal(lines, 20, bytes);
     }
     let words = 2 * m + 1;
     if list_words < words {
-        return put_refusal(lines, 0, 21, words);
+        return put_refusal(lines, 21, words);
     }
     put_plan_lines(lines, 0, image, size, columns, fragments, n, m)
 }
@@ -71,7 +72,7 @@ pub fn list(
         copies,
     );
     match decision {
-        Decision::Refused { number, place } => put_refusal(lines, 0, number, place),
+        Decision::Refused { number, place } => put_refusal(lines, number, place),
         Decision::Done {
             items: _,
             fragments: _,

@@ -79,6 +79,9 @@ planLines s size p =
     ++ omittedText ++ decimal (length (p .omissions)) ++ newline ++ omissionLines (p .omissions)
 
 -- "A refusal writes only `refused N place P`."
+abbrev pub refusalText : ℕ → ℕ → List ℕ
+refusalText number place = refusedText ++ decimal number ++ placeText ++ decimal place ++ newline
+
 abbrev pub listing : Args → Checked Decided → List ℕ
 listing x (ok d) = planLines (x .image) (x .blockSize) (d .planned)
-listing x (refused number place) = refusedText ++ decimal number ++ placeText ++ decimal place ++ newline
+listing x (refused number place) = refusalText number place

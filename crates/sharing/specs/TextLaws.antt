@@ -67,11 +67,11 @@ module _ (s : List ℕ) (a : ℕ) where
   }
 
 -- ---- a text is its kind and these bytes
-data Told (s : List ℕ) (a : ℕ) : Type 0 where
+pub data Told (s : List ℕ) (a : ℕ) : Type 0 where
   none : textKind s a ≡ 0 → textAt s a ≡ [] → Told s a
   some : (textKind s a ≡ 0 → ⊥) → textAt s a ≡ textKind s a ∷ body s a → Told s a
 
-told : (s : List ℕ) (a : ℕ) → Told s a
+pub told : (s : List ℕ) (a : ℕ) → Told s a
 unfolding textAt body
 told s a = go (eqb a 0) refl
   where

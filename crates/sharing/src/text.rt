@@ -14,7 +14,7 @@ ghost use Rattle.result.specs.Sharing.{same, textAt, unitOf};
 ghost use Rattle.sharing.specs.Text.{textKind, BodyOf};
 
 // The kind of the text at a, 0 for none.
-fn text_kind(image: &[u8], a: u64) -> u64
+pub fn text_kind(image: &[u8], a: u64) -> u64
     ensures { λ r. ⌜ r ≡ textKind (now (image .entry)) a ⌝ }
 {
     if a == 0 {
@@ -31,7 +31,7 @@ fn text_kind(image: &[u8], a: u64) -> u64
 }
 
 // How many bytes it has past its header, inside the image.
-fn text_bytes(image: &[u8], a: u64) -> u64
+pub fn text_bytes(image: &[u8], a: u64) -> u64
     ensures { λ r. ⌜ BodyOf (now (image .entry)) a r ⌝ }
 {
     let n = image.len() as u64;

@@ -1,4 +1,4 @@
--- The output of a conversion is read.
+-- The output of a conversion is read, and has its inventory sheet.
 use Prim.Native.Nat.{ℕ}
 use mathlib.Core.List.{List}
 use mathlib.Core.Path.{_≡_, ap, _∙_}
@@ -7,6 +7,7 @@ use Rattle.base.specs.Blit.{blit}
 use Rattle.base.specs.CheckedLaws.{then-fine}
 use Rattle.result.specs.Result.{Args, Outcome, workIn, fileOf, convert}
 use Rattle.file_guarantee.specs.Theorem.{reads-promised}
+use Rattle.sheet_guarantee.specs.Theorem.{sheet-promised}
 use Rattle.writing.specs.Answer.{Bytes}
 use Rattle.sitaungo.specs.Readable.{Readable}
 
@@ -18,4 +19,8 @@ readable-by x out list ws {y} b i e = record {
       let f : y .output ≡ blit 0 (fileOf x (d .laidOut)) out = ap (λ (o : Outcome). o .output) e ∙ rw a in
       let g = then-fine (workIn ws) _ a in
       rw f (reads-promised x out list d (b .all) (i .all) (g .1));
+  sheeted = λ d a.
+      let f : y .output ≡ blit 0 (fileOf x (d .laidOut)) out = ap (λ (o : Outcome). o .output) e ∙ rw a in
+      let g = then-fine (workIn ws) _ a in
+      rw f (sheet-promised x out list d (b .all) (i .all) (g .1));
 }

@@ -1,4 +1,4 @@
-// Records of a column file, for programs that link the reader.
+// Records and the inventory sheet of a column file, for programs that link the reader.
 use fields::Check;
 use ranges::plot::Plotting;
 use ranges::plot::Request;
@@ -6,10 +6,13 @@ use ranges::plot::plot;
 use ranges::read::Location;
 use ranges::read::locate;
 use ranges::read::read_range;
+use sheets::column_file::sheet;
 ghost use mathlib.Core.Path.{_≡_};
 ghost use Rattle.file.specs.Plot.{plotted};
 ghost use Rattle.file.specs.Range.{readInto, located};
 ghost use Rattle.ranges.specs.Turn.{entriesOf, laid, answered};
+ghost use Rattle.sheet.specs.Sheet.{sheet};
+ghost use Rattle.texts.specs.Laid.{Laid};
 ghost use Rattle.sitaungo.specs.ColumnFile.{filled, exportedRead, exportedPart};
 
 // Whether the range was read; a refusal's number and place where it was not, else 0.
@@ -98,4 +101,12 @@ pub extern "C" fn sitaungo_plot(image: &[u8], table: &[Request], destination: &m
         ≡ answered (plotted (now (image .entry)) (entriesOf (now (table .entry))) (now (destination .entry))) ⌝ }
 {
     plot(image, table, destination)
+}
+
+// The inventory sheet of a column file and its length: `sheet` of the crate sheets.
+#[no_mangle]
+pub extern "C" fn sitaungo_sheet(image: &[u8], lines: &mut [u8]) -> usize
+    ensures { λ r. ⌜ Laid 0 (sheet (now (image .entry))) 42201 (now (lines .entry)) (now (lines .exit)) r ⌝ }
+{
+    sheet(lines, image)
 }

@@ -1,4 +1,4 @@
-// The conversion, its listing and the reader of column files, for programs that link them.
+// The conversion, its listing, the reader of column files and their inventory sheet, for programs that link them.
 pub mod column_file;
 
 use choices::Choices;

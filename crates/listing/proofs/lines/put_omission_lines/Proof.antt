@@ -2,8 +2,9 @@
 use borrow.Author.Needs.{needs}
 use native.Mathlib.Omega.{arith}
 use Prim.Native.Nat.{_*_, _-_, _≤_}
-use Rattle.listing.specs.Lines.{Laid, omissionsIn}
-use Rattle.listing.specs.LaidLaws.{laid-length}
+use Rattle.texts.specs.Laid.{Laid}
+use Rattle.texts.specs.LaidLaws.{laid-length}
+use Rattle.listing.specs.Lines.{omissionsIn}
 use Rattle.listing.specs.LinesLaws.{omissions-begin, omissions-end, omissions-turn}
 use Rattle.listing.proofs.lines.put_omission_lines.Statement.{statement}
 use Rattle.listing.proofs.lines.put_omission_lines.Tie as tie

@@ -1,6 +1,6 @@
 -- One store.
 use native.Mathlib.Omega.{arith}
-use Rattle.listing.specs.LaidLaws.{laid-byte}
+use Rattle.texts.specs.LaidLaws.{laid-byte}
 use borrow.Author.Needs.{needs}
 use Rattle.listing.proofs.text.put_byte.Statement.{statement}
 use Rattle.listing.proofs.text.put_byte.Tie as tie

@@ -1,6 +1,6 @@
 -- The number, then the byte.
 use borrow.Author.Needs.{needs}
-use Rattle.listing.specs.LaidLaws.{laid-then}
+use Rattle.texts.specs.LaidLaws.{laid-then}
 use Rattle.listing.specs.Lines.{numberThen}
 use Rattle.listing.proofs.text.put_number.Statement.{statement}
 use Rattle.listing.proofs.text.put_number.Tie as tie

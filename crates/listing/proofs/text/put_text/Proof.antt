@@ -1,7 +1,7 @@
 -- One copy of all of it.
 use native.Mathlib.Omega.{arith}
 use mathlib.Core.Path.{refl}
-use Rattle.listing.specs.LaidLaws.{laid-text}
+use Rattle.texts.specs.LaidLaws.{laid-text}
 use borrow.Author.Needs.{needs}
 use Rattle.listing.proofs.text.put_text.Statement.{statement}
 use Rattle.listing.proofs.text.put_text.Tie as tie

@@ -1,0 +1,1 @@
+// Definitions and laws of the inventory sheet of a column file; no code.

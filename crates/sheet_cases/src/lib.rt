@@ -1,0 +1,1 @@
+// Closed examples of inventory sheets of whole files; no code.

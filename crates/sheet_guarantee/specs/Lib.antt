@@ -1,0 +1,2 @@
+pub mod SheetDue
+pub mod Theorem

@@ -1,0 +1,9 @@
+pub mod Piece
+pub mod PieceLaws
+pub mod FieldLaws
+pub mod Name
+pub mod NameLaws
+pub mod Line
+pub mod LineLaws
+pub mod PageLaws
+pub mod PrintedLaws
