@@ -19,12 +19,12 @@ use Rattle.plan.specs.Columns.{SrcGroup, Plan, Signal, noSignal, signalData, si
 use Rattle.plan.specs.Columns as columns
 use Rattle.work_words.specs.PlanWords.{masterWord, signalWord, columnWords, fragmentsIn}
 use Rattle.plan_laws.specs.DecideLaws.{decide-kept, signal-few}
-use Rattle.planning.specs.declared.decide.Decision.{Decision}
-use Rattle.planning.specs.declared.decide.Decision.the-variants.{Omitted, Kept}
-use Rattle.planning.specs.declared.decide.Decision.the-variants as decisions
+use Rattle.deciding.specs.declared.Decision.{Decision}
+use Rattle.deciding.specs.declared.Decision.the-variants.{Omitted, Kept}
+use Rattle.deciding.specs.declared.Decision.the-variants as decisions
+use Rattle.deciding.specs.Decided.{stops, leaves, left, isSigned, laidDecision}
 use Rattle.planning.specs.declared.column.Progress.{Progress}
 use Rattle.planning.specs.declared.column.Progress.the-variants.{Refused, Done}
-use Rattle.planning.specs.Decided.{stops, leaves, left, isSigned, laidDecision}
 use Rattle.planning.specs.Items.{groupOf, channelsIn}
 use Rattle.planning.specs.ItemLaws.{channels-end, channels-next, channels-over}
 use Rattle.planning.specs.Planning.{signalIf, Base, Held, gives, Gives, within, others, ChannelPlan, ChannelsPlan}

@@ -1,5 +1,3 @@
-pub mod Decided
-pub mod DecideLaws
 pub mod Sizes
 pub mod SizesLaws
 pub mod TimeIn

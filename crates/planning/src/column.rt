@@ -1,10 +1,10 @@
 // The channels of a group: a column or an omission for each but the group's own master.
-use crate::decide::Decision;
-use crate::decide::decide;
 use crate::words::put_column;
 use crate::words::put_omission;
 use crate::words::word;
 use choices::Choices;
+use deciding::Decision;
+use deciding::decide;
 ghost use mathlib.Core.Path.{_≡_};
 ghost use Prim.Native.Nat.{_≤_};
 ghost use Rattle.choices.specs.Chosen.{rules};

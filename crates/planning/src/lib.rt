@@ -3,7 +3,6 @@ pub mod clocks;
 pub mod column;
 pub mod compared;
 pub mod data;
-pub mod decide;
 pub mod groups;
 pub mod masters;
 pub mod planned;

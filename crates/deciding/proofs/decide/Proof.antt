@@ -2,12 +2,12 @@
 use mathlib.Core.Path.{ap, _∙_}
 use Prim.Native.Nat.{ℕ}
 use Rattle.plan.specs.Columns.{storedAt}
-use Rattle.planning.specs.declared.decide.Tested.the-variants.{Found}
-use Rattle.planning.specs.DecideLaws.{chain-of, left-refused, left-omitted, left-same, not-yes, not-no, fit-yes, fit-no, master-yes, master-no, type-yes, type-no, test-found, test-stopped, pass, omit, stop, by-tests}
+use Rattle.deciding.specs.declared.Tested.the-variants.{Found}
+use Rattle.deciding.specs.DecideLaws.{chain-of, left-refused, left-omitted, left-same, not-yes, not-no, fit-yes, fit-no, master-yes, master-no, type-yes, type-no, test-found, test-stopped, pass, omit, stop, by-tests}
 use native.Mathlib.Omega.{arith}
 use borrow.Author.Needs.{needs}
-use Rattle.planning.proofs.decide.decide.Statement.{statement}
-use Rattle.planning.proofs.decide.decide.Tie as tie
+use Rattle.deciding.proofs.decide.Statement.{statement}
+use Rattle.deciding.proofs.decide.Tie as tie
 
 channel-type-requires : tie.Need-channel-type-requires
 channel-type-requires c κs = search needs

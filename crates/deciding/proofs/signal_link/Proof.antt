@@ -1,9 +1,9 @@
 -- Another type, a type stored as 0, or link 6.
 use mathlib.Core.Path.{_∙_}
-use Rattle.planning.specs.DecideLaws.{link-other, link-stored, link-read}
+use Rattle.deciding.specs.DecideLaws.{link-other, link-stored, link-read}
 use borrow.Author.Needs.{needs}
-use Rattle.planning.proofs.decide.signal_link.Statement.{statement}
-use Rattle.planning.proofs.decide.signal_link.Tie as tie
+use Rattle.deciding.proofs.signal_link.Statement.{statement}
+use Rattle.deciding.proofs.signal_link.Tie as tie
 
 channel-type-requires : tie.Need-channel-type-requires
 channel-type-requires c κs = search needs

@@ -1,8 +1,8 @@
 -- The references first, then the chain.
-use Rattle.planning.specs.DecideLaws.{left-refused, left-same, referred-no, referred-yes}
+use Rattle.deciding.specs.DecideLaws.{left-refused, left-same, referred-no, referred-yes}
 use borrow.Author.Needs.{needs}
-use Rattle.planning.proofs.decide.decide_kept.Statement.{statement}
-use Rattle.planning.proofs.decide.decide_kept.Tie as tie
+use Rattle.deciding.proofs.decide_kept.Statement.{statement}
+use Rattle.deciding.proofs.decide_kept.Tie as tie
 
 photos-in-requires : tie.Need-photos-in-requires
 photos-in-requires c κs = search needs

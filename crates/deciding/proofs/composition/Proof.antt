@@ -1,8 +1,8 @@
 -- Link 2 leads nowhere, past the image, to an array, to a structure, or elsewhere.
-use Rattle.planning.specs.DecideLaws.{composed-none, composed-refused, composed-array, composed-structure, composed-other}
+use Rattle.deciding.specs.DecideLaws.{composed-none, composed-refused, composed-array, composed-structure, composed-other}
 use borrow.Author.Needs.{needs}
-use Rattle.planning.proofs.decide.composition.Statement.{statement}
-use Rattle.planning.proofs.decide.composition.Tie as tie
+use Rattle.deciding.proofs.composition.Statement.{statement}
+use Rattle.deciding.proofs.composition.Tie as tie
 
 link-at-requires : tie.Need-link-at-requires
 link-at-requires c κs = search needs

@@ -7,10 +7,10 @@ use Rattle.chains.specs.Kept.{kept}
 use Rattle.plan.specs.Columns.{Signal, noSignal, signalData, sizeOfSignal, omitted}
 use Rattle.plan.specs.Columns as columns
 use Rattle.work_words.specs.PlanWords.{fragmentsIn}
-use Rattle.planning.specs.declared.decide.Decision.{Decision}
-use Rattle.planning.specs.declared.decide.Decision.the-variants.{Refused, Omitted, Kept}
-use Rattle.planning.specs.declared.decide.Tested.{Tested}
-use Rattle.planning.specs.declared.decide.Tested.the-variants.{Stopped, Found}
+use Rattle.deciding.specs.declared.Decision.{Decision}
+use Rattle.deciding.specs.declared.Decision.the-variants.{Refused, Omitted, Kept}
+use Rattle.deciding.specs.declared.Tested.{Tested}
+use Rattle.deciding.specs.declared.Tested.the-variants.{Stopped, Found}
 
 -- what a test answers: a refusal, or a reason, 0 for none
 abbrev pub testedAs : Tested → Checked ℕ

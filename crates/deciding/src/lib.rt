@@ -17,7 +17,7 @@ ghost use Rattle.base.specs.Checked.{andThen};
 ghost use Rattle.mdf.specs.Chain.{Chain.signal, limits, chain};
 ghost use Rattle.plan.specs.Photos.{photosIn};
 ghost use Rattle.plan.specs.Columns.{keptSignal, composed, signalLink, storedAt, decideChain, decide};
-ghost use Rattle.planning.specs.Decided.{testedAs, left, laidDecision};
+ghost use Rattle.deciding.specs.Decided.{testedAs, left, laidDecision};
 
 const CA: u64 = 1094918947;
 
@@ -132,7 +132,7 @@ fn decide_kept(image: &[u8], photos: bool, fragments: &mut [u64], n: u64, c: u64
 }
 
 // The reasons in their order, for the CN at c of the group at g; then 28.
-pub(crate) fn decide(image: &[u8], photos: bool, table: &[u8], fragments: &mut [u64], n: u64, g: u64, c: u64) -> Decision
+pub fn decide(image: &[u8], photos: bool, table: &[u8], fragments: &mut [u64], n: u64, g: u64, c: u64) -> Decision
     ensures { λ r. ⌜ left r (now (fragments .exit))
         ≡ laidDecision (decide photos (now (table .entry)) (now (image .entry)) n g c) n (now (fragments .entry)) ⌝ }
 {

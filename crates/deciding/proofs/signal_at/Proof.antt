@@ -1,8 +1,8 @@
 -- The chain's answer is the decision.
-use Rattle.planning.specs.DecideLaws.{signal-stop, signal-done}
+use Rattle.deciding.specs.DecideLaws.{signal-stop, signal-done}
 use borrow.Author.Needs.{needs}
-use Rattle.planning.proofs.decide.signal_at.Statement.{statement}
-use Rattle.planning.proofs.decide.signal_at.Tie as tie
+use Rattle.deciding.proofs.signal_at.Statement.{statement}
+use Rattle.deciding.proofs.signal_at.Tie as tie
 
 chain-requires : tie.Need-chain-requires
 chain-requires c κs = search needs

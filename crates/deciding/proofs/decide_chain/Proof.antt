@@ -1,8 +1,8 @@
 -- Without a link there is no signal data.
-use Rattle.planning.specs.DecideLaws.{left-unsigned, left-same, chain-none, chain-led}
+use Rattle.deciding.specs.DecideLaws.{left-unsigned, left-same, chain-none, chain-led}
 use borrow.Author.Needs.{needs}
-use Rattle.planning.proofs.decide.decide_chain.Statement.{statement}
-use Rattle.planning.proofs.decide.decide_chain.Tie as tie
+use Rattle.deciding.proofs.decide_chain.Statement.{statement}
+use Rattle.deciding.proofs.decide_chain.Tie as tie
 
 returns : tie.Need-returns
 returns c = left-unsigned _ _ (chain-none _ _ _ (c .if1 .taken))

@@ -1,8 +1,8 @@
 -- Link 6 leads nowhere, past the image, to a CG, or elsewhere.
-use Rattle.planning.specs.DecideLaws.{stored-none, stored-refused, stored-group, stored-other}
+use Rattle.deciding.specs.DecideLaws.{stored-none, stored-refused, stored-group, stored-other}
 use borrow.Author.Needs.{needs}
-use Rattle.planning.proofs.decide.storage.Statement.{statement}
-use Rattle.planning.proofs.decide.storage.Tie as tie
+use Rattle.deciding.proofs.storage.Statement.{statement}
+use Rattle.deciding.proofs.storage.Tie as tie
 
 returns : tie.Need-returns
 returns c = stored-none _ _ (c .if1 .taken)

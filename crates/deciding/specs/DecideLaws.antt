@@ -24,11 +24,11 @@ use Rattle.plan.specs.Channel.{channelType, fits, isMasterType}
 use Rattle.plan.specs.Photos.{photosIn}
 use Rattle.plan.specs.Columns.{noSignal, omitted, kindCA, keptSignal, unfit, furtherMaster, omittedType, composed, signalLink, storedAt, decideChain, unless, decide}
 use Rattle.plan.specs.Columns as columns
-use Rattle.planning.specs.declared.decide.Decision.{Decision}
-use Rattle.planning.specs.declared.decide.Decision.the-variants.{Refused, Omitted, Kept}
-use Rattle.planning.specs.declared.decide.Tested.{Tested}
-use Rattle.planning.specs.declared.decide.Tested.the-variants as Tested
-use Rattle.planning.specs.Decided.{testedAs, Left, stops, leaves, laidDecision}
+use Rattle.deciding.specs.declared.Decision.{Decision}
+use Rattle.deciding.specs.declared.Decision.the-variants.{Refused, Omitted, Kept}
+use Rattle.deciding.specs.declared.Tested.{Tested}
+use Rattle.deciding.specs.declared.Tested.the-variants as Tested
+use Rattle.deciding.specs.Decided.{testedAs, Left, stops, leaves, laidDecision}
 
 -- ---- from a decision to what it leaves
 module _ {d : Checked columns.Decision} (n : ℕ) (w : List ℕ) where
