@@ -152,11 +152,11 @@ record ToldAt (s w f t : List ℕ) (gs : List SrcGroup) (k i : ℕ) : Type 0 whe
 told-from : (s w f t : List ℕ) (k n i : ℕ) (gs : List SrcGroup) → Tabled s w f k (entriesAt t k n) gs → i < n → ToldAt s w f t gs k i
 unfolding entriesAt
 told-from s w f t k zero i gs b h = absurd (omega arith)
-told-from s w f t k (suc n) zero (g ∷ gs) (an-entry x more) h = record { group = g; at = at-first g gs; tells = rw add-zero x }
+told-from s w f t k (suc n) zero (g ∷ gs) (an-entry x more) h = record { group = g; at = at-first g gs; tells = subst (λ (m : ℕ). Tells s w f m (entryAt t m) g) (sym (add-zero k)) x }
 told-from s w f t k (suc n) (suc i) (g ∷ gs) (an-entry x more) h =
     let r = told-from s w f t (k + 1) n i gs more (omega arith) in
     let e : k + suc i ≡ k + 1 + i = omega arith in
-    record { group = r .group; at = at-later g (r .at); tells = rw e (r .tells) }
+    record { group = r .group; at = at-later g (r .at); tells = subst (λ (m : ℕ). Tells s w f m (entryAt t m) (r .group)) (sym e) (r .tells) }
 
 told-at : {s w f t : List ℕ} {n : ℕ} {gs : List SrcGroup} → Shown s w f t n gs → (i : ℕ) → i < n → ToldAt s w f t gs 0 i
 told-at {s} {w} {f} {t} {n} {gs} h i l = told-from s w f t 0 n i gs (h .tabled) l
