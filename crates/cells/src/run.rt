@@ -82,7 +82,7 @@ fn put_some(
 }
 
 // Whether n times w is at most a number.
-fn product_within(n: u64, w: u64, most: u64) -> bool
+pub fn product_within(n: u64, w: u64, most: u64) -> bool
     ensures { λ r. ⌜ (r ≡ true → n * w ≤ most) × (n * w ≤ most → r ≡ true) ⌝ }
 {
     if w == 0 {

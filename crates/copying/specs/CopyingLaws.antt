@@ -154,20 +154,21 @@ copied-some s chain m fh a zero d h q t u = absurd (omega arith)
 copied-some s chain m fh a (suc n) d h q t u = rw (blit-append, length-le) (rw (sub-one, t, q) at u)
 
 -- ---- data
-pub data-from : (s : List ℕ) (a p : ℕ) (d : List ℕ) {b n : ℕ} {e : List ℕ} → b ≡ min (dataAt s a) (length s) → n ≡ sizeAt s a - (24 + 8 * linksAt s a)
-    → e ≡ blit p (part b n s) d → e ≡ blit p (dataOf s a) d
+pub data-is : (s : List ℕ) (a : ℕ) {b n : ℕ} → b ≡ min (dataAt s a) (length s) → n ≡ sizeAt s a - (24 + 8 * linksAt s a) → part b n s ≡ dataOf s a
 unfolding dataOf
-data-from s a p d {b} {n} {e} q r t = go (ltb (length s) (dataAt s a)) refl
+data-is s a {b} {n} q r = go (ltb (length s) (dataAt s a)) refl
   where
-    go : (x : Bool) → ltb (length s) (dataAt s a) ≡ x → e ≡ blit p (part (dataAt s a) (sizeAt s a - (24 + 8 * linksAt s a)) s) d
+    go : (x : Bool) → ltb (length s) (dataAt s a) ≡ x → part b n s ≡ part (dataAt s a) (sizeAt s a - (24 + 8 * linksAt s a)) s
     go true z =
         let y : b ≡ length s = q ∙ min-eq-right (le-of-lt (ltb-true _ _ z)) in
-        let none1 : part b n s ≡ [] = part-past b n s (omega arith) in
-        let none2 : part (dataAt s a) (sizeAt s a - (24 + 8 * linksAt s a)) s ≡ [] = part-past _ _ s (le-of-lt (ltb-true _ _ z)) in
-        rw none2 (rw none1 at t)
+        part-past b n s (omega arith) ∙ sym (part-past _ _ s (le-of-lt (ltb-true _ _ z)))
     go false z =
         let y : b ≡ dataAt s a = q ∙ min-eq-left (ltb-false _ _ z) in
-        rw (← y, ← r) t
+        rw (← y, ← r)
+
+pub data-from : (s : List ℕ) (a p : ℕ) (d : List ℕ) {b n : ℕ} {e : List ℕ} → b ≡ min (dataAt s a) (length s) → n ≡ sizeAt s a - (24 + 8 * linksAt s a)
+    → e ≡ blit p (part b n s) d → e ≡ blit p (dataOf s a) d
+data-from s a p d q r t = t ∙ ap (λ (bs : List ℕ). blit p bs d) (data-is s a q r)
 
 -- ---- whole blocks
 
@@ -190,7 +191,7 @@ copied-laid s chain m fh a d₀ {k} {z} {l} {d₁} {d₂} {d₃} e f g t u v =
     blit-next 0 (24 + 8 * linksAt s a) _ _ d₀ d₂ d₃ two (rw e at v)
     (simp (length-append, length-header, length-copiedLinks s chain m fh a (linksAt s a)) (omega arith))
 
-length-front : (s : List ℕ) (a : ℕ) → length (part a 24 s) ≡ min 24 (length s - a)
+pub length-front : (s : List ℕ) (a : ℕ) → length (part a 24 s) ≡ min 24 (length s - a)
 unfolding part
 length-front s a = simp (length-take, length-drop)
 

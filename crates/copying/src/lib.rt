@@ -111,7 +111,7 @@ fn sought_link(
 }
 
 // The same by the index of the chain.
-fn first_link(
+pub fn first_link(
     image: &[u8],
     memo: &[u64],
     index: &[u16; 4096],
@@ -167,7 +167,7 @@ fn put_copied_links(
 }
 
 // How many bytes of data the block at a has.
-fn data_size(image: &[u8], a: u64) -> u64
+pub fn data_size(image: &[u8], a: u64) -> u64
     ensures { λ r. ⌜ r ≡ sizeAt (now (image .entry)) a - (24 + 8 * linksAt (now (image .entry)) a) ⌝ }
 {
     let size = size_at(image, a);
@@ -182,8 +182,7 @@ fn data_size(image: &[u8], a: u64) -> u64
 }
 
 // The data of the block at a, past n links that stand at index at.
-fn put_data(d: &mut [u8], at: usize, n: u64, image: &[u8], a: u64)
-    requires { ⌜ at ≤ 32 ⌝ }
+pub fn put_data(d: &mut [u8], at: usize, n: u64, image: &[u8], a: u64)
     ensures { λ _. ⌜ now (d .exit) ≡ blit (at + 8 * n) (dataOf (now (image .entry)) a) (now (d .entry)) ⌝ }
 {
     let room = d.len();
@@ -221,7 +220,7 @@ pub fn put_copied(
 }
 
 // How many bytes of the header of the block at a lie in the image.
-fn header_size(image: &[u8], a: u64) -> usize
+pub fn header_size(image: &[u8], a: u64) -> usize
     ensures { λ r. ⌜ r ≡ min 24 (length (now (image .entry)) - a) ⌝ }
 {
     let all = image.len() as u64;
@@ -232,7 +231,7 @@ fn header_size(image: &[u8], a: u64) -> usize
 }
 
 // The number of links of the block at a past the first.
-fn more_links(image: &[u8], a: u64) -> u64
+pub fn more_links(image: &[u8], a: u64) -> u64
     ensures { λ r. ⌜ r ≡ linksAt (now (image .entry)) a - 1 ⌝ }
 {
     let links = links_at(image, a);

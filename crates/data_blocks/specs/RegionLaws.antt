@@ -363,7 +363,7 @@ module _ (l : List ℕ) (b m n : ℕ) (ps qs : List ℕ) (xs : List (List ℕ)) 
   size : length (recordsAt l b ps) ≡ m
   size = length-recordsAt l b ps ∙ k
 
-  front-records : take m xs ≡ recordsAt l b ps
+  pub front-records : take m xs ≡ recordsAt l b ps
   front-records = sym (take-take m (m + n) xs (omega arith)) ∙ ap (take m) (e ∙ recordsAt-append l b ps qs) ∙ take-at (recordsAt l b ps) _ m size
 
   back-records : take n (drop m xs) ≡ recordsAt l b qs

@@ -22,7 +22,7 @@ ghost use Rattle.data_blocks.specs.Region.{Formed, PieceIn};
 ghost use Rattle.data_blocks.specs.Filled.{IfUsable, pastOf, PutRest, Filled, PoolFilled};
 
 // Whether a stretch is of records from number at on that the column has, in data of so many bytes.
-fn usable(t: Stretch, at: u64, f: Form, size: u64) -> bool
+pub fn usable(t: Stretch, at: u64, f: Form, size: u64) -> bool
     ensures { λ r. ⌜ IfUsable size f at t r ⌝ }
 {
     if t.number != at {

@@ -8,7 +8,7 @@ pub struct Total {
 }
 
 // Of the fragments whose words are given, three each.
-pub(crate) fn total_of(image: &[u8], fragments: &[u64]) -> Total
+pub fn total_of(image: &[u8], fragments: &[u64]) -> Total
     ensures { λ r. ⌜ TotalOf (now (image .entry)) (now (fragments .entry)) r ⌝ }
 {
     let none = Total {

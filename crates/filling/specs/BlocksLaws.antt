@@ -179,7 +179,7 @@ links-add payload (suc n) k a =
     let e : a + k * 2 ^ 64 + (24 + payload) ≡ a + (24 + payload) + k * 2 ^ 64 = omega arith in
     rw (le-add 8 k a, e, links-add payload n k (a + (24 + payload)))
 
-links-wrap : (payload n a : ℕ) → blockLinks payload n (a % 2 ^ 64) ≡ blockLinks payload n a
+pub links-wrap : (payload n a : ℕ) → blockLinks payload n (a % 2 ^ 64) ≡ blockLinks payload n a
 links-wrap payload n a =
     let e : a % 2 ^ 64 + a / 2 ^ 64 * 2 ^ 64 ≡ a = add-comm (a % 2 ^ 64) (a / 2 ^ 64 * 2 ^ 64) ∙ div-add-mod' a (2 ^ 64) in
     sym (links-add payload n (a / 2 ^ 64) (a % 2 ^ 64)) ∙ ap (blockLinks payload n) e
@@ -202,7 +202,7 @@ links-end payload (suc n) a p d e g h i t small =
     let j : blit (p + 8) (blockLinks payload n (a + (24 + payload))) (blit p (le 8 a) d) ≡ g = rw (blit-append, length-le) at i in
     sym (blit-past (blockLinks payload n (a + (24 + payload))) (p + 8) e small) ∙ rw t j
 
-length-links : (payload n a : ℕ) → length (blockLinks payload n a) ≡ 8 * n
+pub length-links : (payload n a : ℕ) → length (blockLinks payload n a) ≡ 8 * n
 unfolding blockLinks
 length-links payload zero a = refl
 length-links payload (suc n) a = simp (length-append, length-le, length-links payload n (a + (24 + payload))) (omega arith)

@@ -346,7 +346,7 @@ fn put_links(d: &mut [u8], payload: u64, n: u64, a: u64)
 }
 
 // A DL's data at the front of d.
-fn put_dl_data(d: &mut [u8], n: u64, payload: u64)
+pub fn put_dl_data(d: &mut [u8], n: u64, payload: u64)
     ensures { λ _. ⌜ now (d .exit) ≡ blit 0 (le 4 1 ++ le 4 n ++ le 8 payload) (now (d .entry)) ⌝ }
 {
     put_u32(d, 0, 1);

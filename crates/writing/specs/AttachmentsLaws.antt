@@ -1,13 +1,10 @@
 -- Attachments written one after the other, each after its own copies.
-use Prim.Native.Nat.{ℕ, zero, suc, _+_, _-_, _*_, _≤_, _<_}
+use Prim.Native.Nat.{ℕ, _+_, _-_, _*_, _≤_, _<_}
 use mathlib.Core.List.{List, [], _∷_, _++_, append-assoc}
 use mathlib.Core.Path.{_≡_, refl, sym, ap, subst, _∙_}
 use native.Mathlib.Nat.{le-refl}
-use native.Mathlib.Numerals.{sub-one}
 use native.Mathlib.Omega.{arith}
 use lib.ListN.{length, getD, length-append}
-use Rattle.base.specs.Choice.{ifLt}
-use Rattle.base.specs.ChoiceLaws.{lt-yes, lt-no}
 use Rattle.base.specs.Blit.{part}
 use Rattle.mdf.specs.Block.{sizeAt}
 use Rattle.plan.specs.Copies.{Copy, Attachment}
@@ -22,27 +19,11 @@ use Rattle.copies_laws.specs.LengthLaws.{length-at}
 use Rattle.copies_laws.specs.OrderLaws.{copied-ordered, attached-ordered}
 use Rattle.writing.specs.Wrote.{endOf, Wrote}
 use Rattle.writing.specs.WroteLaws.{ordered-end, end-append, wrote-append}
-use Rattle.writing.specs.CopiesLaws.{Left, left-all, left-turn, left-none, copies-part}
-use Rattle.writing.specs.Attachments.{attachment, attachmentsFrom, attachmentsIn, NextPlace, Placing}
-
--- ---- one attachment and the rest
-attachments-cons : (w : List ℕ) (p k n : ℕ) → 0 < n
-    → attachmentsFrom w p k n ≡ attachment w p k ∷ attachmentsFrom w (p + 3) (k + getD w (p + 2) 0) (n - 1)
-unfolding attachmentsFrom
-attachments-cons w p k zero h = absurd (omega arith)
-attachments-cons w p k (suc n) h = rw sub-one
-
--- where the next attachment is placed, 0 past the last
-next-of : (w : List ℕ) (p k n : ℕ) {r : ℕ} → r ≡ ifLt 0 n (getD w (p + 1) 0) 0 → r ≡ nextAttachment (attachmentsFrom w p k n)
-unfolding attachmentsFrom
-next-of w p k zero e = e ∙ sym (lt-no 0 0 (getD w (p + 1) 0) 0 (omega arith) refl)
-next-of w p k (suc n) e = e ∙ sym (lt-yes 0 (suc n) (getD w (p + 1) 0) 0 (omega arith) refl)
-
-pub next-some : (w : List ℕ) (i n : ℕ) {r : ℕ} → i < n → r ≡ getD w (4096 + 3 * i + 1) 0 → NextPlace w i n r
-next-some w i n h e = record { is = λ k. next-of w (4096 + 3 * i) k (n - i) (lt-yes 0 (n - i) _ _ (omega arith) e) }
-
-pub next-none : (w : List ℕ) (i n : ℕ) → n ≤ i → NextPlace w i n 0
-next-none w i n h = record { is = λ k. next-of w (4096 + 3 * i) k (n - i) (lt-no 0 (n - i) _ _ (omega arith) refl) }
+use Rattle.writing.specs.CopiesLaws.{Left, left-all, left-turn, left-none}
+use Rattle.window_copies.specs.Attachments.{attachment, attachmentsFrom, attachmentsIn, NextPlace}
+use Rattle.window_copies.specs.AttachmentsLaws.{attachments-cons}
+use Rattle.window_copies.specs.LayingLaws.{copies-part}
+use Rattle.writing.specs.Attachments.{Placing}
 
 -- ---- blocks and one more at the end
 ordered-last : (a b e : ℕ) (xs : List Block) (bytes : List ℕ) → Ordered a xs b → b + length bytes ≤ e → Ordered a (xs ++ (block b bytes ∷ [])) e

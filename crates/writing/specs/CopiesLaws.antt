@@ -4,7 +4,7 @@ use mathlib.Core.List.{List, [], _∷_, _++_}
 use mathlib.Core.Path.{_≡_, refl, sym, ap, subst, _∙_}
 use native.Mathlib.Numerals.{sub-one}
 use native.Mathlib.Omega.{arith}
-use lib.ListN.{length, getD, take, drop, replicate}
+use lib.ListN.{length, getD, replicate}
 use Rattle.base.specs.Blit.{part, blit}
 use Rattle.mdf.specs.Block.{sizeAt}
 use Rattle.plan.specs.Copies.{Copy}
@@ -15,6 +15,7 @@ use Rattle.copies_laws.specs.AnswerLaws.{Whole}
 use Rattle.copies_laws.specs.Laid.{Laid, laid-ends}
 use Rattle.copies_laws.specs.LengthLaws.{length-copied}
 use Rattle.copies_laws.specs.OrderLaws.{copied-ordered}
+use Rattle.window_copies.specs.LayingLaws.{copies-part}
 use Rattle.writing.specs.Wrote.{endOf, Wrote}
 use Rattle.writing.specs.WroteLaws.{wrote-none, wrote-block, wrote-append}
 
@@ -44,40 +45,11 @@ wrote-placed p place n bytes out mid {last} h l t u =
     let k : last ≡ blit place bytes (blit p (replicate (place - p) 0) out) = rw t at u in
     subst (λ (z : ℕ). Wrote p (block place bytes ∷ []) (place + z) out last) l (wrote-block (block place bytes) h k)
 
--- ---- copies of the words: one and the rest, none, some of them
+-- ---- copies of the words: one and the rest
 pub copies-cons : (w : List ℕ) (p k : ℕ) → 0 < k → copiesFrom w p k ≡ copy (getD w p 0) (getD w (p + 1) 0) ∷ copiesFrom w (p + 2) (k - 1)
 unfolding copiesFrom
 copies-cons w p zero h = absurd (omega arith)
 copies-cons w p (suc k) h = rw sub-one
-
-pub copies-drop : (w : List ℕ) (p j k : ℕ) → drop j (copiesFrom w p (j + k)) ≡ copiesFrom w (p + 2 * j) k
-unfolding copiesFrom
-copies-drop w p zero k =
-    let e : 0 + k ≡ k = omega arith in
-    let f : p + 2 * 0 ≡ p = omega arith in
-    rw (e, f)
-copies-drop w p (suc j) k =
-    let e : suc j + k ≡ suc (j + k) = omega arith in
-    let f : p + 2 * suc j ≡ p + 2 + 2 * j = omega arith in
-    rw (e, f) (copies-drop w (p + 2) j k)
-
-pub copies-take : (w : List ℕ) (p j k : ℕ) → take j (copiesFrom w p (j + k)) ≡ copiesFrom w p j
-unfolding copiesFrom
-copies-take w p zero k = refl
-copies-take w p (suc j) k =
-    let e : suc j + k ≡ suc (j + k) = omega arith in
-    rw e (ap (λ (l : List Copy). copy (getD w p 0) (getD w (p + 1) 0) ∷ l) (copies-take w (p + 2) j k))
-
--- copies number from up to to, of those in the words
-pub copies-part : (w : List ℕ) (used from to : ℕ) → from ≤ to → to ≤ used → part from (to - from) (copiesIn w used) ≡ copiesFrom w (2 * from) (to - from)
-unfolding part
-copies-part w used from to h l =
-    let e : used ≡ from + ((to - from) + (used - to)) = omega arith in
-    let f : 0 + 2 * from ≡ 2 * from = omega arith in
-    let d : drop from (copiesFrom w 0 used) ≡ copiesFrom w (2 * from) ((to - from) + (used - to)) =
-    ap (λ (n : ℕ). drop from (copiesFrom w 0 n)) e ∙ copies-drop w 0 from ((to - from) + (used - to))
-    ∙ ap (λ (n : ℕ). copiesFrom w n ((to - from) + (used - to))) f in
-    ap (take (to - from)) d ∙ copies-take w (2 * from) (to - from) (used - to)
 
 -- ---- the loop over the copies i up to to
 module _ (s w chain : List ℕ) (memo : List Copy) (fh a : ℕ) (bs : List Block) (out₀ : List ℕ) (to i p : ℕ) (out : List ℕ) where

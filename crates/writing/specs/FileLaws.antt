@@ -47,7 +47,7 @@ use Rattle.writing.specs.PlacedIn.{placedOne, placedIn}
 use Rattle.writing.specs.PlacedInLaws.{length-placed, next-in, structure-in, structure-ready}
 use Rattle.writing.specs.Structure.{onTable, StructureReady}
 use Rattle.writing.specs.StructureLaws.{by-table}
-use Rattle.writing.specs.Attachments.{attachmentsIn, NextPlace}
+use Rattle.window_copies.specs.Attachments.{attachmentsIn, NextPlace}
 use Rattle.writing.specs.LaidWordsLaws.{Numbers, copies-order, history-room, columns-room, attachments-room, attachments-few, history-blocks, columns-blocks, attachments-blocks, copies-read, chain-read, attachments-read}
 use Rattle.writing.specs.Wrote.{endOf, Wrote}
 use Rattle.writing.specs.WroteLaws.{ordered-end, ordered-first}

@@ -24,8 +24,8 @@ use Rattle.result.specs.Fill.{copiedBlocks, attachmentBlocks}
 use Rattle.result.specs.Result.{memoOf}
 use Rattle.copies_laws.specs.AttachLaws.{ownCopies, LaidAt}
 use Rattle.copies_laws.specs.LayoutLaws.{LaidOut, history-laid, columns-laid, columns-after-history, attachments-laid, few-in-all}
-use Rattle.writing.specs.CopiesLaws.{copies-take, copies-drop}
-use Rattle.writing.specs.Attachments.{attachmentsFrom, attachmentsIn}
+use Rattle.window_copies.specs.LayingLaws.{copies-take, copies-drop}
+use Rattle.window_copies.specs.Attachments.{attachmentsFrom, attachmentsIn}
 
 -- ---- words one by one
 part-cons : (w : List ℕ) (p q n : ℕ) → p + 1 ≡ q → p < length w → part p (suc n) w ≡ getD w p 0 ∷ part q n w

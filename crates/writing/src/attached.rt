@@ -17,7 +17,8 @@ ghost use Rattle.copying.specs.ChainIndex.{ChainIndexes};
 ghost use Rattle.result.specs.Fill.{block, copiedBlocks, atBytes, attachmentBlocks};
 ghost use Rattle.copies_laws.specs.AttachLaws.{Moved, LaidAt, ownCopies};
 ghost use Rattle.writing.specs.Wrote.{Wrote};
-ghost use Rattle.writing.specs.Attachments.{attachmentsIn, NextPlace, Placing};
+ghost use Rattle.window_copies.specs.Attachments.{attachmentsIn, NextPlace};
+ghost use Rattle.writing.specs.Attachments.{Placing};
 
 // The AT made of the one at a, at its place; from at on zeros up to there.
 pub(crate) fn write_at(

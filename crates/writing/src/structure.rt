@@ -25,7 +25,7 @@ ghost use Rattle.plan.specs.Layout.{dlSize};
 ghost use Rattle.placing.specs.Standing.{copiesIn};
 ghost use Rattle.placing.specs.Index.{Indexes};
 ghost use Rattle.result.specs.Fill.{block, newLink, structureBlocks};
-ghost use Rattle.writing.specs.Attachments.{attachmentsIn};
+ghost use Rattle.window_copies.specs.Attachments.{attachmentsIn};
 ghost use Rattle.writing.specs.PlacedIn.{placedIn};
 ghost use Rattle.writing.specs.Structure.{onTable, cnLength, columnDG, columnCG, columnFront, columnData, columnCN, columnDLs, columnParts, cgLength, Room, StructureReady};
 ghost use Rattle.writing.specs.Wrote.{Wrote};

@@ -50,13 +50,7 @@ add-put-data c = omega (
 )
 
 put-data-requires : tie.Need-put-data-requires
-put-data-requires c κs = omega (
-  arith,
-  c .before .before .before .before .before .before .before .before .before .before .before .before .before .before .header-size .ensures,
-  min-le-left 24 (length
-      (c .before .before .before .before .before .before .before .before .before .before .before .before .before .before .before .before .before .before .args .image .now)
-      - c .before .before .before .before .before .before .before .before .before .before .before .before .before .before .before .before .before .before .args .a),
-)
+put-data-requires c κs = search needs
 
 same-length : tie.Need-same-length
 same-length c = search needs

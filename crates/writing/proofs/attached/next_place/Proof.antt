@@ -1,5 +1,5 @@
 -- The word of the next attachment's place.
-use Rattle.writing.specs.AttachmentsLaws.{next-some, next-none}
+use Rattle.window_copies.specs.AttachmentsLaws.{next-some, next-none}
 use mathlib.Core.Path.{refl}
 use native.Mathlib.Omega.{arith}
 use borrow.Author.Needs.{needs}

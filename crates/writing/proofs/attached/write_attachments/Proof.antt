@@ -1,6 +1,6 @@
 -- Each turn writes an attachment; those that are left end what all are.
 use Rattle.writing.specs.AttachmentsLaws.{AttachmentsLeft, attachments-begin, next-end, next-placing, attachments-turn, attachments-end}
-use Rattle.writing.specs.Attachments.{attachmentsIn}
+use Rattle.window_copies.specs.Attachments.{attachmentsIn}
 use Rattle.result.specs.Fill.{attachmentBlocks}
 use Rattle.placing.specs.Standing.{copiesIn}
 use Rattle.work_words.specs.CopyWords.{historyAt}

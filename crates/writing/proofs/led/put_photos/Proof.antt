@@ -1,7 +1,7 @@
 -- The references that are left give what all give.
 use Prim.Native.Nat.{_-_}
 use native.Mathlib.Omega.{arith}
-use Rattle.writing.specs.Attachments.{attachmentsIn}
+use Rattle.window_copies.specs.Attachments.{attachmentsIn}
 use Rattle.writing.specs.LedLaws.{Leading, lead-begin, lead-end, lead-next}
 use borrow.Author.Needs.{needs}
 use Rattle.writing.proofs.led.put_photos.Statement.{statement}
@@ -41,7 +41,7 @@ loop-less : tie.Need-loop-less Inv-loop μ-loop
 loop-less c = search needs
 
 loop-again : tie.Need-loop-again Inv-loop μ-loop
-loop-again c = lead-next (c .before .before .before .before .before .before .before .loop .inv) (c .before .before .before .before .before .before .loop-test .taken) (c .before .before .before .before .before .link-at .ensures) (c .before .before .before .before .moved-to .ensures) (c .before .before .put-u64 .ensures)
+loop-again c = lead-next (c .before .before .before .before .before .before .before .loop .inv) (c .before .before .before .before .before .before .loop-test .taken) (c .before .before .before .before .before .link-at .ensures) (c .before .before .before .before .moved-to .ensures (c .before .before .before .before .before .before .before .before .before .before .before .pre .1) (c .before .before .before .before .before .before .before .before .before .before .before .pre .2)) (c .before .before .put-u64 .ensures)
 
 same-length : tie.Need-same-length Inv-loop μ-loop
 same-length c = search needs

@@ -1,7 +1,7 @@
 -- The columns that are left give what all give.
 use Prim.Native.Nat.{_-_}
 use native.Mathlib.Omega.{arith}
-use Rattle.writing.specs.Attachments.{attachmentsIn}
+use Rattle.window_copies.specs.Attachments.{attachmentsIn}
 use Rattle.writing.specs.Structure.{onTable}
 use Rattle.writing.specs.StructureLaws.{near-ready, Structures, structures-begin, structures-end, structures-room, structures-turn}
 use borrow.Author.Needs.{needs}

@@ -2,10 +2,10 @@
 use Prim.Native.Nat.{_+_, _*_}
 use mathlib.Core.Path.{_≡_}
 use native.Mathlib.Omega.{arith}
-use Rattle.writing.specs.LedLaws.{Seeking, seek-begin, seek-hit, seek-next, seek-none}
+use Rattle.window_photos.specs.SeekLaws.{Seeking, seek-begin, seek-hit, seek-next, seek-none}
 use borrow.Author.Needs.{needs}
-use Rattle.writing.proofs.led.moved_to.Statement.{statement}
-use Rattle.writing.proofs.led.moved_to.Tie as tie
+use Rattle.window_photos.proofs.sought.Statement.{statement}
+use Rattle.window_photos.proofs.sought.Tie as tie
 
 abbrev Inv-loop : tie.InvT-loop
 Inv-loop memo metadata attached a p₀ left₀ p left = (p + 3 * left ≡ 4096 + 3 * attached) × Seeking memo metadata attached a p left
@@ -49,8 +49,8 @@ loop-again c = (search needs, seek-next (c .before .before .before .loop .inv .1
 returns-2 : tie.Need-returns-2 Inv-loop μ-loop
 returns-2 c = seek-none (c .before .loop .inv .1) (omega arith)
 
-pub moved-to-spec : {M : Type 1} → statement M
-moved-to-spec =
+pub sought-spec : {M : Type 1} → statement M
+sought-spec =
     tie.close
     (tie.spec
     Inv-loop

@@ -1,0 +1,3 @@
+pub mod Photos
+pub mod PhotosLaws
+pub mod SeekLaws
