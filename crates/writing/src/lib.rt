@@ -4,7 +4,7 @@ pub mod convert;
 mod copies;
 mod counts;
 pub mod data;
-mod file;
+pub mod file;
 mod front;
 mod gap;
 mod led;
