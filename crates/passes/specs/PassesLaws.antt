@@ -11,7 +11,7 @@ use lib.ListN.{length, getD, getElem?, take, replicate}
 use Rattle.base.specs.Choice.{ifLt, ifEq}
 use Rattle.base.specs.ChoiceLaws.{lt-yes, lt-no, eq-yes, eq-no}
 use Rattle.base.specs.Blit.{blit}
-use Rattle.base.specs.Checked.{Checked, ok, refused}
+use Rattle.base.specs.Checked.{Checked, ok, refused, Verdict, fine}
 use Rattle.stores.specs.Cases.{lt-or-le, eq-or-ne}
 use Rattle.stores.specs.Stores.{stepsOf, Op, step, Running, begun, does, run}
 use Rattle.stores.specs.RunLaws.{ran, run-append, run-finished, run-cut, step-stores, step-further}
@@ -159,3 +159,170 @@ module _ (u : ℕ) (js : List Job) (i : ℕ) (j : Job) (e : getElem? js i ≡ so
       → getD (shares u js) k 0 ≡ min (l .cap) (min (l .left) (u / unfinished js))
   unfolding shares
   share-order k l h b less = given-order _ _ js i k j l h e b less
+
+-- a pass that has stores to give, and a job that may take one, gives one
+takeable-some : (js : List Job) (i : ℕ) (j : Job) → getElem? js i ≡ some j → min (j .cap) (j .left) ≤ takeable js
+unfolding takeable
+takeable-some [] i j e = absurd (none≢some e)
+takeable-some (h ∷ js) zero j e = rw (← some-same e) (omega arith)
+takeable-some (h ∷ js) (suc i) j e = omega (arith, takeable-some js i j e)
+
+pub shares-some : (u : ℕ) (js : List Job) (i : ℕ) (j : Job) → getElem? js i ≡ some j → 0 < u → 0 < j .cap → 0 < j .left → 0 < total (shares u js)
+shares-some u js i j e a b c = omega (arith, shares-total u js, takeable-some js i j e)
+
+-- ---- refusals
+
+module _ (u : ℕ) (js : List Job) where
+  -- "31 when there is no job or more than eight"
+  pub shared-none : length js ≡ 0 → shared u js ≡ refused 31 0
+  unfolding shared allowed counted
+  shared-none e = rw (← eq-yes (length js) 0 (refused 31 0) (ifLt 8 (length js) (refused 31 0) fine) e refl) refl
+
+  pub shared-over : 8 < length js → shared u js ≡ refused 31 0
+  unfolding shared allowed counted
+  shared-over h =
+      rw (← eq-no (length js) 0 (refused 31 0) (ifLt 8 (length js) (refused 31 0) fine) (λ e. omega (arith, e)) (lt-yes _ _ _ _ h refl)) refl
+
+  module _ (some' : (length js ≡ 0) → ⊥) (few : length js ≤ 8) where
+    few-counted : counted (length js) ≡ fine
+    unfolding counted
+    few-counted = sym (eq-no _ _ _ _ some' (lt-no _ _ _ _ few refl))
+
+    -- "then 32 when U or a cap is 0"
+    pub shared-nothing : u ≡ 0 → shared u js ≡ refused 32 0
+    unfolding shared allowed
+    shared-nothing e = rw (few-counted, ← eq-yes u 0 (refused 32 0) (capped js) e refl) refl
+
+    pub shared-uncapped : (u ≡ 0 → ⊥) → capped js ≡ refused 32 0 → shared u js ≡ refused 32 0
+    unfolding shared allowed
+    shared-uncapped e c = rw (few-counted, ← eq-no u 0 (refused 32 0) (capped js) e refl, c) refl
+
+    pub shared-fine : (u ≡ 0 → ⊥) → capped js ≡ fine → shared u js ≡ ok (shares u js)
+    unfolding shared allowed
+    shared-fine e c = rw (few-counted, ← eq-no u 0 (refused 32 0) (capped js) e refl, c) refl
+
+pub uncapped-here : (j : Job) (js : List Job) → j .cap ≡ 0 → capped (j ∷ js) ≡ refused 32 0
+unfolding capped
+uncapped-here j js e = sym (eq-yes _ _ _ _ e refl)
+
+pub capped-on : (j : Job) (js : List Job) → (j .cap ≡ 0 → ⊥) → capped (j ∷ js) ≡ capped js
+unfolding capped
+capped-on j js e = sym (eq-no _ _ _ _ e refl)
+
+-- any cap of 0
+pub uncapped : (js : List Job) (i : ℕ) (j : Job) → getElem? js i ≡ some j → j .cap ≡ 0 → capped js ≡ refused 32 0
+uncapped [] i j e z = absurd (none≢some e)
+uncapped (h ∷ js) zero j e z = uncapped-here h js (ap (λ (x : Job). x .cap) (some-same e) ∙ z)
+uncapped (h ∷ js) (suc i) j e z =
+    ⊎-elim (λ a. uncapped-here h js a) (λ a. capped-on h js a ∙ uncapped js i j e z) (eq-or-ne (h .cap) 0)
+
+-- where there is none, every cap is above 0
+pub all-capped : (js : List Job) → capped js ≡ fine → (i : ℕ) (j : Job) → getElem? js i ≡ some j → 0 < j .cap
+all-capped js c i j e = ⊎-elim (λ z. absurd (refused≢fine (sym (uncapped js i j e z) ∙ c))) (λ z. omega (arith, z)) (eq-or-ne (j .cap) 0)
+  where
+    refused≢fine : _≡_ {A = Verdict} (refused 32 0) fine → ⊥
+    refused≢fine e = let z : _≡_ {A = ℕ} 0 1 = cc in omega arith
+
+-- ---- a job on its own
+
+-- what calls on job c, and on no other, have made of it
+pub record Went (c d : Cell) : Type 0 where
+  pub same : d .task ≡ c .task
+  pub calls : List Op
+  pub reached : d .running ≡ run (c .task .made) (c .task .words) calls (c .running)
+
+pub advanced-run : (f words : List ℕ) (k : ℕ) (r : Running) → advanced f words k r ≡ run f words (replicate k step) r
+unfolding advanced run
+advanced-run f words zero r = refl
+advanced-run f words (suc k) r = advanced-run f words k (does f words step r)
+
+went-not : (c : Cell) → Went c c
+unfolding run
+went-not c = record { same = refl; calls = []; reached = refl }
+
+went-called : (o : Op) (c : Cell) → Went c (calledWith o c)
+unfolding run
+went-called o c = record { same = refl; calls = o ∷ []; reached = refl }
+
+went-on : (k : ℕ) (c : Cell) → Went c (onBy k c)
+went-on k c = record { same = refl; calls = replicate k step; reached = advanced-run _ _ k _ }
+
+-- "the file it would have had alone": it stands where some calls on it alone have brought it since it began
+pub record Alone (c : Cell) : Type 0 where
+  pub calls : List Op
+  pub reached : c .running ≡ ran (c .task .made) (c .task .words) (c .task .out) (c .task .list) calls
+
+alone-fresh : (t : Task) → Alone (fresh t)
+unfolding run
+alone-fresh t = record { calls = []; reached = refl }
+
+alone-went : {c d : Cell} → Alone c → Went c d → Alone d
+alone-went {c} {d} a w = record { calls = a .calls ++ w .calls; reached = is }
+  where
+    is : d .running ≡ ran (d .task .made) (d .task .words) (d .task .out) (d .task .list) (a .calls ++ w .calls)
+    is =
+        rw (w .same)
+        (w .reached
+        ∙ ap (run (c .task .made) (c .task .words) (w .calls)) (a .reached)
+        ∙ sym (run-append (c .task .made) (c .task .words) (a .calls) (w .calls) (begun (c .task .out) (c .task .list))))
+
+-- ---- all jobs
+
+-- job number i of cs, and what became of it
+pub record Was (cs : List Cell) (i : ℕ) (d : Cell) : Type 0 where
+  pub cell : Cell
+  pub there : getElem? cs i ≡ some cell
+  pub went : Went cell d
+
+was-same : (cs : List Cell) (i : ℕ) (d : Cell) → getElem? cs i ≡ some d → Was cs i d
+was-same cs i d e = record { cell = d; there = e; went = went-not d }
+
+was-later : {c : Cell} {cs : List Cell} {i : ℕ} {d : Cell} → Was cs i d → Was (c ∷ cs) (suc i) d
+was-later w = record { cell = w .cell; there = w .there; went = w .went }
+
+called-was : (k : ℕ) (o : Op) (cs : List Cell) (i : ℕ) (d : Cell) → getElem? (called k o cs) i ≡ some d → Was cs i d
+unfolding called
+called-was k o [] i d e = absurd (none≢some e)
+called-was zero o (c ∷ cs) zero d e = record { cell = c; there = refl; went = subst (Went c) (some-same e) (went-called o c) }
+called-was zero o (c ∷ cs) (suc i) d e = was-same (c ∷ cs) (suc i) d e
+called-was (suc k) o (c ∷ cs) zero d e = was-same (c ∷ cs) zero d e
+called-was (suc k) o (c ∷ cs) (suc i) d e = was-later (called-was k o cs i d e)
+
+advanced-was : (ks : List ℕ) (cs : List Cell) (i : ℕ) (d : Cell) → getElem? (advancedBy ks cs) i ≡ some d → Was cs i d
+unfolding advancedBy
+advanced-was ks [] i d e = absurd (none≢some e)
+advanced-was [] (c ∷ cs) i d e = was-same (c ∷ cs) i d e
+advanced-was (k ∷ ks) (c ∷ cs) zero d e = record { cell = c; there = refl; went = subst (Went c) (some-same e) (went-on k c) }
+advanced-was (k ∷ ks) (c ∷ cs) (suc i) d e = was-later (advanced-was ks cs i d e)
+
+passed-was : (v : Checked (List ℕ)) (cs : List Cell) (i : ℕ) (d : Cell) → getElem? (passedBy v cs) i ≡ some d → Was cs i d
+passed-was (ok ks) cs i d e = advanced-was ks cs i d e
+passed-was (refused n p) cs i d e = was-same cs i d e
+
+-- every job of a list
+abbrev pub AllAlone : List Cell → Type 0
+AllAlone cs = (i : ℕ) (c : Cell) → getElem? cs i ≡ some c → Alone c
+
+alone-was : {cs : List Cell} {i : ℕ} {d : Cell} → AllAlone cs → Was cs i d → Alone d
+alone-was {cs} {i} {d} a w = alone-went (a i (w .cell) (w .there)) (w .went)
+
+joined-alone : (cs : List Cell) (t : Task) → AllAlone cs → AllAlone (cs ++ (fresh t ∷ []))
+joined-alone [] t a zero c e = subst Alone (some-same e) (alone-fresh t)
+joined-alone [] t a (suc i) c e = absurd (none≢some e)
+joined-alone (h ∷ cs) t a zero c e = a zero c e
+joined-alone (h ∷ cs) t a (suc i) c e = joined-alone cs t (λ k d q. a (suc k) d q) i c e
+
+happens-alone : (e : Event) (cs : List Cell) → AllAlone cs → AllAlone (happens e cs)
+unfolding happens passed
+happens-alone (begins t) cs a = joined-alone cs t a
+happens-alone (calls k o) cs a = λ i d e. alone-was a (called-was k o cs i d e)
+happens-alone (passes u caps) cs a = λ i d e. alone-was a (passed-was (shared u (jobsOf caps cs)) cs i d e)
+
+after-alone : (es : List Event) (cs : List Cell) → AllAlone cs → AllAlone (after es cs)
+unfolding after
+after-alone [] cs a = a
+after-alone (e ∷ es) cs a = after-alone es (happens e cs) (happens-alone e cs a)
+
+-- "Any sequence of passes": whatever begins, is called for and is given in passes, each job stands where calls on it alone have brought it
+pub all-alone : (es : List Event) → AllAlone (after es [])
+all-alone es = after-alone es [] (λ i c e. absurd (none≢some e))
