@@ -1,7 +1,7 @@
 -- The laws of shares and passes: each job gets at least its base, none past its cap or what it has left, all together what they may take and at most
 -- U, and what is left over in cell order. And whatever passes and calls there are, each job stands where calls on it alone have brought it.
 use Prim.Native.Nat.{ℕ, zero, suc, _+_, _*_, _-_, _/_, _≤_, _<_, min}
-use mathlib.Core.List.{List, [], _∷_, _++_}
+use mathlib.Core.List.{List, [], _∷_, _++_, map, append-nil, append-assoc}
 use mathlib.Core.Option.{Option, none, some}
 use mathlib.Core.Path.{_≡_, refl, sym, ap, subst, _∙_}
 use mathlib.Core.Logic.{⊎-elim}
@@ -326,3 +326,136 @@ after-alone (e ∷ es) cs a = after-alone es (happens e cs) (happens-alone e cs 
 -- "Any sequence of passes": whatever begins, is called for and is given in passes, each job stands where calls on it alone have brought it
 pub all-alone : (es : List Event) → AllAlone (after es [])
 all-alone es = after-alone es [] (λ i c e. absurd (none≢some e))
+
+module _ (es : List Event) (i : ℕ) (c : Cell) (e : getElem? (after es []) i ≡ some c) where
+  abbrev t : Task
+  t = c .task
+
+  -- "each finished cell the file it would have had alone", and the list: those made in one go
+  pub job-finished : 8 ≤ length (t .made) → leftOf c ≡ 0 → (c .running .file ≡ blit 0 (t .made) (t .out)) × (c .running .list ≡ blit 0 (t .words) (t .list))
+  unfolding leftOf
+  job-finished h z =
+      let a : Alone c = all-alone es i c e in
+      let n : c .running .state .next ≡ ran (t .made) (t .words) (t .out) (t .list) (a .calls) .state .next = ap (λ (r : Running). r .state .next) (a .reached) in
+      let g = run-finished (t .made) (t .words) (t .out) (t .list) (a .calls) h (omega (arith, z, n)) in
+      (ap (λ (r : Running). r .file) (a .reached) ∙ g .0, ap (λ (r : Running). r .list) (a .reached) ∙ g .1)
+
+  -- and those of any calls that finish it where there is no other job
+  pub job-as-alone : (os : List Op) → 8 ≤ length (t .made) → leftOf c ≡ 0
+      → stepsOf (length (t .made)) ≤ ran (t .made) (t .words) (t .out) (t .list) os .state .next
+      → (c .running .file ≡ ran (t .made) (t .words) (t .out) (t .list) os .file) × (c .running .list ≡ ran (t .made) (t .words) (t .out) (t .list) os .list)
+  job-as-alone os h z l =
+      let f = job-finished h z in
+      let g = run-finished (t .made) (t .words) (t .out) (t .list) os h l in
+      (f .0 ∙ sym (g .0), f .1 ∙ sym (g .1))
+
+  -- one that isn't finished, once a store was made: its first eight bytes are zero, and the list is as it was
+  pub job-cut : 8 ≤ length (t .out) → 0 < leftOf c → 1 ≤ c .running .high → (take 8 (c .running .file) ≡ replicate 8 0) × (c .running .list ≡ t .list)
+  unfolding leftOf
+  job-cut h l k =
+      let a : Alone c = all-alone es i c e in
+      let n : c .running .state .next ≡ ran (t .made) (t .words) (t .out) (t .list) (a .calls) .state .next = ap (λ (r : Running). r .state .next) (a .reached) in
+      let m : c .running .high ≡ ran (t .made) (t .words) (t .out) (t .list) (a .calls) .high = ap (λ (r : Running). r .high) (a .reached) in
+      let g = run-cut (t .made) (t .words) (t .out) (t .list) (a .calls) h (omega (arith, l, n)) (omega (arith, k, m)) in
+      (ap (λ (r : Running). take 8 (r .file)) (a .reached) ∙ g .0, ap (λ (r : Running). r .list) (a .reached) ∙ g .1)
+
+-- ---- which job is which
+
+-- the jobs that begin, in their order
+unfoldable pub beginning : List Event → List Task
+beginning [] = []
+beginning (begins t ∷ es) = t ∷ beginning es
+beginning (calls i o ∷ es) = beginning es
+beginning (passes u caps ∷ es) = beginning es
+
+abbrev pub tasks : List Cell → List Task
+tasks cs = map (λ (c : Cell). c .task) cs
+
+called-tasks : (k : ℕ) (o : Op) (cs : List Cell) → tasks (called k o cs) ≡ tasks cs
+unfolding called
+called-tasks k o [] = refl
+called-tasks zero o (c ∷ cs) = refl
+called-tasks (suc k) o (c ∷ cs) = ap {B = List Task} (λ r. c .task ∷ r) (called-tasks k o cs)
+
+advanced-tasks : (ks : List ℕ) (cs : List Cell) → tasks (advancedBy ks cs) ≡ tasks cs
+unfolding advancedBy
+advanced-tasks ks [] = refl
+advanced-tasks [] (c ∷ cs) = refl
+advanced-tasks (k ∷ ks) (c ∷ cs) = ap {B = List Task} (λ r. c .task ∷ r) (advanced-tasks ks cs)
+
+passed-tasks : (v : Checked (List ℕ)) (cs : List Cell) → tasks (passedBy v cs) ≡ tasks cs
+passed-tasks (ok ks) cs = advanced-tasks ks cs
+passed-tasks (refused n p) cs = refl
+
+joined-tasks : (cs : List Cell) (t : Task) → tasks (cs ++ (fresh t ∷ [])) ≡ tasks cs ++ (t ∷ [])
+joined-tasks [] t = refl
+joined-tasks (c ∷ cs) t = ap {B = List Task} (λ r. c .task ∷ r) (joined-tasks cs t)
+
+-- each job keeps its number, its file and its lists
+pub after-tasks : (es : List Event) (cs : List Cell) → tasks (after es cs) ≡ tasks cs ++ beginning es
+unfolding after happens passed beginning
+after-tasks [] cs = sym (append-nil (tasks cs))
+after-tasks (begins t ∷ es) cs =
+    after-tasks es (cs ++ (fresh t ∷ [])) ∙ rw (joined-tasks cs t) (append-assoc (tasks cs) (t ∷ []) (beginning es))
+after-tasks (calls i o ∷ es) cs = after-tasks es (called i o cs) ∙ rw (called-tasks i o cs) refl
+after-tasks (passes u caps ∷ es) cs =
+    after-tasks es (passedBy (shared u (jobsOf caps cs)) cs) ∙ rw (passed-tasks (shared u (jobsOf caps cs)) cs) refl
+
+-- ---- a pass makes as many stores as it gives
+
+advanced-next : (f words : List ℕ) (k : ℕ) (r : Running) → k ≤ stepsOf (length f) - r .state .next → advanced f words k r .state .next ≡ r .state .next + k
+unfolding advanced
+advanced-next f words zero r h = omega arith
+advanced-next f words (suc k) r h =
+    let q : Running = does f words step r in
+    let n : q .state .next ≡ r .state .next + 1 = rw (step-stores f words r (omega arith)) refl in
+    advanced-next f words k q (omega arith) ∙ omega arith
+
+-- k stores further, so many fewer are left
+pub on-next : (k : ℕ) (c : Cell) → k ≤ leftOf c → (onBy k c .running .state .next ≡ c .running .state .next + k) × (leftOf (onBy k c) + k ≡ leftOf c)
+unfolding leftOf
+on-next k c h =
+    let n = advanced-next (c .task .made) (c .task .words) k (c .running) h in
+    (n, omega arith)
+
+-- job number i goes on by share number i
+advanced-one : (ks : List ℕ) (cs : List Cell) (i : ℕ) (c : Cell) → i < length ks → getElem? cs i ≡ some c
+    → getElem? (advancedBy ks cs) i ≡ some (onBy (getD ks i 0) c)
+unfolding advancedBy
+advanced-one ks [] i c h e = absurd (none≢some e)
+advanced-one [] (d ∷ cs) i c h e = absurd (omega arith)
+advanced-one (k ∷ ks) (d ∷ cs) zero c h e = ap {B = Option Cell} (λ (x : Cell). some (onBy k x)) (some-same e)
+advanced-one (k ∷ ks) (d ∷ cs) (suc i) c h e = advanced-one ks cs i c (omega arith) e
+
+jobs-one : (caps : List ℕ) (cs : List Cell) (i : ℕ) (c : Cell) → getElem? cs i ≡ some c
+    → getElem? (jobsOf caps cs) i ≡ some (record { cap = getD caps i 0; left = leftOf c })
+unfolding jobsOf
+jobs-one caps [] i c e = absurd (none≢some e)
+jobs-one [] (d ∷ cs) zero c e = ap {B = Option Job} (λ (x : Cell). some (record { cap = 0; left = leftOf x })) (some-same e)
+jobs-one [] (d ∷ cs) (suc i) c e = jobs-one [] cs i c e
+jobs-one (k ∷ ks) (d ∷ cs) zero c e = ap {B = Option Job} (λ (x : Cell). some (record { cap = k; left = leftOf x })) (some-same e)
+jobs-one (k ∷ ks) (d ∷ cs) (suc i) c e = jobs-one ks cs i c e
+
+there-within : {A : Type 0} (l : List A) (i : ℕ) (x : A) → getElem? l i ≡ some x → i < length l
+there-within [] i x e = absurd (none≢some e)
+there-within (y ∷ l) zero x e = omega arith
+there-within (y ∷ l) (suc i) x e = omega (arith, there-within l i x e)
+
+module _ (u : ℕ) (caps : List ℕ) (cs : List Cell) (i : ℕ) (c : Cell) (e : getElem? cs i ≡ some c) where
+  abbrev js : List Job
+  js = jobsOf caps cs
+
+  abbrev j : Job
+  j = record { cap = getD caps i 0; left = leftOf c }
+
+  -- what becomes of it in a pass that isn't refused
+  pub passed-one : shared u js ≡ ok (shares u js) → getElem? (passed u caps cs) i ≡ some (onBy (getD (shares u js) i 0) c)
+  unfolding passed
+  passed-one s =
+      let w : i < length (shares u js) = omega (arith, shares-length u js, there-within js i j (jobs-one caps cs i c e)) in
+      rw s (advanced-one (shares u js) cs i c w e)
+
+  -- and it makes each store of its share
+  pub passed-next : (onBy (getD (shares u js) i 0) c .running .state .next ≡ c .running .state .next + getD (shares u js) i 0)
+      × (leftOf (onBy (getD (shares u js) i 0) c) + getD (shares u js) i 0 ≡ leftOf c)
+  passed-next = on-next (getD (shares u js) i 0) c (share-left u js i j (jobs-one caps cs i c e))
