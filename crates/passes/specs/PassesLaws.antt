@@ -34,11 +34,11 @@ unfolding bases takeable
 bases-takeable q [] = omega arith
 bases-takeable q (j ∷ js) = omega (arith, bases-takeable q js)
 
-unfinished-none : (j : Job) (js : List Job) → j .left ≡ 0 → unfinished (j ∷ js) ≡ unfinished js
+pub unfinished-none : (j : Job) (js : List Job) → j .left ≡ 0 → unfinished (j ∷ js) ≡ unfinished js
 unfolding unfinished
 unfinished-none j js e = sym (eq-yes _ _ _ _ e refl)
 
-unfinished-one : (j : Job) (js : List Job) → (j .left ≡ 0 → ⊥) → unfinished (j ∷ js) ≡ suc (unfinished js)
+pub unfinished-one : (j : Job) (js : List Job) → (j .left ≡ 0 → ⊥) → unfinished (j ∷ js) ≡ suc (unfinished js)
 unfolding unfinished
 unfinished-one j js e = sym (eq-no _ _ _ _ e refl)
 
