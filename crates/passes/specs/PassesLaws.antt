@@ -14,7 +14,7 @@ use Rattle.base.specs.Blit.{blit}
 use Rattle.base.specs.Checked.{Checked, ok, refused, Verdict, fine}
 use Rattle.stores.specs.Cases.{lt-or-le, eq-or-ne}
 use Rattle.stores.specs.Stores.{stepsOf, Op, step, Running, begun, does, run}
-use Rattle.stores.specs.RunLaws.{ran, run-append, run-finished, run-cut, step-stores, step-further}
+use Rattle.stores.specs.RunLaws.{ran, run-append, run-grows, run-finished, run-cut, step-stores, step-reaches}
 use Rattle.passes.specs.Passes.{Job, unfinished, base, bases, more, given, shares, counted, capped, allowed, shared, Task, Cell, fresh, calledWith, advanced, onBy, leftOf, jobsOf, advancedBy, passedBy, passed, called, Event, begins, calls, passes, happens, after}
 
 -- ---- sums
@@ -400,6 +400,96 @@ after-tasks (begins t ∷ es) cs =
 after-tasks (calls i o ∷ es) cs = after-tasks es (called i o cs) ∙ rw (called-tasks i o cs) refl
 after-tasks (passes u caps ∷ es) cs =
     after-tasks es (passedBy (shared u (jobsOf caps cs)) cs) ∙ rw (passed-tasks (shared u (jobsOf caps cs)) cs) refl
+
+task-there : (cs : List Cell) (i : ℕ) (t : Task) → getElem? (tasks cs) i ≡ some t → (c : Cell) × (getElem? cs i ≡ some c) × (c .task ≡ t)
+task-there [] i t e = absurd (none≢some e)
+task-there (c ∷ cs) zero t e = (c, refl, some-same e)
+task-there (c ∷ cs) (suc i) t e = task-there cs i t e
+
+-- the job that began as number i is there as number i
+pub job-there : (es : List Event) (i : ℕ) (t : Task) → getElem? (beginning es) i ≡ some t
+    → (c : Cell) × (getElem? (after es []) i ≡ some c) × (c .task ≡ t)
+job-there es i t e = task-there (after es []) i t (ap (λ (l : List Task). getElem? l i) (after-tasks es []) ∙ e)
+
+-- ---- a job goes on
+
+-- what became of job c, number i of cs
+pub record Becomes (c : Cell) (i : ℕ) (cs : List Cell) : Type 0 where
+  pub cell : Cell
+  pub there : getElem? cs i ≡ some cell
+  pub went : Went c cell
+
+becomes-same : (c : Cell) (i : ℕ) (cs : List Cell) → getElem? cs i ≡ some c → Becomes c i cs
+becomes-same c i cs e = record { cell = c; there = e; went = went-not c }
+
+becomes-later : {c d : Cell} {i : ℕ} {cs : List Cell} → Becomes c i cs → Becomes c (suc i) (d ∷ cs)
+becomes-later b = record { cell = b .cell; there = b .there; went = b .went }
+
+called-becomes : (k : ℕ) (o : Op) (cs : List Cell) (i : ℕ) (c : Cell) → getElem? cs i ≡ some c → Becomes c i (called k o cs)
+unfolding called
+called-becomes k o [] i c e = absurd (none≢some e)
+called-becomes zero o (d ∷ cs) zero c e =
+    record { cell = calledWith o d; there = refl; went = subst (λ (x : Cell). Went x (calledWith o d)) (some-same e) (went-called o d) }
+called-becomes zero o (d ∷ cs) (suc i) c e = becomes-same c (suc i) _ e
+called-becomes (suc k) o (d ∷ cs) zero c e = becomes-same c zero _ e
+called-becomes (suc k) o (d ∷ cs) (suc i) c e = becomes-later (called-becomes k o cs i c e)
+
+advanced-becomes : (ks : List ℕ) (cs : List Cell) (i : ℕ) (c : Cell) → getElem? cs i ≡ some c → Becomes c i (advancedBy ks cs)
+unfolding advancedBy
+advanced-becomes ks [] i c e = absurd (none≢some e)
+advanced-becomes [] (d ∷ cs) i c e = becomes-same c i _ e
+advanced-becomes (k ∷ ks) (d ∷ cs) zero c e =
+    record { cell = onBy k d; there = refl; went = subst (λ (x : Cell). Went x (onBy k d)) (some-same e) (went-on k d) }
+advanced-becomes (k ∷ ks) (d ∷ cs) (suc i) c e = becomes-later (advanced-becomes ks cs i c e)
+
+passed-becomes : (v : Checked (List ℕ)) (cs : List Cell) (i : ℕ) (c : Cell) → getElem? cs i ≡ some c → Becomes c i (passedBy v cs)
+passed-becomes (ok ks) cs i c e = advanced-becomes ks cs i c e
+passed-becomes (refused n p) cs i c e = becomes-same c i cs e
+
+joined-there : (cs ds : List Cell) (i : ℕ) (c : Cell) → getElem? cs i ≡ some c → getElem? (cs ++ ds) i ≡ some c
+joined-there [] ds i c e = absurd (none≢some e)
+joined-there (d ∷ cs) ds zero c e = e
+joined-there (d ∷ cs) ds (suc i) c e = joined-there cs ds i c e
+
+happens-becomes : (e : Event) (cs : List Cell) (i : ℕ) (c : Cell) → getElem? cs i ≡ some c → Becomes c i (happens e cs)
+unfolding happens passed
+happens-becomes (begins t) cs i c e = becomes-same c i _ (joined-there cs (fresh t ∷ []) i c e)
+happens-becomes (calls k o) cs i c e = called-becomes k o cs i c e
+happens-becomes (passes u caps) cs i c e = passed-becomes (shared u (jobsOf caps cs)) cs i c e
+
+went-then : {b c d : Cell} → Went b c → Went c d → Went b d
+went-then {b} {c} {d} v w =
+    record {
+      same = w .same ∙ v .same;
+      calls = v .calls ++ w .calls;
+      reached = w .reached
+          ∙ rw (v .same) (ap (run (b .task .made) (b .task .words) (w .calls)) (v .reached))
+          ∙ sym (run-append (b .task .made) (b .task .words) (v .calls) (w .calls) (b .running));
+    }
+
+-- from wherever the jobs stand, whatever happens: each keeps its number, and calls on it alone lead on
+pub after-becomes : (es : List Event) (cs : List Cell) (i : ℕ) (c : Cell) → getElem? cs i ≡ some c → Becomes c i (after es cs)
+unfolding after
+after-becomes [] cs i c e = becomes-same c i cs e
+after-becomes (v ∷ es) cs i c e =
+    let b : Becomes c i (happens v cs) = happens-becomes v cs i c e in
+    let d : Becomes (b .cell) i (after es (happens v cs)) = after-becomes es (happens v cs) i (b .cell) (b .there) in
+    record { cell = d .cell; there = d .there; went = went-then (b .went) (d .went) }
+
+-- the furthest position reached never goes back
+pub went-grows : {c d : Cell} → Went c d → c .running .high ≤ d .running .high
+went-grows {c} {d} w =
+    omega (arith, run-grows (c .task .made) (c .task .words) (w .calls) (c .running), ap (λ (r : Running). r .high) (w .reached))
+
+-- once a job was given a store, a store was made
+pub given-reaches : (c : Cell) (k : ℕ) → Alone c → 1 ≤ onBy (suc k) c .running .high
+given-reaches c k a =
+    let t : Task = c .task in
+    let r : onBy (suc k) c .running ≡ ran (t .made) (t .words) (t .out) (t .list) (a .calls ++ (step ∷ replicate k step)) =
+    advanced-run (t .made) (t .words) (suc k) (c .running)
+    ∙ ap (run (t .made) (t .words) (step ∷ replicate k step)) (a .reached)
+    ∙ sym (run-append (t .made) (t .words) (a .calls) (step ∷ replicate k step) (begun (t .out) (t .list))) in
+    omega (arith, step-reaches (t .made) (t .words) (t .out) (t .list) (a .calls) (replicate k step), ap (λ (x : Running). x .high) r)
 
 -- ---- a pass makes as many stores as it gives
 
