@@ -96,6 +96,16 @@ fn with(e: Eight, i: u64, x: u64) -> Eight
     e
 }
 
+// What a job has left, of so many steps: the stores from the next one on.
+pub fn left(steps: u64, next: u64) -> u64
+    ensures { λ r. ⌜ r ≡ steps - next ⌝ }
+{
+    if steps < next {
+        return 0;
+    }
+    steps - next
+}
+
 // The smaller of two.
 fn lesser(a: u64, b: u64) -> u64
     ensures { λ r. ⌜ r ≡ min a b ⌝ }
@@ -250,8 +260,5 @@ pub fn share(u: u64, jobs: u64, caps: Eight, left: Eight) -> Shares
     let q = divided(u, m);
     let over = left_over(u, q, caps, left, jobs);
     let shares = give(q, over, caps, left, jobs);
-    Shares {
-        number: 0,
-        shares,
-    }
+    Shares { number: 0, shares }
 }
