@@ -1,5 +1,6 @@
 // The result written: identification, HD, MD and FH; copied blocks and attachments; the DG, CG, CN and DL of every column; data and signal data.
 mod attached;
+pub mod begin;
 pub mod convert;
 mod copies;
 mod counts;
@@ -8,7 +9,7 @@ pub mod file;
 mod front;
 mod gap;
 mod led;
-mod omissions;
+pub mod omissions;
 pub mod own;
 pub mod placed;
 mod signal;
