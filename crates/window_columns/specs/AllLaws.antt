@@ -1,6 +1,7 @@
 -- The data of all columns over a window: what is left to lay, laid, gives the whole.
 use Prim.Native.Nat.{ℕ, zero, suc, _+_, _-_, _*_, _≤_, _<_}
 use mathlib.Core.List.{List, [], _∷_, _++_}
+use mathlib.Core.Logic.{⊎-elim}
 use mathlib.Core.Path.{_≡_, refl, sym, ap, subst, _∙_}
 use native.Mathlib.Omega.{arith}
 use lib.ListN.{length}
@@ -13,26 +14,18 @@ use Rattle.copies_laws.specs.OrderLaws.{ordered-ends}
 use Rattle.stores.specs.Over.{over}
 use Rattle.windows.specs.Windowed.{overAll}
 use Rattle.windows.specs.WindowedLaws.{over-two}
+use Rattle.window_order.specs.PassedLaws.{before-same, from-zero, back-ordered}
 use Rattle.writing.specs.declared.data.Entry.{Entry}
 use Rattle.writing.specs.Data.{entryIn, entryBlocks, signalWords, entrySignal, dataFrom, EntryReady, DataReady, Kept}
 use Rattle.writing.specs.DataLaws.{data-open}
-use Rattle.window_columns.specs.Columns.{LaysEntry, LaysSD, SignalsIn, LaysData}
+use Rattle.window_columns.specs.Columns.{LaysEntry, LaysSD, SignalsIn, LaysData, HasBlocks, Begun}
+use Rattle.window_columns.specs.PassedLaws.{blocks-until, blocks-past, data-split}
 
 -- ---- blocks in order
 front-ordered : (a : ℕ) (xs ys : List Block) (e : ℕ) → Ordered a (xs ++ ys) e → Ordered a xs e
 unfolding Ordered
 front-ordered a [] ys e o = ordered-ends a e ys o
 front-ordered a (x ∷ xs) ys e o = (o .0, front-ordered (x .at + length (x .bytes)) xs ys e (o .1))
-
-from-zero : (a : ℕ) (xs : List Block) (e : ℕ) → Ordered a xs e → Ordered 0 xs e
-unfolding Ordered
-from-zero a [] e o = omega arith
-from-zero a (x ∷ xs) e o = (omega arith, o .1)
-
-back-ordered : (a : ℕ) (xs ys : List Block) (e : ℕ) → Ordered a (xs ++ ys) e → Ordered 0 ys e
-unfolding Ordered
-back-ordered a [] ys e o = from-zero a ys e o
-back-ordered a (x ∷ xs) ys e o = back-ordered (x .at + length (x .bytes)) xs ys e (o .1)
 
 wider : (a : ℕ) (xs : List Block) (e f : ℕ) → e ≤ f → Ordered a xs e → Ordered a xs f
 unfolding Ordered
@@ -54,7 +47,7 @@ module _ (s : List ℕ) (size : ℕ) (w : List ℕ) (n : ℕ) (fs : List ℕ) (n
     pub sameWords : length q ≡ length q₀
     pub left : (at room : ℕ) → DataReady s size w n fs nf cs m number at room → room ≤ most64 → SignalsIn s fs cs m number → Kept s w n fs nf p₀ q₀ → Left k p q v
 
-  pub laying-begin : Laying 0 p₀ q₀ v₀
+  laying-begin : Laying 0 p₀ q₀ v₀
   laying-begin = record {
     few = omega arith;
     same = refl;
@@ -68,6 +61,35 @@ module _ (s : List ℕ) (size : ℕ) (w : List ℕ) (n : ℕ) (fs : List ℕ) (n
           rest = rw z refl;
         };
   }
+
+  -- column k has data blocks that begin by a: nothing of those before it lies in the window
+  laying-later : (k : ℕ) → k < number → entryIn cs m k .first ≤ a → HasBlocks s size (entryIn cs m k) → Laying k p₀ q₀ v₀
+  laying-later k h f b = record {
+    few = omega arith;
+    same = refl;
+    samePool = refl;
+    sameWords = refl;
+    left = λ at room d r g z.
+        let y : k + (number - k) ≡ number = omega arith in
+        let i : 0 + k ≡ k = omega arith in
+        let split : dataFrom s size w n fs nf cs m 0 number ≡ dataFrom s size w n fs nf cs m 0 k ++ dataFrom s size w n fs nf cs m k (number - k) =
+        ap (dataFrom s size w n fs nf cs m 0) (sym y) ∙ data-split s size w n fs nf cs m 0 k (number - k)
+        ∙ ap (λ (x : ℕ). dataFrom s size w n fs nf cs m 0 k ++ dataFrom s size w n fs nf cs m x (number - k)) i in
+        let o : Ordered at (dataFrom s size w n fs nf cs m 0 k ++ dataFrom s size w n fs nf cs m k (number - k)) room =
+        subst (λ (bs : List Block). Ordered at bs room) split (d .ordered) in
+        let u : Ordered at (dataFrom s size w n fs nf cs m 0 k) a =
+        blocks-until s size w n fs nf (entryIn cs m k) b at a _ _ room f
+        (subst (λ (bs : List Block). Ordered at (dataFrom s size w n fs nf cs m 0 k ++ bs) room) (data-open s size w n fs nf cs m k number h) o) in
+        record {
+          kept = z;
+          ordered = wider 0 _ room most64 r (back-ordered at (dataFrom s size w n fs nf cs m 0 k) _ room o);
+          rest = sym (ap (λ (bs : List Block). overAll a bs v₀) split ∙ over-two a _ _ v₀
+              ∙ ap (overAll a (dataFrom s size w n fs nf cs m k (number - k))) (before-same a at _ v₀ u));
+        };
+  }
+
+  pub laying-from : (k : ℕ) → Begun s size cs m number a k → Laying k p₀ q₀ v₀
+  laying-from k = ⊎-elim (λ e. rw e laying-begin) (λ b. laying-later k (b .0) (b .1) (b .2))
 
   pub laying-turn : (k : ℕ) (e : Entry) {p q v p' q' mid last : List ℕ} → Laying k p q v → k < number → e ≡ entryIn cs m k
       → length p' ≡ length p → length q' ≡ length q → length mid ≡ length v → length last ≡ length mid
@@ -100,3 +122,14 @@ module _ (s : List ℕ) (size : ℕ) (w : List ℕ) (n : ℕ) (fs : List ℕ) (n
       let t = l .left at room d r g z in
       let y : number - k ≡ 0 = omega arith in
       (t .kept, rw y at (t .rest))
+
+  -- column k has data blocks that begin past the window: so does what is left
+  pub laying-past : (k : ℕ) (e : Entry) {p q v : List ℕ} → Laying k p q v → k < number → e ≡ entryIn cs m k → (a + length v ≤ e .first) × HasBlocks s size e
+      → LaysData s size w n fs nf cs m number a p₀ p q₀ q v₀ v
+  laying-past k e {p} {q} {v} l h i b at room d r g z =
+      let t = l .left at room d r g z in
+      let c : (a + length v ≤ entryIn cs m k .first) × HasBlocks s size (entryIn cs m k) =
+      subst (λ (x : Entry). (a + length v ≤ x .first) × HasBlocks s size x) i b in
+      let open' = data-open s size w n fs nf cs m k number h in
+      let o = subst (λ (bs : List Block). Ordered 0 bs most64) open' (t .ordered) in
+      (t .kept, sym (ap (λ (bs : List Block). overAll a bs v) open' ∙ blocks-past s size w n fs nf (entryIn cs m k) (c .1) a 0 _ most64 v (c .0) o) ∙ t .rest)

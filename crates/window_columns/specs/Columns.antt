@@ -2,6 +2,7 @@
 use Prim.Native.Nat.{ℕ, _+_, _-_, _*_, _≤_, _<_}
 use mathlib.Core.Bool.{true, false}
 use mathlib.Core.List.{List}
+use mathlib.Core.Logic.{_⊎_}
 use mathlib.Core.Path.{_≡_}
 use lib.ListN.{length}
 use Rattle.base.specs.Checked.{fine}
@@ -12,7 +13,7 @@ use Rattle.stores.specs.Over.{over}
 use Rattle.windows.specs.Windowed.{overAll}
 use Rattle.writing.specs.declared.data.Entry.{Entry}
 use Rattle.window_columns.specs.declared.Size.{Size}
-use Rattle.writing.specs.Data.{entryIn, entryBytes, entryBlocks, signalWords, entrySignal, dataFrom, EntryReady, DataReady, Kept}
+use Rattle.writing.specs.Data.{entryIn, entryCount, entryBytes, entryBlocks, signalWords, entrySignal, dataFrom, EntryReady, DataReady, Kept}
 
 -- the blocks of a column are laid over a window that begins at index a of them, and the places that are kept stay right
 abbrev pub LaysOwn : List ℕ → ℕ → List ℕ → ℕ → List ℕ → ℕ → Entry → ℕ → List ℕ → List ℕ → List ℕ → List ℕ → List ℕ → List ℕ → Type 0
@@ -47,3 +48,13 @@ abbrev pub LaysData : List ℕ → ℕ → List ℕ → ℕ → List ℕ → ℕ
 LaysData s size w n fs nf cs m number a p last-p q last-q v last =
     (at room : ℕ) → DataReady s size w n fs nf cs m number at room → room ≤ most64 → SignalsIn s fs cs m number → Kept s w n fs nf p q
     → Kept s w n fs nf last-p last-q × (last ≡ overAll a (dataFrom s size w n fs nf cs m 0 number) v)
+
+-- ---- columns that are passed over
+
+-- a column has data blocks
+abbrev pub HasBlocks : List ℕ → ℕ → Entry → Type 0
+HasBlocks s size e = entryCount s size e ≡ 0 → ⊥
+
+-- column k is the first, or it has data blocks and they begin by index a
+abbrev pub Begun : List ℕ → ℕ → List ℕ → List ℕ → ℕ → ℕ → ℕ → Type 0
+Begun s size cs m number a k = (k ≡ 0) ⊎ ((k < number) × (entryIn cs m k .first ≤ a) × HasBlocks s size (entryIn cs m k))

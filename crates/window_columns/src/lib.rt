@@ -10,11 +10,13 @@ use writing::data::Entry;
 use writing::data::entry_of;
 use writing::own::Own;
 use writing::own::own_of;
-ghost use Prim.Native.Nat.{_≤_};
+ghost use mathlib.Core.Path.{_≡_};
+ghost use mathlib.Core.Bool.{true};
+ghost use Prim.Native.Nat.{_+_, _-_, _≤_};
 ghost use lib.ListN.{length};
 ghost use Rattle.writing.specs.Own.{OwnOf};
 ghost use Rattle.writing.specs.Data.{Tables};
-ghost use Rattle.window_columns.specs.Columns.{SizeOf, LaysOwn, LaysEntry, LaysSD, LaysData};
+ghost use Rattle.window_columns.specs.Columns.{SizeOf, LaysOwn, LaysEntry, LaysSD, LaysData, HasBlocks, Begun};
 
 // The data blocks of column e, over a window that begins at index a of them; o is what is held of its DG.
 fn lay_own(
@@ -174,7 +176,76 @@ fn lay_sd(w: &mut [u8], a: u64, image: &[u8], fragments: &[u64], e: Entry)
     lay_signal(w, a, e.sd, image, &fragments[p..q]);
 }
 
-// The data of so many columns.
+// Whether column e has data blocks.
+fn has_blocks(image: &[u8], size: u64, e: Entry) -> bool
+    ensures { λ r. ⌜ (r ≡ true → HasBlocks (now (image .entry)) size e) ⌝ }
+{
+    let x = width_of(image, e.group, e.channel);
+    let count = block_count(size, x, e.records);
+    if count == 0 {
+        return false;
+    }
+    true
+}
+
+// Whether it has data blocks and they begin by index a.
+fn begun(a: u64, image: &[u8], size: u64, e: Entry) -> bool
+    ensures { λ r. ⌜ (r ≡ true → (e .first ≤ a) × HasBlocks (now (image .entry)) size e) ⌝ }
+{
+    if a < e.first {
+        return false;
+    }
+    has_blocks(image, size, e)
+}
+
+// Whether it has data blocks and they begin past a window of so many bytes from a on.
+fn past(room: usize, a: u64, image: &[u8], size: u64, e: Entry) -> bool
+    ensures { λ r. ⌜ (r ≡ true → (a + room ≤ e .first) × HasBlocks (now (image .entry)) size e) ⌝ }
+{
+    if e.first < a {
+        return false;
+    }
+    if e.first - a < room as u64 {
+        return false;
+    }
+    has_blocks(image, size, e)
+}
+
+// Of so many columns whose places ascend, the last whose first data block's place is at most a, 0 where there is none.
+fn near(memo: &[u64], number: u64, a: u64) -> u64
+    requires { ⌜ (number ≤ 512) × (8192 ≤ length (now memo)) ⌝ }
+    ensures { λ r. ⌜ r ≤ number - 1 ⌝ }
+{
+    let mut low = 0;
+    let mut high = number;
+    while low + 1 < high {
+        let mid = (low + high) / 2;
+        if memo[(6657 + 3 * mid) as usize] <= a {
+            low = mid;
+        } else {
+            high = mid;
+        }
+    }
+    low
+}
+
+// The last column whose data blocks begin by index a, 0 where there is none: what is before it ends by a.
+fn first_needed(a: u64, image: &[u8], size: u64, columns: &[u64], memo: &[u64], number: u64) -> u64
+    requires { ⌜ (number ≤ 512) × (4096 ≤ length (now columns)) × (8192 ≤ length (now memo)) ⌝ }
+    ensures { λ r. ⌜ Begun (now (image .entry)) size (now (columns .entry)) (now (memo .entry)) number a r ⌝ }
+{
+    let mut k = near(memo, number, a);
+    while 0 < k {
+        let e = entry_of(columns, memo, k);
+        if begun(a, image, size, e) {
+            return k;
+        }
+        k -= 1;
+    }
+    0
+}
+
+// The data of so many columns: of those that may have a byte in the window.
 fn lay_columns(
     w: &mut [u8],
     a: u64,
@@ -194,9 +265,12 @@ fn lay_columns(
     ensures { λ _. ⌜ LaysData (now (image .entry)) size (now (source .entry)) n (now (fragments .entry)) nf (now (columns .entry)) (now (memo .entry)) number a
         (now (pool .entry)) (now (pool .exit)) (now (words .entry)) (now (words .exit)) (now (w .entry)) (now (w .exit)) ⌝ }
 {
-    let mut k = 0;
+    let mut k = first_needed(a, image, size, columns, memo, number);
     while k < number {
         let e = entry_of(columns, memo, k);
+        if past(w.len(), a, image, size, e) {
+            return;
+        }
         lay_entry(w, a, image, size, source, n, fragments, nf, pool, words, e);
         lay_sd(w, a, image, fragments, e);
         k += 1;
