@@ -135,8 +135,8 @@ fn lay_columns(
     }
 }
 
-// The blocks of n columns, whose words columns and memo have, where they stand in order. The index of copies is made where a column has a DG, CG or CN in the window; nothing is
-// laid where the words aren't there.
+// The blocks of n columns, whose words columns and memo have, where they stand in order: of the columns that may have a byte in the window. The index of
+// copies is made where one has a DG, CG or CN there; nothing is laid where the words aren't there.
 pub fn lay_structure(
     w: &mut [u8],
     a: u64,
