@@ -8,6 +8,7 @@ ghost use Rattle.steps.specs.Conversion.{positionsOf};
 ghost use Rattle.steps.specs.Steps.{PositionAs};
 
 // A refusal's number, 0 where there is none; the state after the call.
+#[repr(C)]
 pub struct Position {
     pub number: u64,
     pub conversion: Conversion,
