@@ -1,5 +1,5 @@
 -- A column's data blocks between other blocks, by where they begin.
-use Prim.Native.Nat.{ℕ, zero, suc, _+_, _-_, _≤_, _<_}
+use Prim.Native.Nat.{ℕ, zero, suc, _+_, _≤_, _<_}
 use mathlib.Core.List.{List, [], _∷_, _++_, append-assoc}
 use mathlib.Core.Logic.{inr}
 use mathlib.Core.Path.{_≡_, refl, subst}
@@ -12,7 +12,7 @@ use Rattle.payload_laws.specs.PayloadLaws.{length-payloads}
 use Rattle.windows.specs.Windowed.{overAll}
 use Rattle.window_order.specs.PassedLaws.{after-same, until-ordered}
 use Rattle.writing.specs.declared.data.Entry.{Entry}
-use Rattle.writing.specs.Data.{entryIn, entryRecords, entryPayloads, entryKind, entryBlocks, entrySignal, dataFrom}
+use Rattle.writing.specs.Data.{entryIn, entryRecords, entryPayloads, entryKind, entryBlocks, dataFrom}
 use Rattle.window_columns.specs.Columns.{HasBlocks, Begun}
 
 -- ---- by the first of them

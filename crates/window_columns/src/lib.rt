@@ -313,6 +313,18 @@ pub fn lay_data(
         return;
     }
     lay_columns(
-        w, a, image, size, source, n, fragments, nf, columns, memo, number, pool, words,
+        w,
+        a,
+        image,
+        size,
+        source,
+        n,
+        fragments,
+        nf,
+        columns,
+        memo,
+        number,
+        pool,
+        words,
     );
 }

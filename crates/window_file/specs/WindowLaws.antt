@@ -22,7 +22,7 @@ use Rattle.result.specs.Fill.{Block, block, hdBytes, mdBytes, fhBytes, copiedBl
 use Rattle.result.specs.Ordered.{Ordered}
 use Rattle.result.specs.Result.{Args, Decided, decided, memoOf, blocksOf, fileOf, flat, hdBlock}
 use Rattle.copies_laws.specs.LengthLaws.{length-hd, length-md, length-fh}
-use Rattle.copies_laws.specs.OrderLaws.{ordered-cons, ordered-append, ordered-ends}
+use Rattle.copies_laws.specs.OrderLaws.{ordered-cons, ordered-append, ordered-to}
 use Rattle.copies_laws.specs.LayoutLaws.{history-ordered, columns-ordered, structures-ordered, columns-placed}
 use Rattle.guarantee.specs.Theorem as theorem
 use Rattle.placing.specs.Standing.{copiesIn}
@@ -31,6 +31,7 @@ use Rattle.stores.specs.Over.{over}
 use Rattle.stores.specs.OverLaws.{over-before, blit-hides}
 use Rattle.windows.specs.Windowed.{overAll}
 use Rattle.windows.specs.WindowedLaws.{over-two, window-is, length-all}
+use Rattle.window_order.specs.PassedLaws.{before-same}
 use Rattle.window_copies.specs.Attachments.{attachmentsIn, NextPlace}
 use Rattle.window_copies.specs.AttachmentsLaws.{next-some, next-none}
 use Rattle.window_copies.specs.Laying.{Wholes}
@@ -51,13 +52,9 @@ use Rattle.writing.specs.FileLaws as file
 use Rattle.window_file.specs.declared.Held.{Held}
 use Rattle.window_file.specs.Window.{StandsAs, firstAt, frontIn, historyIn, metadataOf}
 
--- ---- blocks that end before the window
+-- blocks that end before the window
 pub all-before : (a i : ℕ) (bs : List Block) (e : ℕ) (u : List ℕ) → Ordered i bs e → e ≤ a → overAll a bs u ≡ u
-unfolding overAll Ordered
-all-before a i [] e u h k = refl
-all-before a i (b ∷ bs) e u h k =
-    let j = ordered-ends (b .at + length (b .bytes)) e bs (h .1) in
-    rw (over-before a (b .at) (b .bytes) u (omega (arith, j, k))) (all-before a (b .at + length (b .bytes)) bs e u (h .1) k)
+all-before a i bs e u h k = before-same a i bs u (ordered-to i e a bs h k)
 
 -- ---- blocks laid in parts
 by-same : (a : ℕ) (u : List ℕ) {bs cs : List Block} {last : List ℕ} → last ≡ overAll a bs u → bs ≡ cs → last ≡ overAll a cs u

@@ -1,5 +1,5 @@
 -- Laws of what is known of a call before anything is written.
-use Prim.Native.Nat.{ℕ, _+_, _*_, _<_, _≤_}
+use Prim.Native.Nat.{ℕ, _+_, _*_}
 use mathlib.Core.List.{List}
 use mathlib.Core.Path.{_≡_, refl, sym, ap, _∙_}
 use mathlib.Core.Bool.{Bool, true, false}
@@ -19,10 +19,11 @@ use Rattle.plan.specs.Columns.{omissionWords}
 use Rattle.result.specs.Result.{Args, Decided, decided, answer, workIn, zeros}
 use Rattle.placing.specs.declared.layout.Numbers.{Numbers}
 use Rattle.placing.specs.Decision.{untimed, four, Shares, DecidedIn, RefusedIn}
+use Rattle.placing.specs.DecisionLaws.{work-fine}
 use Rattle.writing.specs.declared.convert.Report as counted
 use Rattle.writing.specs.Answer.{args}
 use Rattle.writing.specs.Finish.{Stands, Reported}
-use Rattle.writing.specs.FinishLaws.{decided-untimed, lent-fine-of, refused-answer, lent-untimed, work-fine, stands-timed, shares-timed, stands-words, stands-report}
+use Rattle.writing.specs.FinishLaws.{decided-untimed, lent-fine-of, refused-answer, lent-untimed, stands-timed, shares-timed, stands-words, stands-report}
 use Rattle.writing.specs.Beginning.{roomIn, RefusedCall, AcceptedCall}
 
 -- the room decides the answer

@@ -235,7 +235,7 @@ refused-left image size ident text time chosen out list ws ws' n p r =
     let e : andThen (workIn ws) (λ _. decided (args image size ident text time chosen)) ≡ refused n p = rw (decided-untimed image size ident text time chosen) (r .is) in
     rw (refused-answer (args image size ident text time chosen) (length out) (length list) (workIn ws) e, lent-untimed image size ident text time chosen, r .words)
 
-pub work-fine : (a b c d : List ℕ) → 8192 ≤ length a → 8192 ≤ length b → 8192 ≤ length c → 8192 ≤ length d → workIn (four a b c d) ≡ fine
+work-fine : (a b c d : List ℕ) → 8192 ≤ length a → 8192 ≤ length b → 8192 ≤ length c → 8192 ≤ length d → workIn (four a b c d) ≡ fine
 unfolding workIn
 work-fine a b c d h i j k = sym (lt-no _ _ _ _ h (lt-no _ _ _ _ i (lt-no _ _ _ _ j (lt-no _ _ _ _ k refl))))
 

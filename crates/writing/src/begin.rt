@@ -38,13 +38,13 @@ fn room_in(out: u64, list: u64, bytes: u64, omitted: u64) -> Check
     requires { ⌜ omitted ≤ 1024 ⌝ }
     ensures { λ r. ⌜ verdictOf r ≡ roomIn out list bytes (2 * omitted + 1) ⌝ }
 {
+    let words = 2 * omitted + 1;
     if out < bytes {
         return Check::Refused {
             number: 20,
             place: bytes,
         };
     }
-    let words = 2 * omitted + 1;
     if list < words {
         return Check::Refused {
             number: 21,
@@ -84,7 +84,18 @@ pub fn begin(
         (now (source .entry)) (now (fragments .entry)) (now (columns .entry)) (now (copies .entry)) r
         (now (source .exit)) (now (fragments .exit)) (now (columns .exit)) (now (copies .exit))) ⌝ }
 {
-    let decision = decide(image, size, ident, text, choices, table, source, fragments, columns, copies);
+    let decision = decide(
+        image,
+        size,
+        ident,
+        text,
+        choices,
+        table,
+        source,
+        fragments,
+        columns,
+        copies,
+    );
     match decision {
         Decision::Refused { number, place } => Beginning::Refused { number, place },
         Decision::Done {

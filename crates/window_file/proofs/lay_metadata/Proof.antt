@@ -1,4 +1,4 @@
-use Rattle.window_file.specs.WindowLaws.{ident-length, history-asks, columns-asks, structure-asks, metadata-passed, metadata-laid}
+use Rattle.window_file.specs.WindowLaws.{ident-length, history-asks, columns-asks, structure-asks, structure-ready, metadata-passed, metadata-laid}
 use native.Mathlib.Omega.{arith}
 use borrow.Author.Needs.{needs}
 use Rattle.window_file.proofs.lay_metadata.Statement.{statement}
@@ -31,7 +31,7 @@ returns-2 c v f st =
     let k = columns-asks st in
     let t = structure-asks st in
     metadata-laid st _ _ (c .before .before .before .before .before .before .before .before .before .before .before .before .before .before .before .before .before .before .lay-front .ensures (ident-length st)) (c .before .before .before .before .before .before .before .before .before .before .before .before .before .before .lay-history .ensures (h .0) (h .1) (h .2) (h .3) (h .4)) (c .before .before .before .before .before .before .before .before .before .before .lay-new .ensures)
-    (c .before .before .before .before .before .before .lay-copies .ensures (k .0) (k .1) (k .2) (k .3) (k .4)) (c .before .before .lay-structure .ensures (t .0) (t .1) (t .2))
+    (c .before .before .before .before .before .before .lay-copies .ensures (k .0) (k .1) (k .2) (k .3) (k .4)) (c .before .before .lay-structure .ensures (t .0) (t .1) (t .2) _ _ (structure-ready st .ordered))
 
 pub lay-metadata-spec : {M : Type 1} → statement M
 lay-metadata-spec =

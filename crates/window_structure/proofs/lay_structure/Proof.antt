@@ -21,7 +21,7 @@ same-length : tie.Need-same-length
 same-length c = search needs
 
 returns-4 : tie.Need-returns-4
-returns-4 c = λ q l h. columns-end (c .before .before .before .lay-passed .ensures _ _ _ q l (columns-begin _)) (omega arith)
+returns-4 c = λ q l h at room o. columns-end (c .before .before .before .lay-passed .ensures _ _ _ q l (columns-begin _ at room o)) (omega arith)
 
 index-copies-requires : tie.Need-index-copies-requires
 index-copies-requires c κs = search needs
@@ -33,7 +33,7 @@ same-length-2 : tie.Need-same-length-2
 same-length-2 c = search needs
 
 returns-5 : tie.Need-returns-5
-returns-5 c = λ q l h. c .before .before .lay-columns .ensures _ q l (c .before .before .before .before .before .before .before .before .before .lay-passed .ensures _ _ _ q l (columns-begin _))
+returns-5 c = λ q l h at room o. c .before .before .lay-columns .ensures _ q l (c .before .before .before .before .before .before .before .before .before .lay-passed .ensures _ _ _ q l (columns-begin _ at room o))
 
 pub lay-structure-spec : {M : Type 1} → statement M
 lay-structure-spec =

@@ -6,47 +6,36 @@ use borrow.Author.Needs.{needs}
 use Rattle.writing.proofs.begin.begin.Statement.{statement}
 use Rattle.writing.proofs.begin.begin.Tie as tie
 
--- src/begin.rt:87:9
 decide-requires : tie.Need-decide-requires
 decide-requires c κs = search needs
 
--- src/begin.rt:89:29
 enum-known-decision : tie.Need-enum-known-decision
 enum-known-decision c = search needs
 
--- src/begin.rt:91:13
 enum-known-decision-2 : tie.Need-enum-known-decision-2
 enum-known-decision-2 c = search needs
 
--- src/begin.rt:99:17
 room-in-requires : tie.Need-room-in-requires
 room-in-requires c κs = stands-omissions (stands-timed 0 (decides-done (c .before .before .before .before .before .before .before .before .before .before .before .decide .ensures) (c .before .decision2 .given .1)))
 
--- src/begin.rt:100:37
 enum-known-room : tie.Need-enum-known-room
 enum-known-room c = search needs
 
--- src/begin.rt:101:17
 clear-all-requires : tie.Need-clear-all-requires
 clear-all-requires c κs = search needs
 
--- src/begin.rt:102:17
 same-length : tie.Need-same-length
 same-length c = search needs
 
--- src/begin.rt:102:17
 same-length-2 : tie.Need-same-length-2
 same-length-2 c = search needs
 
--- src/begin.rt:102:17
 same-length-3 : tie.Need-same-length-3
 same-length-3 c = search needs
 
--- src/begin.rt:102:17
 same-length-4 : tie.Need-same-length-4
 same-length-4 c = search needs
 
--- src/begin.rt:102:17
 returns : tie.Need-returns
 returns c time = call-short _ _ _ _ time _ _ _ (decides-done (c .before .before .before .before .before .before .before .before .before .before .before .before .before .before .before .before .before .before .before .before .before .before .before .before .before .before .before .before .decide .ensures) (c .before .before .before .before .before .before .before .before .before .before .before .before .before .before .before .before .before .before .decision2 .given .1))
     (verdict-refused (c .before .before .before .before .before .before .before .before .before .before .before .before .before .before .before .before .room-in .ensures) (c .before .before .before .before .before .before .before .before .before .before .before .before .before .before .room .given .1)) (c .before .before .before .before .before .before .before .before .clear-all .ensures)
@@ -54,47 +43,36 @@ returns c time = call-short _ _ _ _ time _ _ _ (decides-done (c .before .before 
 enum-told : tie.Need-enum-told
 enum-told c = search needs
 
--- src/begin.rt:104:17
 count-up-requires : tie.Need-count-up-requires
 count-up-requires c κs = stands-counts (stands-timed 0 (decides-done (c .before .before .before .before .before .before .before .before .before .before .before .before .before .before .before .before .decide .ensures) (c .before .before .before .before .before .before .decision2 .given .1)))
 
--- src/begin.rt:69:1
 same-length-5 : tie.Need-same-length-5
 same-length-5 c = search needs
 
--- src/begin.rt:69:1
 same-length-6 : tie.Need-same-length-6
 same-length-6 c = search needs
 
--- src/begin.rt:69:1
 same-length-7 : tie.Need-same-length-7
 same-length-7 c = search needs
 
--- src/begin.rt:69:1
 same-length-8 : tie.Need-same-length-8
 same-length-8 c = search needs
 
--- src/begin.rt:69:1
 returns-2 : tie.Need-returns-2
 returns-2 c time = call-undecided _ _ _ _ time _ _ _ (decides-refused (c .before .before .before .before .before .before .before .before .before .before .before .decide .ensures) (c .before .decision .given .1))
 
--- src/begin.rt:69:1
 same-length-9 : tie.Need-same-length-9
 same-length-9 c = search needs
 
--- src/begin.rt:69:1
 same-length-10 : tie.Need-same-length-10
 same-length-10 c = search needs
 
--- src/begin.rt:69:1
 same-length-11 : tie.Need-same-length-11
 same-length-11 c = search needs
 
--- src/begin.rt:69:1
 same-length-12 : tie.Need-same-length-12
 same-length-12 c = search needs
 
--- src/begin.rt:69:1
 returns-3 : tie.Need-returns-3
 returns-3 c time = call-accepted _ _ _ _ time _ _ _ (decides-done (c .before .before .before .before .before .before .before .before .before .before .before .before .before .before .before .before .before .decide .ensures) (c .before .before .before .before .before .before .before .decision2 .given .1))
     (verdict-fine (c .before .before .before .before .before .room-in .ensures) (c .before .before .before .enum-told .given .1)) (c .count-up .ensures)

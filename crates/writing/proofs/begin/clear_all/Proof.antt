@@ -5,39 +5,30 @@ use borrow.Author.Needs.{needs}
 use Rattle.writing.proofs.begin.clear_all.Statement.{statement}
 use Rattle.writing.proofs.begin.clear_all.Tie as tie
 
--- src/begin.rt:62:5
 clear-requires : tie.Need-clear-requires
 clear-requires c κs = search needs
 
--- src/begin.rt:63:5
 clear-requires-2 : tie.Need-clear-requires-2
 clear-requires-2 c κs = search needs
 
--- src/begin.rt:64:5
 clear-requires-3 : tie.Need-clear-requires-3
 clear-requires-3 c κs = search needs
 
--- src/begin.rt:65:5
 clear-requires-4 : tie.Need-clear-requires-4
 clear-requires-4 c κs = search needs
 
--- src/begin.rt:58:1
 same-length : tie.Need-same-length
 same-length c = search needs
 
--- src/begin.rt:58:1
 same-length-2 : tie.Need-same-length-2
 same-length-2 c = search needs
 
--- src/begin.rt:58:1
 same-length-3 : tie.Need-same-length-3
 same-length-3 c = search needs
 
--- src/begin.rt:58:1
 same-length-4 : tie.Need-same-length-4
 same-length-4 c = search needs
 
--- src/begin.rt:58:1
 returns : tie.Need-returns
 returns c = let a = c .before .before .before .before .before .before .before .before .before .before .before .before .before .before .before .before .before .before .before .before .args in cleared (a .source .now) (a .fragments .now) (a .columns .now) (a .copies .now) (a .source .now) (a .fragments .now) (a .columns .now) (a .copies .now) _ _ _ _ refl refl refl refl
     (c .before .before .before .before .before .before .before .before .before .before .before .before .before .before .clear .ensures) (c .before .before .before .before .before .before .before .before .before .before .clear2 .ensures) (c .before .before .before .before .before .before .clear3 .ensures) (c .before .before .clear4 .ensures)

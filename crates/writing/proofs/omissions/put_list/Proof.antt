@@ -4,35 +4,27 @@ use borrow.Author.Needs.{needs}
 use Rattle.writing.proofs.omissions.put_list.Statement.{statement}
 use Rattle.writing.proofs.omissions.put_list.Tie as tie
 
--- src/omissions.rt:37:9
 returns : tie.Need-returns
 returns c h i = absurd (omega (arith, c .if1 .taken, i))
 
--- src/omissions.rt:40:9
 returns-2 : tie.Need-returns-2
 returns-2 c h i = absurd (omega (arith, c .before .if1 .left, c .if2 .taken, i))
 
--- src/omissions.rt:42:30
 mul-if3 : tie.Need-mul-if3
 mul-if3 c = omega (arith, c .before .if1 .left, c .if2 .left, c .before .before .before .before .good)
 
--- src/omissions.rt:42:30
 add-if3 : tie.Need-add-if3
 add-if3 c = omega (arith, c .before .if1 .left, c .if2 .left, c .before .before .before .before .good)
 
--- src/omissions.rt:43:9
 returns-3 : tie.Need-returns-3
 returns-3 c h i = absurd (omega (arith, c .if3 .taken, h))
 
--- src/omissions.rt:45:5
 write-list-requires : tie.Need-write-list-requires
 write-list-requires c κs = (omega (arith, c .before .if3 .left), omega (arith, c .before .before .before .if1 .left, c .before .before .if2 .left))
 
--- src/omissions.rt:31:1
 same-length : tie.Need-same-length
 same-length c = search needs
 
--- src/omissions.rt:31:1
 returns-4 : tie.Need-returns-4
 returns-4 c h i = c .before .before .write-list .ensures
 
