@@ -323,6 +323,6 @@ def power_cuts_in_place_find_a_missing_sync():
     """The same test where no sync reaches the device finds broken promises."""
     image = empty_device("ext4")
     entries, begun, ended = logged_conversion(image, older(True), "fsync:0:skip,msync:0:skip", IN_PLACE)
-    broken, _ = broken_promises(image, entries, begun, ended, older(True), False, 12, judged)
+    broken, _ = broken_promises(image, entries, begun, ended, older(True), False, 40, judged)
     expect(broken > 0, "nothing was found")
-    return "%d of 12" % broken
+    return "%d of 40" % broken

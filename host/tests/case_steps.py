@@ -245,27 +245,26 @@ def random_calls():
 @test
 @alone
 def recalls_in_an_unsorted_recording():
-    """From one group back into an earlier one and ahead again, of DG in random order, with and without words for places."""
-    call = Call(mixed(*UNSORTED), 500)
+    """From one group back into an earlier one and ahead again, of DG in random order, with and without words for places; --long sets how often."""
+    call, told, r = Call(mixed(*UNSORTED), 500), 0, Run.random
     whole = call.made()[1]
-    for stretches, offsets in ((STRETCHES, OFFSETS + 2200), (STRETCHES, 0), (0, OFFSETS + 2200), (0, 0), (STRETCHES, OFFSETS + 100)):
+    for stretches, offsets in ((STRETCHES, OFFSETS + 4000), (STRETCHES, 0), (0, OFFSETS + 4000), (0, 0), (STRETCHES, OFFSETS + 100)):
         live = Live(call, bytearray(b"\xff") * len(whole), lengths_of(stretches, offsets))
         for name in range(4):
-            live.advance(live.state.steps // 5)
             expect(live.name(name) == 0, "no name")
         for _ in range(Run.loops(60)):
-            expect(live.recall(Run.random.randrange(4)) == 0, "not recalled")
+            expect(live.recall(r.randrange(4)) == 0, "not recalled")
+            live.file[8:] = b"\xff" * (len(whole) - 8)  # what stands there already doesn't matter
             before = live.state.next
-            live.advance(min(Run.random.randrange(1, 6), live.left() - 1))
-            expect(bytes(live.file[PAGE * (before - 1) : PAGE * (live.state.next - 1)]) == whole[PAGE * (before - 1) : PAGE * (live.state.next - 1)], "other bytes")
-            if Run.random.random() < 0.2:
-                expect(live.name(Run.random.randrange(4)) == 0, "no name")
-        for name in range(4):
-            expect(live.recall(name) == 0, "not recalled")
-            live.advance(min(2, live.left() - 1))
-        live.recall(0)
+            live.advance(r.choice((1, 3, r.randrange(live.left()))) if live.left() > 4 else 0)
+            at, end = (max(8, PAGE * (k - 1)) for k in (before, live.state.next))
+            expect(live.file[at:end] == whole[at:end], "other bytes with", stretches, "and", offsets, "words")
+            expect(live.name(r.randrange(1, 4)) == 0, "no name")
+            told += live.state.next - before
+        expect(live.recall(0) == 0 and live.state.next == 0, "back to the front")
         live.advance(MOST)
         expect(bytes(live.file) == whole, "another file than in one go with", stretches, "and", offsets, "words")
+    return "%d stores" % told
 
 
 # ---- refusals
