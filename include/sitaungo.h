@@ -1,14 +1,16 @@
 /* Sitaungo: one row-oriented MDF 4 recording into one column-oriented MDF 4.20 file.
  *
  * Library libsitaungo.a (rt staticlib sitaungo), x86-64 Linux. The functions are proved: for every input, numbers, output, list, lines,
- * buffer, destination and work words are those of the definitions in crates/result/specs, crates/listing/specs, crates/file/specs and crates/sheet/specs. They allocate nothing, keep nothing between
- * calls, open no file and always return; several threads may call them, each with slices of its own.
+ * buffer, destination and work words are those of the definitions in crates/result/specs, crates/listing/specs, crates/file/specs, crates/sheet/specs,
+ * crates/stores/specs and crates/passes/specs. They allocate nothing, keep nothing between calls but what a conversion in steps hands back and has in its
+ * words, open no file and always return; several threads may call them, each with slices of its own.
  *
  * What the caller owes, since no proof can see it:
  * - Each slice is a pointer and its true length in elements. A slice of uint64_t or of struct sitaungo_request lies at a multiple of 8. A slice of length 0 may have any pointer.
- * - A slice that is written (work slices, out, list, lines, buffer, destination) shares no byte with another slice of the same call.
+ * - A slice that is written (work slices, out, file, list, lines, buffer, destination) shares no byte with another slice of the same call.
  * - Nobody else changes a slice during the call, a mapped file included.
- * - What a work slice, out, list or lines holds at entry doesn't matter: anything may stand there.
+ * - What a work slice, out, list or lines holds at entry doesn't matter: anything may stand there. Between the calls of a conversion in steps its slices stay
+ *   as they were left, see there.
  * - Length times element size is below 2^63.
  * - The calling thread has 256 KiB of stack left: 117,232 bytes were measured, whatever the recording; reading takes 48,312, a plot or a sheet hardly more.
  */
@@ -24,7 +26,7 @@ extern "C" {
 #endif
 
 /* Of library and command. The command writes it into the history entry of each result. */
-#define SITAUNGO_VERSION "1.5.0"
+#define SITAUNGO_VERSION "1.6.0"
 
 /* ---- lengths of the slices */
 
@@ -35,6 +37,10 @@ extern "C" {
 #define SITAUNGO_IDENT_BYTES 64       /* bytes of the identification, exactly */
 #define SITAUNGO_TEXT_BYTES 4096      /* bytes that the history text has at most */
 #define SITAUNGO_TYPES_BYTES 15       /* bytes that a table of treatments has at most */
+#define SITAUNGO_STRETCH_WORDS 4096   /* words of `stretches` that a conversion in steps has use for */
+#define SITAUNGO_STORE_BYTES 4096     /* bytes that a store has at most */
+#define SITAUNGO_NAMES 4              /* positions of a conversion in steps that have a name at a time (30) */
+#define SITAUNGO_JOBS 8               /* jobs of a pass (31) */
 
 /* ---- limits of a recording; past one of them it is refused */
 
@@ -111,7 +117,15 @@ enum {
     SITAUNGO_REFUSED_TYPES = 27,
     /* A reference of a channel to an attachment leads to none of the header's, or the channel has fewer links than its count of references demands; offset
      * of the CN. Of a conversion that keeps references, where the channel's column is planned. */
-    SITAUNGO_REFUSED_REFERENCE = 28
+    SITAUNGO_REFUSED_REFERENCE = 28,
+    /* A position is recalled that was never named; 0. After 30. */
+    SITAUNGO_REFUSED_POSITION = 29,
+    /* A fifth name is given to a position, or one is named or recalled after the last store; 0. */
+    SITAUNGO_REFUSED_NAME = 30,
+    /* A pass has no job, or over eight; 0. */
+    SITAUNGO_REFUSED_JOBS = 31,
+    /* A pass has no store to give, or a job's cap is 0; 0. After 31. */
+    SITAUNGO_REFUSED_CAP = 32
 };
 
 /* ---- why a channel is left out */
@@ -224,6 +238,114 @@ size_t sitaungo_list_with(
     uint64_t *source, size_t source_length, uint64_t *fragments, size_t fragments_length,
     uint64_t *columns, size_t columns_length, uint64_t *copies, size_t copies_length,
     uint8_t *lines, size_t lines_length);
+
+/* ---- a conversion in steps
+ *
+ * For machines that may be switched off meanwhile. sitaungo_begin decides all that a conversion decides and stores nothing; then each step makes one store,
+ * a run of 1 to 4,096 bytes of the file. With p pages of 4,096 bytes that the result takes, the last one perhaps in part, the stores are: number 0 eight zeros
+ * at the file's front; number k from 1 to p page k - 1 but for the file's first eight bytes; number p + 1 these eight. The step of the last store also lays
+ * the omission list over `list`, which no other step changes. There are p + 2 steps; a further one changes nothing.
+ *
+ * The file has its final length beforehand: at least the bytes that refusal 20 tells; what lies past the result stays. From the first store up to the last it
+ * doesn't begin with `MDF`: sitaungo_convert_with, sitaungo_list_with and sitaungo_begin refuse it with 5, whatever else stands in it, unless their own
+ * arguments give 1, 2, 26, 27 or 3. After the last store file and list are those of sitaungo_convert_with.
+ *
+ * What the caller owes besides, until the last step: `image`, `ident`, `text` and `types` have the same bytes at each call, the six slices of words and the
+ * file hold what the last call left in them, and each call gets the state that the last one returned. Who breaks this may get another file; but each call
+ * returns, stays inside its slices, and a step changes at most one run of 4,096 bytes of the file. Two conversions share no slice that is written.
+ *
+ * In which order stores reach the disk is the caller's doing. Who wants the promise to hold when power goes syncs after store 0, before the last store
+ * and after it; between these any order will do. */
+
+/* What a conversion in steps holds between two calls, by value. Only the library makes and changes it; `steps`, `next` and `file_size` may be read. */
+struct sitaungo_conversion {
+    uint64_t block_size, time, unit;
+    bool share, photos;
+    uint64_t items, pieces, columns, omissions;
+    uint64_t history, chain, md, fh, metadata, copies, attachments, metadata_end, file_size;
+    uint64_t steps; /* how many steps there are */
+    uint64_t next;  /* number of the next store, `steps` after the last */
+    uint64_t count, name_a, name_b, name_c, name_d, place_a, place_b, place_c, place_d; /* names of positions, so many, and where these are */
+};
+
+/* What beginning answers: what sitaungo_convert_with would, the report included; of a refusal all of `conversion` is 0, so it has no step. */
+struct sitaungo_begun {
+    struct sitaungo_outcome outcome;
+    struct sitaungo_conversion conversion;
+};
+
+/* Begins a conversion into a file of `out` bytes with a list of `list_words` words; neither is lent here. Refusals are those of sitaungo_convert_with in
+ * their order, with 20 and 21 last, and leave the four work slices as that does: zero, but as they were after 1. Where it is accepted these four hold what was
+ * decided until the last step, after which all six slices are zero.
+ *
+ * `stretches` and `offsets` keep where records lie from step to step. They may have any length, also none, and the result doesn't depend on them: without,
+ * a step reads the data of its DG from the front. Enough are SITAUNGO_STRETCH_WORDS of the one, and of the other 2,056 words and one for each record of
+ * groups that share a DG; `fragments` needs no more than SITAUNGO_WORK_WORDS here. Both are zero after this call, whatever it answers. */
+struct sitaungo_begun sitaungo_begin(
+    const uint8_t *image, size_t image_length, uint64_t size,
+    const uint8_t *ident, size_t ident_length, const uint8_t *text, size_t text_length, uint64_t time, struct sitaungo_options options,
+    const uint8_t *types, size_t types_length,
+    uint64_t out, uint64_t list_words,
+    uint64_t *source, size_t source_length, uint64_t *fragments, size_t fragments_length,
+    uint64_t *columns, size_t columns_length, uint64_t *copies, size_t copies_length,
+    uint64_t *stretches, size_t stretches_length, uint64_t *offsets, size_t offsets_length);
+
+/* One step: the next store over `file`. `file` and `list` have at least the lengths that the conversion was begun with. */
+struct sitaungo_conversion sitaungo_step(
+    struct sitaungo_conversion conversion, const uint8_t *image, size_t image_length,
+    const uint8_t *ident, size_t ident_length, const uint8_t *text, size_t text_length, const uint8_t *types, size_t types_length,
+    uint64_t *source, size_t source_length, uint64_t *fragments, size_t fragments_length,
+    uint64_t *columns, size_t columns_length, uint64_t *copies, size_t copies_length,
+    uint64_t *stretches, size_t stretches_length, uint64_t *offsets, size_t offsets_length,
+    uint8_t *file, size_t file_length, uint64_t *list, size_t list_length);
+
+/* So many steps, or as many as are left. */
+struct sitaungo_conversion sitaungo_advance(
+    struct sitaungo_conversion conversion, uint64_t stores, const uint8_t *image, size_t image_length,
+    const uint8_t *ident, size_t ident_length, const uint8_t *text, size_t text_length, const uint8_t *types, size_t types_length,
+    uint64_t *source, size_t source_length, uint64_t *fragments, size_t fragments_length,
+    uint64_t *columns, size_t columns_length, uint64_t *copies, size_t copies_length,
+    uint64_t *stretches, size_t stretches_length, uint64_t *offsets, size_t offsets_length,
+    uint8_t *file, size_t file_length, uint64_t *list, size_t list_length);
+
+/* What naming or recalling answers: a refusal's number, 29 or 30, with the state as it was; else 0 and the state. */
+struct sitaungo_position {
+    uint64_t number;
+    struct sitaungo_conversion conversion;
+};
+
+/* Gives the present position, the number of the next store, a name, any 64-bit number. Up to four names are held; one given again moves, also where four
+ * are. 30 after the last store and for a fifth name. */
+struct sitaungo_position sitaungo_name(struct sitaungo_conversion conversion, uint64_t name);
+
+/* Goes to the position of that name, back or forth; going on from there makes stores again, with the same bytes, and ends with the same file. Names stay.
+ * 30 after the last store, then 29 where that name was never given. */
+struct sitaungo_position sitaungo_recall(struct sitaungo_conversion conversion, uint64_t name);
+
+/* How many steps are left. */
+uint64_t sitaungo_left(struct sitaungo_conversion conversion);
+
+/* ---- up to eight conversions on one machine
+ *
+ * A pass has so many stores to give, and each job, a conversion in steps, has a cap for the pass. sitaungo_share says how many each gets, from what
+ * sitaungo_left says of each; sitaungo_advance, called with that for each job, makes the pass. Every sequence of passes, each with stores and caps of its own,
+ * gives a job that is finished by it the file it would have had alone. */
+
+/* A number for each of eight jobs. */
+struct sitaungo_eight {
+    uint64_t a, b, c, d, e, f, g, h;
+};
+
+/* What sharing answers: a refusal's number, 31 or 32, with no shares; else 0 and the share of each job, 0 past the jobs. */
+struct sitaungo_shares {
+    uint64_t number;
+    struct sitaungo_eight shares;
+};
+
+/* Shares `stores` among the first `jobs` of eight. A job that has stores left gets at least the least of its cap, what it has left, and `stores` divided by
+ * the number of such jobs, rounded down; none gets more than its cap or than it has left. What is left over goes to the jobs in their order, to each as much
+ * as it may take. 31 for no job or over eight, then 32 where `stores` or the cap of one of these jobs is 0, of a finished job too. */
+struct sitaungo_shares sitaungo_share(uint64_t stores, uint64_t jobs, struct sitaungo_eight caps, struct sitaungo_eight left);
 
 /* ---- reading a column file
  *

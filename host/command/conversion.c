@@ -110,18 +110,66 @@ struct sitaungo_outcome measure(const struct recording *r, const struct lent *l)
     return convert_with(r, l, work[1], SITAUNGO_WORK_WORDS, NULL, 0);
 }
 
+/* Words that may be needed for where records lie; those that there is no use for take no memory. NULL where they can't be had. */
+static uint64_t *map_words(size_t words)
+{
+    void *mapped = mmap(NULL, words * sizeof(uint64_t), PROT_READ | PROT_WRITE, MAP_PRIVATE | MAP_ANONYMOUS | MAP_NORESERVE, -1, 0);
+    return mapped == MAP_FAILED ? NULL : mapped;
+}
+
 /* A word more for each record that shares its DG with other groups: the conversion keeps there where these lie, if they follow each other in no
- * regular order. Without them it finds the same, in more time; words that it has no use for take no memory. */
+ * regular order. Without them it finds the same, in more time. */
 struct sitaungo_outcome convert(const struct recording *r, const struct lent *l, uint8_t *out, size_t length)
 {
     size_t words = SITAUNGO_WORK_WORDS + shared_records((struct image){r->bytes, r->length});
-    uint64_t *fragments = mmap(NULL, words * sizeof *fragments, PROT_READ | PROT_WRITE, MAP_PRIVATE | MAP_ANONYMOUS | MAP_NORESERVE, -1, 0);
-    if (fragments == MAP_FAILED)
+    uint64_t *fragments = map_words(words);
+    if (!fragments)
         return convert_with(r, l, work[1], SITAUNGO_WORK_WORDS, out, length);
     struct sitaungo_outcome outcome = convert_with(r, l, fragments, words, out, length);
     munmap(fragments, words * sizeof *fragments);
     return outcome;
 }
+
+/* ---- the same in steps */
+
+enum { OFFSET_WORDS = 2056 }; /* besides one a record */
+
+static struct {
+    struct sitaungo_conversion state;
+    uint64_t stretches[SITAUNGO_STRETCH_WORDS], *offsets;
+    size_t words; /* of offsets */
+} steps;
+
+struct sitaungo_outcome begin_stores(const struct recording *r, const struct lent *l, size_t length)
+{
+    const struct choices *c = &l->choices;
+    steps.words = OFFSET_WORDS + shared_records((struct image){r->bytes, r->length});
+    steps.offsets = map_words(steps.words);
+    steps.words = steps.offsets ? steps.words : 0;
+    struct sitaungo_begun begun = sitaungo_begin(
+        r->bytes, r->length, c->block_size, ident, sizeof ident, (const uint8_t *)l->text, l->text_length, l->time, options_of(c),
+        c->types, c->types_length, length, SITAUNGO_LIST_WORDS,
+        work[0], SITAUNGO_WORK_WORDS, work[1], SITAUNGO_WORK_WORDS, work[2], SITAUNGO_WORK_WORDS, work[3], SITAUNGO_WORK_WORDS,
+        steps.stretches, SITAUNGO_STRETCH_WORDS, steps.offsets, steps.words);
+    steps.state = begun.conversion;
+    return begun.outcome;
+}
+
+void make_stores(const struct recording *r, const struct lent *l, uint64_t stores, uint8_t *file, size_t length)
+{
+    const struct choices *c = &l->choices;
+    steps.state = sitaungo_advance(
+        steps.state, stores, r->bytes, r->length, ident, sizeof ident, (const uint8_t *)l->text, l->text_length, c->types, c->types_length,
+        work[0], SITAUNGO_WORK_WORDS, work[1], SITAUNGO_WORK_WORDS, work[2], SITAUNGO_WORK_WORDS, work[3], SITAUNGO_WORK_WORDS,
+        steps.stretches, SITAUNGO_STRETCH_WORDS, steps.offsets, steps.words, file, length, omissions, SITAUNGO_LIST_WORDS);
+}
+
+uint64_t stores_left(void)
+{
+    return sitaungo_left(steps.state);
+}
+
+/* ---- listings and omissions */
 
 /* The omission list from the end of a listing. */
 static void take_omissions(const char *listing)

@@ -48,6 +48,12 @@ uint8_t *map_output(int file, uint64_t size);
 
 struct sitaungo_outcome convert(const struct recording *r, const struct lent *l, uint8_t *out, size_t length);
 
+/* A conversion in steps, one in a process: begun for a file of so many bytes; so many stores more over it, by which no omission is changed before the last;
+ * how many are left. Neither `measure` nor a listing may come between the first and the last. */
+struct sitaungo_outcome begin_stores(const struct recording *r, const struct lent *l, size_t length);
+void make_stores(const struct recording *r, const struct lent *l, uint64_t stores, uint8_t *file, size_t length);
+uint64_t stores_left(void);
+
 /* Without an output: refusal 20 has the bytes needed as its place, any other refuses the recording. */
 struct sitaungo_outcome measure(const struct recording *r, const struct lent *l);
 

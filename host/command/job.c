@@ -4,6 +4,7 @@
 #include <errno.h>
 #include <fcntl.h>
 #include <inttypes.h>
+#include <signal.h>
 #include <stdio.h>
 #include <stdlib.h>
 #include <string.h>
@@ -33,7 +34,7 @@ enum { SHARED = 48 };
 
 static bool listing_wanted(const struct job *j)
 {
-    return j->o->listing || j->sink->wanted || j->o->complete;
+    return j->o->listing || j->sink->wanted || j->o->complete || j->o->in_place;
 }
 
 /* With --share-time the line of success has how many groups' time columns became an earlier group's. */
@@ -187,6 +188,105 @@ static void give_result(struct job *j)
         fail("the folder %s can't be synced: %s; without power the name may be lost", t->folder_path, strerror(errno));
 }
 
+/* ---- converting in place */
+
+/* The stores of a conversion over the mapped RESULT. */
+static void store(struct job *j, uint64_t stores, uint8_t *out)
+{
+    make_stores(&j->recording, &j->lent, stores, out, (size_t)j->size);
+}
+
+static void sync_stores(const struct job *j, uint8_t *out, uint64_t length)
+{
+    if (msync(out, (size_t)length, MS_SYNC) != 0)
+        fail("can't write the result %s to the disk: %s", j->result.path, strerror(errno));
+}
+
+static uint8_t *map_result(struct job *j)
+{
+    struct target *t = &j->result;
+    say_phase("taking %" PRIu64 " bytes of disk for the result", j->size);
+    open_in_place(t, j->size);
+    uint8_t *out = map_output(t->descriptor, j->size);
+    if (!out) {
+        int error = errno;
+        leave_in_place(t);
+        fail("can't map the result %s: %s", t->path, strerror(error));
+    }
+    watch_mapping(MAPPED_OUTPUT, out, (size_t)j->size, "the result %s can't be written: its disk is full or failed%s", t->path,
+        t->exists ? "; it may be cut off: it is refused (5) then" : "");
+    return out;
+}
+
+/* The first store, on the disk before any other: from now on RESULT is refused. */
+static void store_first(struct job *j, uint8_t *out, uint64_t front)
+{
+    struct target *t = &j->result;
+    if (t->exists)
+        set_cut_off(t->path);
+    store(j, 1, out);
+    sync_stores(j, out, front);
+    if (!cut_in_place(t, j->size))
+        fail("can't cut the result %s to its length: %s", t->path, strerror(errno));
+}
+
+/* The last store, once all others are on the disk; one that can't be synced is taken back. */
+static void store_last(struct job *j, uint8_t *out, uint64_t front)
+{
+    struct target *t = &j->result;
+    sigset_t before;
+    hold_signals(&before);
+    store(j, 1, out);
+    bool synced = msync(out, (size_t)front, MS_SYNC) == 0 && fsync(t->descriptor) == 0;
+    int error = errno;
+    if (synced) {
+        keep_in_place(t);
+        set_standing(STATUS_STANDING, "%s is there and whole", t->path);
+    } else {
+        memset(out, 0, 8);
+    }
+    release_signals(&before);
+    if (!synced)
+        fail("can't write the result %s to the disk: %s", t->path, strerror(error));
+}
+
+/* RESULT has its name from the start. The omissions are those of the listing until the last store brings the same. */
+static void store_in_place(struct job *j)
+{
+    struct target *t = &j->result;
+    j->done.answer = begin_stores(&j->recording, &j->lent, (size_t)j->size);
+    if (!j->done.answer.accepted)
+        fail("the conversion of %s is refused once it has room", j->recording.path);
+    uint8_t *out = map_result(j);
+    uint64_t front = j->size < SITAUNGO_STORE_BYTES ? j->size : SITAUNGO_STORE_BYTES;
+    say_phase("converting into %s, in %" PRIu64 " stores", t->path, stores_left());
+    store_first(j, out, front);
+    store(j, stores_left() - 1, out);
+    keep_report(j, (struct image){out, (size_t)j->size});
+    say_phase("syncing %" PRIu64 " bytes", j->size);
+    sync_stores(j, out, j->size);
+    if (!sync_folder(t))
+        fail("can't sync the folder %s: %s", t->folder_path, strerror(errno));
+    check_unchanged(&j->recording);
+    say_what_is_left_out(j);
+    if (!is_in_place(t))
+        fail("%s was replaced or removed meanwhile", t->path);
+    store_last(j, out, front);
+    forget_mapping(MAPPED_OUTPUT);
+    munmap(out, (size_t)j->size);
+}
+
+/* ---- either way */
+
+static bool differs(struct job *j)
+{
+    if (!j->o->verify || holds(j, j->result.descriptor, temporary_place(&j->result)))
+        return false;
+    drop_temporary(&j->result);
+    say_difference(j, "what was stored");
+    return true;
+}
+
 static int convert_recording(struct job *j)
 {
     j->result.replaces = j->o->force;
@@ -197,15 +297,16 @@ static int convert_recording(struct job *j)
     int status = plan(j);
     if (status != STATUS_DONE)
         return status;
-    write_result(j);
-    if (j->o->verify && !holds(j, j->result.descriptor, temporary_place(&j->result))) {
-        drop_temporary(&j->result);
-        say_difference(j, "what was stored");
+    if (j->o->in_place)
+        store_in_place(j);
+    else
+        write_result(j);
+    if (differs(j))
         return finish(j, "different", STATUS_DIFFERENT);
-    }
     if (j->o->digest && !j->o->verify)
         read_back(&(struct reading){j->result.descriptor, j->result.path, true}, (struct image){0}, &j->done);
-    give_result(j);
+    if (!j->o->in_place)
+        give_result(j);
     return finish(j, "converted", STATUS_DONE);
 }
 

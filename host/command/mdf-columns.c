@@ -1,8 +1,8 @@
 /* mdf-columns RECORDING RESULT: converts one row-oriented MDF 4 recording into one column-oriented MDF 4.20 file.
  *
  * The conversion is the proved one of libsitaungo. This program maps the recording, asks for the result's size, lends the conversion a
- * mapped temporary file of that size, syncs it and gives it RESULT's name (job.c). With --sheet it prints the sheet of a column file
- * (sheet.c). README.md has options and statuses. */
+ * mapped temporary file of that size, syncs it and gives it RESULT's name (job.c); with --in-place it lends RESULT itself to a conversion
+ * in steps. With --sheet it prints the sheet of a column file (sheet.c). README.md has options and statuses. */
 #define _GNU_SOURCE
 #include <fcntl.h>
 #include <sys/stat.h>

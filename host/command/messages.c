@@ -51,6 +51,10 @@ static const char *const refusals[] = {
         "can't have",
     [SITAUNGO_REFUSED_REFERENCE] = "a channel's reference to an attachment leads to none of the recording's attachments, or the channel has fewer links than "
         "it has references",
+    [SITAUNGO_REFUSED_POSITION] = "a position is recalled that was never named",
+    [SITAUNGO_REFUSED_NAME] = "a fifth name is given to a position, or one is named or recalled after the last store",
+    [SITAUNGO_REFUSED_JOBS] = "a pass has no job, or over eight",
+    [SITAUNGO_REFUSED_CAP] = "a pass has no store to give, or a job's cap is 0",
 };
 
 /* Those that say something else of a column file. */
@@ -151,7 +155,7 @@ void fail(const char *format, ...)
     va_start(arguments, format);
     (void)say_line(format, arguments);
     va_end(arguments);
-    if (standing_status() == STATUS_STANDING)
+    if (result_changed())
         (void)say("%s", standing_words());
     drop_temporaries();
     exit(standing_status());

@@ -8,7 +8,7 @@
 
 enum {
     STATUS_DONE = 0,
-    STATUS_FAILED = 1,     /* nothing was made: RESULT is as it was */
+    STATUS_FAILED = 1,     /* nothing was made: RESULT is as it was; or, an old one with --in-place, cut off */
     STATUS_REFUSED = 2,    /* the recording, or with --sheet the column file, is refused: RESULT is as it was */
     STATUS_STANDING = 3,   /* RESULT is there and whole, but something after that failed */
     STATUS_INCOMPLETE = 4, /* channels would be left out, with --complete: RESULT is as it was */
@@ -24,7 +24,7 @@ __attribute__((format(printf, 1, 2))) void say_phase(const char *format, ...);
 /* Something to know, on standard error, also with --quiet. False where it can't be written. */
 __attribute__((format(printf, 1, 2))) bool say(const char *format, ...);
 
-/* The message; temporary files are removed; status 1, or 3 with the word that RESULT stands. */
+/* The message; temporary files are removed; status 1, or 3 with the word that RESULT stands. Of one that is cut off that is said. */
 __attribute__((format(printf, 1, 2), noreturn)) void fail(const char *format, ...);
 
 /* The refusals and reasons of documents 01 and 02 in plain words. */

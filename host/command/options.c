@@ -29,6 +29,7 @@ static const char usage[] =
     "  --complete          refuse a recording of which a channel would be left out (status 4)\n"
     "  -d FOLDER           several recordings, each into a file of its name in FOLDER\n"
     "  --force             replace RESULT if it exists\n"
+    "  --in-place          store RESULT under its name from the start: it is refused (5) as long as it isn't whole\n"
     "  --json FILE         write what was done, a line of JSON for each recording; - is standard output\n"
     "  --listing           print a line for each column and each channel left out\n"
     "  --photos            keep references of channels to attachments\n"
@@ -44,7 +45,8 @@ static const char usage[] =
     "  --help, --version   print this, or the version\n"
     "\n"
     "Status: 0 done; 1 failed; 2 RECORDING or FILE is refused; 3 RESULT is there and whole, but something after that failed;\n"
-    "4 channels would be left out; 5 what was read back is not the conversion. With 1, 2 and 4 RESULT is as it was.\n";
+    "4 channels would be left out; 5 what was read back is not the conversion. With 1, 2 and 4 RESULT is as it was, but for\n"
+    "--in-place over an old one: with 1 that may be cut off, which is said.\n";
 
 __attribute__((noreturn)) static void misused(const char *why)
 {
@@ -83,16 +85,17 @@ static void read_types(struct choices *c, const char *path)
 }
 
 enum {
-    WORD = 1, BLOCK_SIZE = 256, CHECK, COMPLETE, FORCE, JSON, LISTING, PHOTOS, QUIET, RESUME, SHA256, SHARE_TIME, SHEET, TYPES, UNIT, VERIFY, HELP, VERSION
+    WORD = 1, BLOCK_SIZE = 256, CHECK, COMPLETE, FORCE, IN_PLACE, JSON, LISTING, PHOTOS, QUIET, RESUME, SHA256, SHARE_TIME, SHEET, TYPES, UNIT, VERIFY, HELP, VERSION
 };
 
 static const struct option known[] = {
     {"block-size", required_argument, NULL, BLOCK_SIZE}, {"check", no_argument, NULL, CHECK}, {"complete", no_argument, NULL, COMPLETE},
-    {"folder", required_argument, NULL, 'd'}, {"force", no_argument, NULL, FORCE}, {"json", required_argument, NULL, JSON},
-    {"listing", no_argument, NULL, LISTING}, {"photos", no_argument, NULL, PHOTOS}, {"quiet", no_argument, NULL, QUIET},
-    {"resume", no_argument, NULL, RESUME}, {"sha256", no_argument, NULL, SHA256}, {"share-time", no_argument, NULL, SHARE_TIME},
-    {"sheet", no_argument, NULL, SHEET}, {"types", required_argument, NULL, TYPES}, {"unit", required_argument, NULL, UNIT},
-    {"verify", no_argument, NULL, VERIFY}, {"help", no_argument, NULL, HELP}, {"version", no_argument, NULL, VERSION}, {NULL, 0, NULL, 0},
+    {"folder", required_argument, NULL, 'd'}, {"force", no_argument, NULL, FORCE}, {"in-place", no_argument, NULL, IN_PLACE},
+    {"json", required_argument, NULL, JSON}, {"listing", no_argument, NULL, LISTING}, {"photos", no_argument, NULL, PHOTOS},
+    {"quiet", no_argument, NULL, QUIET}, {"resume", no_argument, NULL, RESUME}, {"sha256", no_argument, NULL, SHA256},
+    {"share-time", no_argument, NULL, SHARE_TIME}, {"sheet", no_argument, NULL, SHEET}, {"types", required_argument, NULL, TYPES},
+    {"unit", required_argument, NULL, UNIT}, {"verify", no_argument, NULL, VERIFY}, {"help", no_argument, NULL, HELP},
+    {"version", no_argument, NULL, VERSION}, {NULL, 0, NULL, 0},
 };
 
 static void take(struct options *o, int option)
@@ -105,6 +108,7 @@ static void take(struct options *o, int option)
     case CHECK: o->check = true; break;
     case COMPLETE: o->complete = true; break;
     case FORCE: o->force = true; break;
+    case IN_PLACE: o->in_place = true; break;
     case JSON: o->json = optarg; break;
     case LISTING: o->listing = true; break;
     case PHOTOS: o->choices.photos = true; break;
@@ -128,8 +132,10 @@ static void check_options(const struct options *o)
         misused("--sheet converts nothing: only --quiet goes with it");
     if (o->sheet && o->count != 1)
         misused("--sheet needs one FILE");
-    if (o->check && (o->force || o->resume || o->verify))
-        misused("--check converts nothing: --force, --resume and --verify don't go with it");
+    if (o->check && (o->force || o->resume || o->verify || o->in_place))
+        misused("--check converts nothing: --force, --resume, --verify and --in-place don't go with it");
+    if (o->in_place && o->verify)
+        misused("--in-place gives RESULT its name from the start: --verify doesn't go with it, --check does afterwards");
     if (o->listing && o->json && strcmp(o->json, "-") == 0)
         misused("--listing and --json - both need standard output");
     if (o->folder && o->count == 0)

@@ -14,7 +14,7 @@ struct options {
     const char *json;
     const char *types; /* the file of the table of treatments, or NULL */
     struct choices choices;
-    bool force, resume, check, verify, complete, digest, listing, quiet, sheet;
+    bool force, resume, check, verify, complete, digest, in_place, listing, quiet, sheet;
     bool of_conversion; /* an option was given that is about conversions */
 };
 

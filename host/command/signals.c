@@ -2,7 +2,6 @@
 #include "signals.h"
 
 #include <stdarg.h>
-#include <stdbool.h>
 #include <stdint.h>
 #include <stdio.h>
 #include <string.h>
@@ -19,6 +18,7 @@ enum { ENDING = sizeof ending / sizeof *ending, SENTENCE = 8192 };
 static char standings[2][SENTENCE] = {"nothing was changed", ""};
 static volatile sig_atomic_t standing;
 static int status_now = STATUS_FAILED;
+static bool cut_off;
 
 static volatile pid_t child;
 static volatile sig_atomic_t passed;
@@ -122,6 +122,18 @@ void set_standing(int status, const char *format, ...)
     make_plain(standings[next], strlen(standings[next]));
     standing = next;
     status_now = status;
+    cut_off = false;
+}
+
+void set_cut_off(const char *path)
+{
+    set_standing(STATUS_FAILED, "%s is cut off: it is refused (5) until it is converted again", path);
+    cut_off = true;
+}
+
+bool result_changed(void)
+{
+    return cut_off || status_now == STATUS_STANDING;
 }
 
 int standing_status(void)

@@ -3,6 +3,7 @@
 #define SIGNALS_H
 
 #include <signal.h>
+#include <stdbool.h>
 #include <stddef.h>
 #include <sys/types.h>
 
@@ -18,6 +19,11 @@ void release_signals(const sigset_t *before);
 __attribute__((format(printf, 2, 3))) void set_standing(int status, const char *format, ...);
 int standing_status(void);
 const char *standing_words(void);
+
+/* An old RESULT that is stored over is cut off from now on, until set_standing says otherwise; whether RESULT is another than before, so that a message of
+ * failure is followed by what stands. */
+void set_cut_off(const char *path);
+bool result_changed(void);
 
 /* Such a signal is passed on to this process; 0 to none. A signal that came meanwhile, or 0. */
 void pass_signals_to(pid_t child);

@@ -220,10 +220,10 @@ static bool is_free(const struct target *t, uint64_t size, uint64_t *left)
     return size <= *left;
 }
 
-static int write_zeros(int descriptor, uint64_t size)
+static int write_zeros(int descriptor, uint64_t from, uint64_t size)
 {
     static char zeros[1 << 20];
-    for (uint64_t at = 0; at < size;) {
+    for (uint64_t at = from; at < size;) {
         size_t left = size - at < sizeof zeros ? (size_t)(size - at) : sizeof zeros;
         ssize_t n = pwrite(descriptor, zeros, left, (off_t)at);
         if (n < 0 && errno != EINTR)
@@ -233,18 +233,23 @@ static int write_zeros(int descriptor, uint64_t size)
     return 0;
 }
 
-/* Room on the disk is taken before anything is written: a mapped file that finds no room would end the command. */
-static int take_room(int descriptor, uint64_t size)
+/* Room on the disk is taken before anything is written: a mapped file that finds no room would end the command. What a file has before `from` stays. */
+static int take_room(int descriptor, uint64_t from, uint64_t size)
 {
     int error;
-    if (size == 0)
+    if (size <= from)
         return 0;
     do
-        error = size > INT64_MAX ? EFBIG : posix_fallocate(descriptor, 0, (off_t)size);
+        error = size > INT64_MAX ? EFBIG : posix_fallocate(descriptor, (off_t)from, (off_t)(size - from));
     while (error == EINTR);
     if (error == EOPNOTSUPP || error == ENOSYS || error == EINVAL)
-        error = write_zeros(descriptor, size);
+        error = write_zeros(descriptor, from, size);
     return error;
+}
+
+__attribute__((noreturn)) static void no_room(const struct target *t, uint64_t size, int error)
+{
+    fail("no room for the %s, %" PRIu64 " bytes, in the folder %s: %s", t->what, size, t->folder_path, strerror(error));
 }
 
 /* Files can only be left where they have names. The file system is asked for room before any is taken, so that a result that doesn't fit takes
@@ -262,20 +267,84 @@ void make_temporary(struct target *t, uint64_t size)
         if (size > 0)
             lock_and_mark(t, size);
     }
-    int error = take_room(t->descriptor, size);
+    int error = take_room(t->descriptor, 0, size);
     if (error)
-        fail("no room for the %s, %" PRIu64 " bytes, in the folder %s: %s", t->what, size, t->folder_path, strerror(error));
+        no_room(t, size, error);
 }
 
 int open_room(const struct target *t, uint64_t size)
 {
     uint64_t left;
     int file = is_free(t, size, &left) ? open_unnamed(t) : -1;
-    if (file >= 0 && take_room(file, size) != 0) {
+    if (file >= 0 && take_room(file, 0, size) != 0) {
         close(file);
         file = -1;
     }
     return file;
+}
+
+/* ---- the target itself */
+
+static void open_or_make(struct target *t)
+{
+    sigset_t before;
+    hold_signals(&before);
+    t->descriptor = openat(t->folder, t->name, O_RDWR | O_NOFOLLOW | O_NONBLOCK | O_CLOEXEC | (t->exists ? 0 : O_CREAT | O_EXCL), 0666);
+    int error = errno;
+    snprintf(t->temporary, sizeof t->temporary, "%s", t->name);
+    snprintf(t->temporary_path, sizeof t->temporary_path, "%s", t->path);
+    t->named = t->descriptor >= 0 && !t->exists;
+    watch(t);
+    release_signals(&before);
+    if (t->descriptor < 0 && error == EEXIST)
+        fail("%s exists; --force replaces it", t->path);
+    if (t->descriptor < 0)
+        fail("can't open the %s %s to store into it: %s", t->what, t->path, strerror(error));
+}
+
+/* Two conversions that store into one file would make a mixture. */
+static void check_alone(const struct target *t)
+{
+    struct stat found;
+    if (flock(t->descriptor, LOCK_EX | LOCK_NB) != 0 && errno == EWOULDBLOCK)
+        fail("another conversion stores into %s", t->path);
+    if (t->exists && (fstat(t->descriptor, &found) != 0 || !same_file(&found, &t->old)))
+        fail("%s was replaced meanwhile", t->path);
+}
+
+void open_in_place(struct target *t, uint64_t size)
+{
+    uint64_t held = t->exists ? (uint64_t)t->old.st_size : 0, left;
+    open_or_make(t);
+    check_alone(t);
+    int error = size > held && !is_free(t, size - held, &left) ? ENOSPC : take_room(t->descriptor, held, size);
+    if (error) {
+        leave_in_place(t);
+        no_room(t, size, error);
+    }
+}
+
+void leave_in_place(const struct target *t)
+{
+    struct stat now;
+    if (t->exists && fstat(t->descriptor, &now) == 0 && now.st_size > t->old.st_size && ftruncate(t->descriptor, t->old.st_size) != 0)
+        (void)say("zeros are behind the bytes of %s: %s", t->path, strerror(errno));
+}
+
+bool cut_in_place(const struct target *t, uint64_t size)
+{
+    return !t->exists || (uint64_t)t->old.st_size <= size || ftruncate(t->descriptor, (off_t)size) == 0;
+}
+
+bool is_in_place(const struct target *t)
+{
+    struct stat own;
+    return fstat(t->descriptor, &own) == 0 && is_named_so(t, t->name, &own);
+}
+
+void keep_in_place(struct target *t)
+{
+    t->named = false;
 }
 
 /* ---- a file that is whole */

@@ -21,6 +21,22 @@ int open_room(const struct target *t, uint64_t size);
 /* The file is whole: takes the mark away, gives it owner and mode of the file it replaces, and syncs it; fails where that can't be done. */
 void finish_temporary(struct target *t, uint64_t size);
 
+/* For stores in place: opens the target itself, or makes it, with room on the disk for so many bytes, or fails. One that is new counts as a temporary file
+ * until keep_in_place. An old one keeps its bytes; where it is shorter, zeros are behind them. */
+void open_in_place(struct target *t, uint64_t size);
+
+/* An old one that is shorter than what was to be stored has its length again. */
+void leave_in_place(const struct target *t);
+
+/* Its first store is on the disk: an old one that is longer is cut to so many bytes. False with errno. */
+bool cut_in_place(const struct target *t, uint64_t size);
+
+/* Whether the target's name leads to the file that was opened. */
+bool is_in_place(const struct target *t);
+
+/* It is whole: nothing removes it any more. */
+void keep_in_place(struct target *t);
+
 /* A second name in the folder for a file that has none: 0, or -1 with errno. */
 int link_unnamed(const struct target *t, const char *name);
 

@@ -6,10 +6,12 @@
         time, values = speed.time(), speed.values(physical=True)
 
 A layer over libsitaungo.so (host/build). Whether a file is a column file, and what a range of records holds, is answered by the proved reader alone,
-see include/sitaungo.h; this module follows links to names, units and types, and decodes records. `convert` runs the command mdf-columns.
+see include/sitaungo.h; this module follows links to names, units and types, and decodes records. `convert` runs the command mdf-columns; `Steps` is a
+conversion in steps, `share` what each of several gets of a pass.
 
 Python 3.9 or later on x86-64 Linux. Only `values` and `time` need numpy.
 """
+import contextlib
 import ctypes
 import errno
 import json
@@ -21,15 +23,16 @@ import shutil
 import stat
 import struct
 import subprocess
+import time as clock
 import typing
 import weakref
 
 __all__ = [
     "CONVERSIONS", "Changed", "Column", "ColumnFile", "CommandFailed", "DATA_TYPES", "Description", "Error", "NameMissing", "NameRepeated", "NotApplied",
-    "Refused", "Undecoded", "convert", "sheet",
+    "Refused", "Steps", "Undecoded", "convert", "share", "sheet",
 ]
 
-# What the refusals of reading say, by number.
+# What the refusals say, by number: of reading, of positions of a conversion in steps, of passes.
 WORDS = {
     4: "the file ends too early: a block, a name or data runs past its end",
     5: 'this is not an MDF file: it does not begin with "MDF" and five blanks',
@@ -46,6 +49,31 @@ WORDS = {
     23: "the column has fewer records",
     24: "the file lacks the form of a column file",
     25: "an entry leaves the destination, or the table has over 256 entries",
+    29: "a position is recalled that was never named",
+    30: "a fifth name is given to a position, or one is named or recalled after the last store",
+    31: "a pass has no job, or over eight",
+    32: "a pass has no store to give, or a job's cap is 0",
+}
+
+# Those of a conversion, where they say more or something else.
+CONVERTING = {
+    1: "the converter was called wrongly: work words, identification or history text",
+    2: "the block size is 0",
+    3: "the recording is larger than 4 GiB (4294967296 bytes)",
+    4: "the recording ends too early: a block, a name, an attachment or data runs past its end",
+    5: 'this is not an MDF recording: it does not begin with "MDF" and five blanks',
+    14: "a data group's records can't be told apart: equal or missing record ids, or DV blocks where only DT can be",
+    15: "a record ends early, runs from a DT into a DV block, or has an unknown id",
+    16: "comments, units or conversions link to each other in a circle or over 64 deep",
+    17: "a block of the file history has no links",
+    18: "an attachment is damaged: it has under 4 links, or more than fit",
+    19: "the recording passes a limit: 512 data groups, groups or channels, 1024 data blocks, 256 lists in a chain, 2048 copied blocks, 64 attachments, "
+    "or blocks of a column",
+    20: "the file is too short for the result",
+    21: "the omission list is too short",
+    26: "the unit is no power of two from 8 to 4096",
+    27: "the table of treatments has a wrong count or length, a type over 6 or twice, a treatment over 2, or one that its type can't have",
+    28: "a channel's reference to an attachment leads to none of the recording's attachments, or the channel has fewer links than it has references",
 }
 
 # ASAM MDF 4.2: data types of a channel, kinds of a conversion, by number.
@@ -69,15 +97,16 @@ class Error(Exception):
 
 class Refused(Error):
     """A refusal of the library or the command: `number`, `place` (an offset in the file, or 0) and `words`; of read_many also `position`, the entry's
-    number from 0."""
+    number from 0. Of Steps and share `path` is None."""
 
     def __init__(self, path, number, place, words, position=None):
         super().__init__(path, number, place, words, position)
         self.path, self.number, self.place, self.words, self.position = path, number, place, words, position
 
     def __str__(self):
+        file = "" if self.path is None else _shown(self.path) + ": "
         entry = "" if self.position is None else "entry %d: " % self.position
-        return "%s: %srefused %d place %d: %s" % (_shown(self.path), entry, self.number, self.place, self.words)
+        return "%s%srefused %d place %d: %s" % (file, entry, self.number, self.place, self.words)
 
 
 class Changed(Error):
@@ -151,11 +180,58 @@ class _Plotting(ctypes.Structure):
     _fields_ = [("accepted", ctypes.c_bool), ("number", ctypes.c_uint64), ("place", ctypes.c_uint64), ("position", ctypes.c_uint64)]
 
 
+def _numbers(*names):
+    return [(name, ctypes.c_uint64) for name in names]
+
+
+class _Options(ctypes.Structure):
+    _fields_ = [("unit", ctypes.c_uint64), ("share", ctypes.c_bool), ("photos", ctypes.c_bool)]
+
+
+_COUNTS = ("source_groups", "time_groups", "signal_groups", "shared_time_groups", "data_blocks", "metadata_size", "file_size")
+
+
+class _Outcome(ctypes.Structure):
+    _fields_ = [("accepted", ctypes.c_bool), *_numbers("number", "place", *_COUNTS)]
+
+
+class _State(ctypes.Structure):
+    """What a conversion in steps holds between two calls."""
+
+    _fields_ = [
+        *_numbers("block_size", "time", "unit"), ("share", ctypes.c_bool), ("photos", ctypes.c_bool),
+        *_numbers("items", "pieces", "columns", "omissions"),
+        *_numbers("history", "chain", "md", "fh", "metadata", "copies", "attachments", "metadata_end", "file_size"),
+        *_numbers("steps", "next", "count", "name_a", "name_b", "name_c", "name_d", "place_a", "place_b", "place_c", "place_d"),
+    ]
+
+
+class _Begun(ctypes.Structure):
+    _fields_ = [("outcome", _Outcome), ("conversion", _State)]
+
+
+class _Position(ctypes.Structure):
+    _fields_ = [("number", ctypes.c_uint64), ("conversion", _State)]
+
+
+_JOBS = 8  # of a pass
+
+
+class _Eight(ctypes.Structure):
+    _fields_ = _numbers(*"abcdefgh")
+
+
+class _Shares(ctypes.Structure):
+    _fields_ = [("number", ctypes.c_uint64), ("shares", _Eight)]
+
+
 _TABLE = 256  # entries of one plot
 _SHEET = 42201  # bytes that are enough for every sheet
 _HERE = os.path.dirname(os.path.abspath(__file__))
 _SLICE = [ctypes.c_void_p, ctypes.c_size_t]
 _RANGE = [ctypes.c_uint64] * 3
+_WORK, _LIST, _STRETCHES, _OFFSETS = 8192, 2049, 4096, 2056  # words of the slices that a conversion in steps is lent; of the last one more a record
+_FIXED = 3 * _SLICE + 6 * _SLICE + 2 * _SLICE  # of a step: identification, text and table, words, file and list
 
 
 def _load():
@@ -170,6 +246,12 @@ def _load():
         ("sitaungo_range_part", _Part, _SLICE + _RANGE),
         ("sitaungo_plot", _Plotting, _SLICE + _SLICE + _SLICE),
         ("sitaungo_sheet", ctypes.c_size_t, _SLICE + _SLICE),
+        ("sitaungo_begin", _Begun, [*_SLICE, ctypes.c_uint64, *_SLICE, *_SLICE, ctypes.c_uint64, _Options, *_SLICE, ctypes.c_uint64, ctypes.c_uint64] + 6 * _SLICE),
+        ("sitaungo_advance", _State, [_State, ctypes.c_uint64, *_SLICE, *_FIXED]),
+        ("sitaungo_name", _Position, [_State, ctypes.c_uint64]),
+        ("sitaungo_recall", _Position, [_State, ctypes.c_uint64]),
+        ("sitaungo_left", ctypes.c_uint64, [_State]),
+        ("sitaungo_share", _Shares, [ctypes.c_uint64, ctypes.c_uint64, _Eight, _Eight]),
         ("mapped_watch", ctypes.c_int, _SLICE),
         ("mapped_lost", ctypes.c_bool, [ctypes.c_int]),
         ("mapped_hold", ctypes.c_bool, [ctypes.c_void_p, ctypes.c_char_p, ctypes.c_size_t]),
@@ -195,16 +277,25 @@ class _Buffer(ctypes.Structure):
     ]
 
 
+@contextlib.contextmanager
+def _held(buffer, writable=False):
+    """Address and length of a buffer, which stays where it is meanwhile."""
+    view = _Buffer()
+    ctypes.pythonapi.PyObject_GetBuffer(ctypes.py_object(buffer), ctypes.byref(view), int(writable))
+    try:
+        yield view.buf, view.len
+    finally:
+        ctypes.pythonapi.PyBuffer_Release(ctypes.byref(view))
+
+
 class _Mapping(mmap.mmap):
     """A file's bytes. While they are mapped, a fault in them doesn't end the interpreter (mapped.c)."""
 
     watched = -1
 
     def watch(self):
-        buffer = _Buffer()
-        ctypes.pythonapi.PyObject_GetBuffer(ctypes.py_object(self), ctypes.byref(buffer), 0)
-        address = buffer.buf
-        ctypes.pythonapi.PyBuffer_Release(ctypes.byref(buffer))
+        with _held(self) as (address, _):
+            pass
         self.watched = _library.mapped_watch(address, len(self))
         if self.watched < 0:
             raise OSError(errno.EMFILE, "too many mapped files")
@@ -777,6 +868,113 @@ def sheet(path):
     return _Image(os.fspath(path)).sheet()
 
 
+# ---- converting in steps
+
+_IDENT = b"MDF     4.20    sitaungo\0\0\0\0\xa4\x01".ljust(64, b"\0")
+
+
+def _shared_records(view):
+    """How many records there are in DG with ids, as cycle counts say; at most an eighth of the recording's bytes."""
+    records, seen, header = 0, set(), _block(view, 64, b"HD")
+    group = _block(view, header.link(0), b"DG") if header else None
+    while group and group.at not in seen:
+        seen.add(group.at)
+        part = _block(view, group.link(1), b"CG") if group.fields("<B")[0] else None
+        while part and part.at not in seen:
+            seen.add(part.at)
+            records += part.fields("<Q", 8)[0]
+            part = _block(view, part.link(0), b"CG")
+        group = _block(view, group.link(0), b"DG")
+    return min(records, len(view) // 8)
+
+
+class Steps:
+    """A conversion of a recording into a file in steps, both of them buffers in memory, such as mapped files: for machines that may be switched off.
+
+    Each step makes one store of 1 to 4,096 bytes over the file. From the first to the last the file is one that is refused with 5, whatever stood in it
+    before; after the last it is the whole result, and what lies past that stays. The last step also gives `omissions`, of each channel left out its
+    address and reason. `report` has the seven counts, `steps` how many steps there are.
+
+    The file has at least the bytes that `size` tells; `text`, bytes or str, is the comment of the new history entry, `time` its time in nanoseconds since
+    1970, now if not given. Choices are block_size, unit, share_time, photos and types, the bytes of a table of treatments. What is not accepted is Refused.
+
+    All this holds while nobody else changes recording and file. Who stores into a mapped file flushes it after the first store, before the last and after
+    it: then it holds on the disk too."""
+
+    def __init__(self, recording, file, text, *, time=None, block_size=4194304, unit=8, share_time=False, photos=False, types=b""):
+        self._recording, self._file, self._types = recording, file, bytes(types)
+        self._text = text.encode() if isinstance(text, str) else bytes(text)
+        self._list, self.omissions = (ctypes.c_uint64 * _LIST)(), None
+        with memoryview(recording) as view, view.cast("B") as image, memoryview(file) as lent:
+            words, room = _OFFSETS + _shared_records(image), lent.nbytes
+        self._words = [(ctypes.c_uint64 * n)() for n in (_WORK, _WORK, _WORK, _WORK, _STRETCHES, words)]
+        time = clock.time_ns() if time is None else _u64(time, "time")
+        options = _Options(_u64(unit, "unit"), bool(share_time), bool(photos))
+        with _held(recording) as image:
+            begun = _library.sitaungo_begin(
+                *image, _u64(block_size, "block_size"), _IDENT, len(_IDENT), self._text, len(self._text), time, options, self._types, len(self._types),
+                room, _LIST, *self._slices(),
+            )
+        if not begun.outcome.accepted:
+            raise Refused(None, begun.outcome.number, begun.outcome.place, {**WORDS, **CONVERTING}.get(begun.outcome.number, "unknown refusal"))
+        self._state = begun.conversion
+        self.report = {name: getattr(begun.outcome, name) for name in _COUNTS}
+        self.steps = self._state.steps
+
+    @classmethod
+    def size(cls, recording, text, **choices):
+        """Bytes that the file needs."""
+        try:
+            return cls(recording, bytearray(), text, **choices).report["file_size"]
+        except Refused as why:
+            if why.number != 20:
+                raise
+            return why.place
+
+    def _slices(self):
+        return [word for words in self._words for word in (words, len(words))]
+
+    @property
+    def left(self):
+        """How many steps are left."""
+        return _library.sitaungo_left(self._state)
+
+    def step(self, stores=1):
+        """One step, or so many, or as many as are left."""
+        with _held(self._recording) as image, _held(self._file, writable=True) as file:
+            self._state = _library.sitaungo_advance(
+                self._state, _u64(stores, "stores"), *image, _IDENT, len(_IDENT), self._text, len(self._text), self._types, len(self._types),
+                *self._slices(), *file, self._list, len(self._list),
+            )
+        if self.left == 0 and self.omissions is None:
+            count = self._list[0]
+            self.omissions = list(zip(self._list[1 : 1 + count], self._list[1 + count : 1 + 2 * count]))
+
+    def name(self, name):
+        """Gives the present position a name, a number below 2**64. Four are held; one given again moves. 30 for a fifth and after the last store."""
+        self._move(_library.sitaungo_name(self._state, _u64(name, "a name")))
+
+    def recall(self, name):
+        """Goes to the position of that name, from which stores are made again. 30 after the last store, then 29 where that name was never given."""
+        self._move(_library.sitaungo_recall(self._state, _u64(name, "a name")))
+
+    def _move(self, position):
+        if position.number:
+            raise Refused(None, position.number, 0, WORDS.get(position.number, "unknown refusal"))
+        self._state = position.conversion
+
+
+def share(stores, jobs):
+    """What each job gets of a pass that has so many stores to give. A job, one of up to eight conversions in steps, is its cap for the pass and what it has
+    left. Who lets each make as many steps, in any sequence of passes, gets each file as if it were made alone. 31 and 32 are Refused."""
+    jobs = [(_u64(cap, "a cap"), _u64(left, "what is left")) for cap, left in jobs]
+    caps, left = (_Eight(*(job[k] for job in jobs[:_JOBS])) for k in (0, 1))
+    answer = _library.sitaungo_share(_u64(stores, "stores"), len(jobs), caps, left)
+    if answer.number:
+        raise Refused(None, answer.number, 0, WORDS.get(answer.number, "unknown refusal"))
+    return [getattr(answer.shares, name) for name, _ in zip("abcdefgh", jobs)]
+
+
 # ---- converting
 
 
@@ -801,7 +999,7 @@ def _option(name, value):
 
 def convert(recording, result, **choices):
     """Converts a recording into a column file by the command mdf-columns, and gives its report (README, --json). Choices are the command's options:
-    block_size, complete, force, photos (columns keep references to attachments), resume, sha256, share_time (equal times of several groups become one
+    block_size, complete, force, in_place, photos (columns keep references to attachments), resume, sha256, share_time (equal times of several groups become one
     column), types (the file of a table of treatments), unit, verify and what else it has.
 
     A recording that is not accepted is Refused; any other end but status 0 is CommandFailed, with the status."""

@@ -1,4 +1,5 @@
 """Power cuts, over the log of all that reached the device."""
+import collections
 import os
 import shutil
 import subprocess
@@ -21,7 +22,7 @@ def empty_device(kind):
     return read(path)
 
 
-def logged_conversion(image, old, fault):
+def logged_conversion(image, old, fault, *words):
     """The log of a conversion on such a device, and when it had ended."""
     log = place("device.log")
     with logged_device(image, log) as device:
@@ -31,7 +32,7 @@ def logged_conversion(image, old, fault):
                 write(result, old)
                 os.sync()
             begun = time.monotonic()
-            converts(run(SAMPLE, result, *(["--force"] if old else []), env=faulty(fault)))
+            converts(run(SAMPLE, result, *words, *(["--force"] if old else []), env=faulty(fault)))
             ended = time.monotonic()
             time.sleep(0.1)
     return read_log(log), begun, ended
@@ -49,18 +50,23 @@ def found_after(image):
         raise AssertionError("the device can't be mounted")
 
 
-def broken_promises(image, entries, begun, ended, old, unnamed, cuts):
-    """How often RESULT was neither as before nor whole, or not whole after the command had ended with 0; or something was left beside it."""
+def old_or_whole(data, old):
+    if data == old:
+        return "old"
+    return "whole" if data is not None and without_time(data) == SMALL.result else None
+
+
+def broken_promises(image, entries, begun, ended, old, unnamed, cuts, judge=old_or_whole):
+    """How often RESULT was nothing that it may be, or not whole after the command had ended with 0; or something was left beside it."""
     first = next(i for i, e in enumerate(entries) if e[1] > begun)
-    broken, seen = 0, {"old": 0, "whole": 0}
+    broken, seen = 0, collections.Counter()
     for _ in range(cuts):
         cut = Run.random.randrange(first, len(entries) + 1)
         data, left = found_after(after_power_cut(image, entries, cut))
         done = cut == len(entries) or entries[cut][1] > ended
-        if data is not None and data != old and without_time(data) == SMALL.result:
-            seen["whole"] += 1
-        elif data == old and not done:
-            seen["old"] += 1
+        found = judge(data, old)
+        if found == "whole" or found and not done:
+            seen[found] += 1
         else:
             broken += 1
         expect(not left or not unnamed, "left behind:", left)

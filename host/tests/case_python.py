@@ -262,6 +262,13 @@ def python_converting():
         desk("converting", EXAMPLE, SAMPLE, os.path.join(ROOT, "README.md"), here)
 
 
+@test
+def python_steps():
+    with folder() as here:
+        told = desk("steps", SAMPLE, RESULT, here)
+        return told + ", " + desk("passes", SAMPLE, EXAMPLE, *(os.path.join(ROOT, "crates", "columns", "data", name) for name in ("metadata", "unsorted")))
+
+
 def examples_of_readme():
     """Those parts of README that are marked as Python."""
     with open(os.path.join(ROOT, "README.md")) as f:

@@ -1,6 +1,7 @@
 """Cases of the module for Python, each in an interpreter of its own: desk.py CASE WORD... The last line printed says what was tried."""
 import ctypes
 import gc
+import mmap
 import os
 import pathlib
 import random
@@ -622,6 +623,105 @@ def converting(recording, sample, refused, folder):
     os.environ["SITAUNGO_COMMAND"] = os.path.join(folder, "missing")
     raises(FileNotFoundError, sitaungo.convert, recording, result)
     print("converting")
+
+
+# ---- steps
+
+
+def steps(recording, result, folder):
+    """Beside the command's result of the same recording: over a bytearray and a mapped file, with names, from any buffer."""
+    image, text = got(recording), "<FHcomment><TX>in steps</TX></FHcomment>"
+    size = sitaungo.Steps.size(image, text)
+    file = bytearray(b"\xa5") * (size + 5)
+    c = sitaungo.Steps(image, file, text, time=1)
+    expect(c.steps == (size + 4095) // 4096 + 2 == c.left and c.report["file_size"] == size and c.omissions is None, c.report)
+    expect(file == b"\xa5" * (size + 5), "beginning stores")
+    for number in (2**64 - 1, 0, 7, 8):
+        c.name(number)
+        c.step()
+        expect(file[:8] == bytes(8) and file[size:] == b"\xa5" * 5, "a store")
+    refuses(30, c.name, 9)
+    refuses(29, c.recall, 9)
+    c.recall(0)
+    expect(c.left == c.steps - 1, c.left)
+    c.step(c.left - 1)
+    expect(file[:8] == bytes(8) and c.left == 1 and c.omissions is None, "before the last store")
+    c.step(2**64 - 1)
+    expect(c.left == 0 and file[:8] == b"MDF     " and file[size:] == b"\xa5" * 5, "after the last store")
+    before = bytes(file)
+    c.step()
+    refuses(30, c.name, 0)
+    refuses(30, c.recall, 9)
+    expect(file == before and c.left == 0, "a further step")
+    whole = put(os.path.join(folder, "steps.mf4"), before[:size])
+    with sitaungo.ColumnFile(whole) as a, sitaungo.ColumnFile(result) as b:
+        expect([d._replace(channel_at=0) for d in a.columns] == [d._replace(channel_at=0) for d in b.columns], "other columns")
+        expect([a.column(k).records() for k in range(len(a.columns))] == [b.column(k).records() for k in range(len(b.columns))], "other records")
+    expect([reason for _, reason in c.omissions] == [4], c.omissions)
+    for of in (bytearray, memoryview):
+        file = bytearray(size)
+        sitaungo.Steps(of(image), memoryview(file), text.encode(), time=1).step(2**64 - 1)
+        expect(file == before[:size], "another buffer")
+    mapped(image, text, before[:size], os.path.join(folder, "mapped.mf4"))
+    refuse_steps(image, text, size)
+    print("%d steps" % c.steps)
+
+
+def mapped(image, text, whole, path):
+    """README's way: flushed after the first store, before the last and after it. The mapping can be closed while the conversion is there."""
+    with open(path, "wb+") as f:
+        f.truncate(len(whole))
+        file = mmap.mmap(f.fileno(), len(whole))
+        c = sitaungo.Steps(image, file, text, time=1)
+        c.step()
+        file.flush()
+        c.step(c.left - 1)
+        file.flush()
+        expect(got(path)[:8] == bytes(8) and got(path)[8:] == whole[8:], "before the last store")
+        c.step()
+        file.flush()
+        file.close()
+        raises(ValueError, c.step)
+    expect(got(path) == whole, "another file")
+
+
+def refuse_steps(image, text, size):
+    """Refusals of a conversion have its words; wrong arguments are no refusals."""
+    for number, at, f in (
+        (20, size, lambda: sitaungo.Steps(image, bytearray(size - 1), text)), (2, 0, lambda: sitaungo.Steps(image, bytearray(size), text, block_size=0)),
+        (26, 0, lambda: sitaungo.Steps.size(image, text, unit=12)), (27, 0, lambda: sitaungo.Steps.size(image, text, types=b"\0")),
+        (1, 0, lambda: sitaungo.Steps.size(image, "x" * 4097)), (4, 0, lambda: sitaungo.Steps.size(b"", text)),
+        (5, 0, lambda: sitaungo.Steps.size(bytes(1000), text)),
+    ):
+        why = raises(sitaungo.Refused, f)
+        expect((why.number, why.place, why.path) == (number, at, None) and why.words == sitaungo.CONVERTING[number], why.number, why)
+        expect(str(why) == "refused %d place %d: %s" % (number, at, why.words), why)
+    for f in (
+        lambda: sitaungo.Steps(image, bytearray(size), text, time=-1), lambda: sitaungo.Steps(image, bytearray(size), text, unit=2**64),
+        lambda: sitaungo.Steps(image, bytearray(size), text).name(-1), lambda: sitaungo.Steps(image, bytearray(size), text).step(2**64),
+        lambda: sitaungo.share(-1, [(1, 1)]),
+    ):
+        raises(ValueError, f)
+    raises(BufferError, sitaungo.Steps(image, bytes(size), text).step)
+    raises(TypeError, sitaungo.Steps, "text", bytearray(size), text)
+    expect(sitaungo.share(10, [(100, 3), (100, 100), (100, 100)]) == [3, 4, 3] and sitaungo.share(7, [(1, 0)] * 8) == [0] * 8, "shares")
+    for number, stores, jobs in ((31, 5, []), (31, 0, [(0, 0)] * 9), (32, 0, [(1, 1)]), (32, 5, [(1, 1), (0, 0)])):
+        refuses(number, sitaungo.share, stores, jobs)
+
+
+def passes(*recordings):
+    """Several recordings at once: each file as alone."""
+    images, text = [got(r) for r in recordings], "in passes"
+    files = [bytearray(sitaungo.Steps.size(image, text)) for image in images]
+    jobs = [sitaungo.Steps(image, file, text, time=2) for image, file in zip(images, files)]
+    while any(job.left for job in jobs):
+        for job, stores in zip(jobs, sitaungo.share(20, [(9, job.left) for job in jobs])):
+            job.step(stores)
+    for image, file in zip(images, files):
+        one = bytearray(len(file))
+        sitaungo.Steps(image, one, text, time=2).step(2**64 - 1)
+        expect(one == file, "another file than alone")
+    print("%d files" % len(files))
 
 
 # ---- speed

@@ -13,6 +13,10 @@ _Static_assert(sizeof(struct sitaungo_outcome) == 80, "the struct's size");
 _Static_assert(sizeof(struct sitaungo_options) == 16 && offsetof(struct sitaungo_options, share) == 8, "the choices' size");
 _Static_assert(offsetof(struct sitaungo_options, photos) == 9, "the choice of references");
 _Static_assert(sizeof(struct sitaungo_request) == 32 && sizeof(struct sitaungo_plotting) == 32, "a plot's structs");
+_Static_assert(sizeof(struct sitaungo_conversion) == 224 && offsetof(struct sitaungo_conversion, items) == 32, "the state's size");
+_Static_assert(offsetof(struct sitaungo_conversion, steps) == 136 && offsetof(struct sitaungo_conversion, next) == 144, "the state's steps");
+_Static_assert(sizeof(struct sitaungo_begun) == 304 && sizeof(struct sitaungo_position) == 232, "structs with a state");
+_Static_assert(sizeof(struct sitaungo_eight) == 64 && sizeof(struct sitaungo_shares) == 72, "a pass's structs");
 
 enum { ROOM = 4096, WIDE = 16384, GUARD = 0xA5 };
 
@@ -622,6 +626,160 @@ static void try_order_of_references(void)
     refuses(with_photos(), SITAUNGO_REFUSED_REFERENCE, CHANNEL, "behind a chain that returns");
 }
 
+/* ---- steps */
+
+static uint64_t stretches[SITAUNGO_STRETCH_WORDS], offsets[5000];
+
+static struct sitaungo_begun begin(struct call c, uint64_t room, uint64_t words)
+{
+    memset(work, GUARD, sizeof work);
+    memset(stretches, GUARD, sizeof stretches);
+    memset(offsets, GUARD, sizeof offsets);
+    return sitaungo_begin(image, c.image, c.size, ident, c.ident, text, c.text, 0, (struct sitaungo_options){c.unit, c.share, c.photos},
+        c.types, c.types_length, room, words, work[0], c.work[0], work[1], c.work[1], work[2], c.work[2], work[3], c.work[3],
+        stretches, SITAUNGO_STRETCH_WORDS, offsets, 5000);
+}
+
+static struct sitaungo_conversion advance(struct call c, struct sitaungo_conversion s, uint64_t stores)
+{
+    return sitaungo_advance(s, stores, image, c.image, ident, c.ident, text, c.text, c.types, c.types_length, work[0], c.work[0], work[1], c.work[1],
+        work[2], c.work[2], work[3], c.work[3], stretches, SITAUNGO_STRETCH_WORDS, offsets, 5000, out, c.out, list, c.list);
+}
+
+static struct sitaungo_conversion step(struct call c, struct sitaungo_conversion s)
+{
+    return sitaungo_step(s, image, c.image, ident, c.ident, text, c.text, c.types, c.types_length, work[0], c.work[0], work[1], c.work[1],
+        work[2], c.work[2], work[3], c.work[3], stretches, SITAUNGO_STRETCH_WORDS, offsets, 5000, out, c.out, list, c.list);
+}
+
+/* Field by field: what lies between them doesn't count. */
+static int same_state(struct sitaungo_conversion a, struct sitaungo_conversion b)
+{
+    return memcmp(&a, &b, offsetof(struct sitaungo_conversion, share)) == 0 && a.share == b.share && a.photos == b.photos &&
+        memcmp(&a.items, &b.items, sizeof a - offsetof(struct sitaungo_conversion, items)) == 0;
+}
+
+static int same_outcome(struct sitaungo_outcome a, struct sitaungo_outcome b)
+{
+    return a.accepted == b.accepted && memcmp(&a.number, &b.number, sizeof a - offsetof(struct sitaungo_outcome, number)) == 0;
+}
+
+static void begins_not(struct call c, uint64_t room, uint64_t words, uint64_t number, uint64_t place, const char *what)
+{
+    struct sitaungo_begun b = begin(c, room, words);
+    check(!b.outcome.accepted && b.outcome.number == number && b.outcome.place == place && all(&b.outcome.source_groups, 56, 0), what);
+    check(same_state(b.conversion, (struct sitaungo_conversion){0}) && sitaungo_left(b.conversion) == 0, "the state of a refusal");
+    for (int i = 0; i < 4; i++)
+        check(all(work[i], 8 * c.work[i], number == SITAUNGO_REFUSED_LENT ? GUARD : 0), "work words after a refused beginning");
+    check(all(stretches, sizeof stretches, 0) && all(offsets, sizeof offsets, 0), "words for places after a refused beginning");
+}
+
+/* The worked example in 5 stores on units of 4096: eight zeros, three pages but for these eight bytes, and these. */
+static void try_steps(void)
+{
+    static uint8_t whole[WIDE];
+    struct call c = with_unit(4096);
+    struct sitaungo_outcome a = run(c);
+    memcpy(whole, out, sizeof out);
+    static const size_t from[] = {0, 8, 4096, 8192, 0}, to[] = {8, 4096, 8192, 8304, 8};
+    for (int by_step = 0; by_step < 2; by_step++) {
+        memset(out, GUARD, sizeof out);
+        memset(list, GUARD, sizeof list);
+        struct sitaungo_begun b = begin(c, 8304, 1);
+        struct sitaungo_conversion s = b.conversion;
+        check(same_outcome(b.outcome, a) && s.steps == 5 && s.next == 0 && s.file_size == 8304 && sitaungo_left(s) == 5, "the beginning");
+        check(all(out, sizeof out, GUARD) && all(stretches, sizeof stretches, 0) && all(offsets, sizeof offsets, 0), "what beginning leaves");
+        for (uint64_t k = 0; k < 5; k++) {
+            check(all(list, sizeof list, GUARD), "the list before the last step");
+            memset(out, GUARD, sizeof out);
+            s = by_step ? step(c, s) : advance(c, s, 1);
+            check(s.next == k + 1 && sitaungo_left(s) == 4 - k, "the position");
+            check(k == 0 ? all(out, 8, 0) : memcmp(out + from[k], whole + from[k], to[k] - from[k]) == 0, "a store's bytes");
+            check(all(out, from[k], GUARD) && all(out + to[k], sizeof out - to[k], GUARD), "bytes beside a store");
+        }
+        check(list[0] == 0 && all(list + 1, sizeof list - 8, GUARD), "the list after the last step");
+        for (int i = 0; i < 4; i++)
+            check(all(work[i], 8 * SITAUNGO_WORK_WORDS, 0), "work words after the last step");
+        check(all(stretches, sizeof stretches, 0) && all(offsets, sizeof offsets, 0), "words for places after the last step");
+        memset(out, GUARD, sizeof out);
+        struct sitaungo_conversion further = advance(c, step(c, s), UINT64_MAX);
+        check(same_state(further, s) && all(out, sizeof out, GUARD), "a further step");
+    }
+    advance(c, begin(c, 8304, 1).conversion, UINT64_MAX);
+    check(memcmp(out, whole, 8304) == 0 && all(out + 8304, sizeof out - 8304, GUARD), "all steps in one call");
+}
+
+static void try_bad_steps(void)
+{
+    struct call c = with_unit(8);
+    begins_not(c, 1287, 1, SITAUNGO_REFUSED_OUTPUT, 1288, "a file one byte short");
+    begins_not(c, 1288, 0, SITAUNGO_REFUSED_LIST, 1, "no list");
+    check(begin(c, 1288, 1).outcome.accepted && begin(c, UINT64_MAX, UINT64_MAX).outcome.accepted, "a file of the bytes needed, and a long one");
+    c.unit = 12;
+    begins_not(c, 0, 0, SITAUNGO_REFUSED_UNIT, 0, "a bad unit");
+    c.size = 0;
+    begins_not(c, 0, 0, SITAUNGO_REFUSED_BLOCK_SIZE, 0, "block size 0");
+    c.work[2]--;
+    begins_not(c, 0, 0, SITAUNGO_REFUSED_LENT, 0, "a short slice");
+}
+
+/* 29 and 30: positions and their order. */
+static void try_positions(void)
+{
+    struct call c = with_unit(4096);
+    struct sitaungo_conversion s = begin(c, WIDE, 1).conversion;
+    struct sitaungo_position p = sitaungo_recall(s, 0);
+    check(p.number == SITAUNGO_REFUSED_POSITION && same_state(p.conversion, s), "a position that was never named");
+    static const uint64_t names[] = {0, UINT64_MAX, 1, UINT64_C(1) << 63};
+    for (int i = 0; i < SITAUNGO_NAMES; i++) {
+        p = sitaungo_name(s, names[i]);
+        check(p.number == 0 && p.conversion.count == (uint64_t)i + 1, "four names");
+        s = step(c, p.conversion);
+    }
+    p = sitaungo_name(s, 2);
+    check(p.number == SITAUNGO_REFUSED_NAME && same_state(p.conversion, s), "a fifth name");
+    p = sitaungo_name(s, UINT64_MAX);
+    check(p.number == 0 && p.conversion.count == 4, "a name given again with four held");
+    s = p.conversion;
+    static const uint64_t places[] = {0, 4, 2, 3};
+    for (int i = 0; i < SITAUNGO_NAMES; i++) {
+        p = sitaungo_recall(s, names[i]);
+        check(p.number == 0 && p.conversion.next == places[i] && p.conversion.count == 4 && sitaungo_left(p.conversion) == 5 - places[i], "a position recalled");
+        s = p.conversion;
+    }
+    s = advance(c, s, UINT64_MAX);
+    for (int i = 0; i < SITAUNGO_NAMES; i++)
+        check(sitaungo_name(s, names[i]).number == SITAUNGO_REFUSED_NAME && sitaungo_recall(s, names[i]).number == SITAUNGO_REFUSED_NAME, "after the last store");
+    check(sitaungo_recall(s, 2).number == SITAUNGO_REFUSED_NAME, "30 before 29");
+}
+
+/* ---- shares */
+
+static int shares(uint64_t stores, uint64_t jobs, struct sitaungo_eight caps, struct sitaungo_eight left, uint64_t number, struct sitaungo_eight due)
+{
+    struct sitaungo_shares s = sitaungo_share(stores, jobs, caps, left);
+    return s.number == number && memcmp(&s.shares, &due, sizeof due) == 0;
+}
+
+static struct sitaungo_eight three(uint64_t a, uint64_t b, uint64_t c)
+{
+    return (struct sitaungo_eight){.a = a, .b = b, .c = c};
+}
+
+static void try_shares(void)
+{
+    const struct sitaungo_eight zeros = {0}, ones = {1, 1, 1, 1, 1, 1, 1, 1}, seven = {1, 1, 1, 1, 1, 1, 1, 0}, up = {1, 2, 3, 4, 5, 6, 7, 8},
+        down = {8, 7, 6, 5, 4, 3, 2, 1};
+    check(shares(10, 3, three(100, 100, 100), three(3, 100, 100), 0, three(3, 4, 3)), "10 among 3, 100 and 100");
+    check(shares(12, 3, three(1, 4, 20), three(100, 100, 100), 0, three(1, 4, 7)), "caps of 1, 4 and 20");
+    check(shares(10, 3, three(9, 9, 9), three(0, 7, 9), 0, three(0, 5, 5)), "a finished job");
+    check(shares(2, 3, three(5, 5, 5), three(5, 5, 5), 0, three(2, 0, 0)), "fewer stores than jobs");
+    check(shares(8, 8, up, down, 0, ones) && shares(7, 8, ones, zeros, 0, zeros), "eight jobs, and eight that are finished");
+    check(shares(7, 0, ones, ones, SITAUNGO_REFUSED_JOBS, zeros) && shares(0, 9, zeros, ones, SITAUNGO_REFUSED_JOBS, zeros), "no job, and nine");
+    check(shares(0, 8, ones, ones, SITAUNGO_REFUSED_CAP, zeros), "no store");
+    check(shares(7, 8, seven, zeros, SITAUNGO_REFUSED_CAP, zeros) && shares(7, 7, seven, ones, 0, seven), "a cap of 0, and one behind the jobs");
+}
+
 /* So many columns without records; the length. */
 static size_t many_columns(size_t columns)
 {
@@ -675,6 +833,10 @@ int main(int count, char **arguments)
     try_listed(listing);
     try_plot();
     try_sheet();
+    try_steps();
+    try_bad_steps();
+    try_positions();
+    try_shares();
     try_references();
     try_bad_references();
     try_order_of_references();

@@ -92,16 +92,18 @@ module _ {s : List ℕ} {size : ℕ} {c : Column} {f : Form} (o : FormOf s size 
   form-per = o .per-is ∙ ap (λ (w : ℕ). perFull size w (c .records)) form-wide
 
   -- its blocks
-  form-region : (rs : List (List ℕ)) → regionOf s f rs ≡ blocksFor s size c rs
+  pub form-region : (rs : List (List ℕ)) → regionOf s f rs ≡ blocksFor s size c rs
   unfolding regionOf blocksFor
   form-region rs = rw (form-kind, form-per, form-blocks, o .shape-of .group, o .shape-of .channel)
 
   -- without blocks
+  pub form-none : (rs : List (List ℕ)) → f .blocks ≡ 0 → blocksFor s size c rs ≡ []
+  unfolding blocksFor payloads framedAll
+  form-none rs z = let n : countOf s size c ≡ 0 = sym form-blocks ∙ z in rw n
+
   pub form-empty : (gs ws p q out : List ℕ) → f .blocks ≡ 0 → WritesBlocks s size gs ws c p p q q out out
-  unfolding blocksFor payloads framedAll blit
-  form-empty gs ws p q out z gsOf wsOf a b h d =
-      let n : countOf s size c ≡ 0 = sym form-blocks ∙ z in
-      (h, rw n)
+  unfolding blit
+  form-empty gs ws p q out z gsOf wsOf a b h d = (h, rw (form-none (columnRecords s gs ws c) z))
 
   module _ (z : f .blocks ≡ 0 → ⊥) where
     form-some : (0 < f .shape .width) × (0 < c .records)
@@ -242,7 +244,7 @@ prepares-known t = record { keeps = λ gsOf wsOf a b e h. h; told = t }
 pub prepares-new : {s : List ℕ} {d g : ℕ} {gs ws q q' : List ℕ} {o : Offsets} → KeepsOffsets s d gs ws q q' → OffsetsFor q' d g o → Prepares s d g gs ws q q' o
 prepares-new k t = record { keeps = k; told = t }
 
-single : (gs : List ℕ) → length gs ≡ 1 → getD gs 0 0 ∷ [] ≡ gs
+pub single : (gs : List ℕ) → length gs ≡ 1 → getD gs 0 0 ∷ [] ≡ gs
 single [] l = absurd (omega arith)
 single (g ∷ []) l = refl
 single (g ∷ h ∷ gs) l = absurd (omega arith)
@@ -259,13 +261,16 @@ alone-all s gs ws c f p q out {last} l v gsOf wsOf a b h r g d =
     (h, y r g d)
 
 -- ---- tests that a column that is ready passes
-not-true : (b : Bool) → not b ≡ true → b ≡ false
+pub not-true : (b : Bool) → not b ≡ true → b ≡ false
 not-true true e = absurd (false≢true e)
 not-true false e = refl
 
 pub not-false : (b : Bool) → not b ≡ false → b ≡ true
 not-false true e = refl
 not-false false e = absurd (false≢true (sym e))
+
+pub is-fit : {t : Bool} (b : Bool) → b ≡ t → not b ≡ false → t ≡ true
+is-fit b e h = sym e ∙ not-false b h
 
 pub written-unfit : (s : List ℕ) (size : ℕ) (gs ws : List ℕ) (c : Column) (p q out : List ℕ) (b : Bool) → b ≡ fits s (c .group) (c .channel)
     → not b ≡ true → WritesBlocks s size gs ws c p p q q out out

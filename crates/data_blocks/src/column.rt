@@ -47,7 +47,7 @@ fn data_kind(keep: bool) -> u64
 }
 
 // The number of the group at g among groups, or how many they are.
-fn number_in(groups: &[u64], g: u64) -> u64
+pub fn number_in(groups: &[u64], g: u64) -> u64
     ensures { λ r. ⌜ r ≡ numberIn g (now (groups .entry)) ⌝ }
 {
     let n = groups.len();
@@ -61,10 +61,9 @@ fn number_in(groups: &[u64], g: u64) -> u64
     n as u64
 }
 
-// How the column's blocks are formed.
-fn form_of(image: &[u8], size: u64, c: Column) -> Form
-    requires { ⌜ fits (now image) (c .group) (c .channel) ≡ true ⌝ }
-    ensures { λ r. ⌜ FormOf (now (image .entry)) size c r ⌝ }
+// How the column's blocks are formed, if its channel fits.
+pub fn form_of(image: &[u8], size: u64, c: Column) -> Form
+    ensures { λ r. ⌜ (fits (now (image .entry)) (c .group) (c .channel) ≡ true → FormOf (now (image .entry)) size c r) ⌝ }
 {
     let shape = shape_of(image, c.group, c.channel);
     let kind = data_kind(shape.keep);
@@ -80,7 +79,7 @@ fn form_of(image: &[u8], size: u64, c: Column) -> Form
 }
 
 // Whether so many bytes have room for the blocks.
-fn has_room(room: u64, f: Form) -> bool
+pub fn has_room(room: u64, f: Form) -> bool
     ensures { λ r. ⌜ IfRoom room f r ⌝ }
 {
     let w = f.shape.width;
@@ -97,7 +96,7 @@ fn has_room(room: u64, f: Form) -> bool
 }
 
 // Stretches of the DG's groups come to be kept, if none of the group at g is.
-fn prepare(pool: &mut [u64], image: &[u8], d: u64, g: u64, groups: &[u64], fragments: &[u64])
+pub fn prepare(pool: &mut [u64], image: &[u8], d: u64, g: u64, groups: &[u64], fragments: &[u64])
     ensures { λ _. ⌜ KeepsRight (now (image .entry)) d (now (groups .entry)) (now (fragments .entry)) (now (pool .entry)) (now (pool .exit)) ⌝ }
 {
     let first = find(pool, d, g, 0, 0);
@@ -108,7 +107,7 @@ fn prepare(pool: &mut [u64], image: &[u8], d: u64, g: u64, groups: &[u64], fragm
 }
 
 // Where the offsets of the records of the group at g of the DG at d stand; those of all groups of the DG come to be kept, if they have room.
-fn prepare_offsets(
+pub fn prepare_offsets(
     words: &mut [u64],
     image: &[u8],
     d: u64,

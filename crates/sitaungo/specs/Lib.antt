@@ -4,3 +4,4 @@ pub mod ColumnFile
 pub mod ColumnFileLaws
 pub mod Readable
 pub mod ReadableLaws
+pub mod InSteps

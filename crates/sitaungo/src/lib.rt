@@ -1,5 +1,6 @@
-// The conversion, its listing, the reader of column files and their inventory sheet, for programs that link them.
+// The conversion, in one go and in steps, its listing, the reader of column files and their inventory sheet, for programs that link them.
 pub mod column_file;
+pub mod in_steps;
 
 use choices::Choices;
 use listing::recording::list;

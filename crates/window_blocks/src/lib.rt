@@ -31,7 +31,7 @@ ghost use Rattle.window_blocks.specs.Sizes.{cgLength, cnDataLength};
 ghost use Rattle.window_blocks.specs.Tail.{dlData, dlTail};
 
 // Whether n bytes at index at lie apart from a window of so many bytes from a on.
-fn apart(room: usize, a: u64, at: u64, n: u64) -> bool
+pub fn apart(room: usize, a: u64, at: u64, n: u64) -> bool
     ensures { λ r. ⌜ (r ≡ true → Apart room a at n) ⌝ }
 {
     if at <= a {

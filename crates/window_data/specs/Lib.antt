@@ -1,2 +1,10 @@
 pub mod Region
 pub mod RegionLaws
+pub mod Filled
+pub mod FilledLaws
+pub mod Signal
+pub mod SignalLaws
+pub mod Kept
+pub mod KeptLaws
+pub mod Blocks
+pub mod BlocksLaws

@@ -26,7 +26,7 @@ use Rattle.data_blocks.specs.Region.{regionOf, begun, filledTo, reachTo, startO
 use Rattle.data_blocks.specs.RegionLaws.{to-first, to-inside, begin-room, grown-piece, front-records, piece-back, lying-past, lying-front, Piece}
 use Rattle.window_data.specs.Region.{GrownIn, startAt, BlockIn, LaysStart, LaysPiece}
 
-over-none : (a at : ℕ) (w : List ℕ) → over a at [] w ≡ w
+pub over-none : (a at : ℕ) (w : List ℕ) → over a at [] w ≡ w
 unfolding over blit
 over-none a at w = rw (drop-nil (a - at)) refl
 
@@ -56,7 +56,7 @@ module _ {s : List ℕ} {f : Form} {room : ℕ} (d : Formed s f room) {rs : List
       e2 ∙ ap (part a k) y ∙ over-window a k 0 (take (reachTo f (i + n)) all) whole ∙ ap (over a 0 (take (reachTo f (i + n)) all)) (as-part a base)
 
 -- ---- bytes past the window, and before it
-grown-past : (a : ℕ) (region : List ℕ) (i j : ℕ) (w : List ℕ) → i ≤ j → a + length w ≤ i → GrownIn a region i j w w
+pub grown-past : (a : ℕ) (region : List ℕ) (i j : ℕ) (w : List ℕ) → i ≤ j → a + length w ≤ i → GrownIn a region i j w w
 unfolding part
 grown-past a region i j w h k base g =
     let n : length w ≡ length base = ap length g ∙ length-over a 0 (take i region) base in
@@ -98,7 +98,7 @@ quotient-more x y m z h = ⊎-elim
     (λ l. absurd (omega (arith, div-lt-iff-lt-mul {k = m} {x = y} {y = x / m} z .0 l, div-mul-le-self x m))) (λ l. l) (lt-or-le (y / m) (x / m))
 
 -- as many records reach as far, or further
-reach-more : (f : Form) (i n : ℕ) → 0 < f .per → reachTo f i ≤ reachTo f (i + n)
+pub reach-more : (f : Form) (i n : ℕ) → 0 < f .per → reachTo f i ≤ reachTo f (i + n)
 unfolding filledTo begun
 reach-more f i n z =
     let k : (i + (f .per - 1)) / f .per ≤ (i + n + (f .per - 1)) / f .per = quotient-more (i + (f .per - 1)) (i + n + (f .per - 1)) (f .per) z (omega arith) in

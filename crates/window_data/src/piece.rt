@@ -14,7 +14,7 @@ ghost use Rattle.data_blocks.specs.Region.{Formed, PieceIn, placesOf};
 ghost use Rattle.window_data.specs.Region.{startAt, BlockIn, LaysStart, LaysPiece};
 
 // The index of what stands before the cell of record number at: its block's header, if it begins a block.
-fn start_of(f: Form, at: u64) -> u64
+pub(crate) fn start_of(f: Form, at: u64) -> u64
     requires { ⌜ BlockIn f at ⌝ }
     ensures { λ r. ⌜ r ≡ startAt f at ⌝ }
 {
@@ -22,7 +22,7 @@ fn start_of(f: Form, at: u64) -> u64
 }
 
 // Whether index x lies past a window of so many bytes that begins at a.
-fn is_past(room: u64, a: u64, x: u64) -> bool
+pub(crate) fn is_past(room: u64, a: u64, x: u64) -> bool
     ensures { λ r. ⌜ (r ≡ true → a + room ≤ x) ⌝ }
 {
     if x < a {
@@ -49,14 +49,7 @@ fn lay_start(w: &mut [u8], a: u64, f: Form, at: u64) -> u64
 }
 
 // The records of the stretch t.
-pub(crate) fn lay_piece(
-    w: &mut [u8],
-    a: u64,
-    image: &[u8],
-    fragments: &[u64],
-    f: Form,
-    t: Stretch,
-)
+pub(crate) fn lay_piece(w: &mut [u8], a: u64, image: &[u8], fragments: &[u64], f: Form, t: Stretch)
     requires { ⌜ Readable (now image) (now fragments) (f .shape) × Formed (now image) f most64 × PieceIn (now fragments) f t ⌝ }
     ensures { λ _. ⌜ LaysPiece (now (image .entry)) (now (fragments .entry)) f a (t .number) (t .count) (placesOf t) (now (w .entry)) (now (w .exit)) ⌝ }
 {

@@ -141,7 +141,7 @@ blocks-some size (suc w) (suc n) z = (omega arith, omega arith)
 module _ {s w : List ℕ} {n : ℕ} {fs : List ℕ} {nf : ℕ} {e : Entry} (size at room : ℕ) (r : EntryReady s w n fs nf e)
     (o : Ordered at (entryBlocks s size w n fs nf e) room) {x b : ℕ} (p : x ≡ width s (e .group) (e .channel))
     (q : b ≡ blockCount size x (e .records)) where
-  count-is : entryCount s size e ≡ b
+  pub count-is : entryCount s size e ≡ b
   count-is = sym (q ∙ rw p)
 
   pub entry-none : b ≡ 0 → (out : List ℕ) → Wrote at (entryBlocks s size w n fs nf e) at out out
@@ -149,7 +149,7 @@ module _ {s w : List ℕ} {n : ℕ} {fs : List ℕ} {nf : ℕ} {e : Entry} (size
   entry-none z out = rw (count-is, z) (wrote-none at out)
 
   module _ (z : b ≡ 0 → ⊥) where
-    size-is : length (framedAll (entryKind s e) (entryPayloads s size e (entryRecords s w n fs nf e))) ≡ 24 * b + x * e .records
+    pub size-is : length (framedAll (entryKind s e) (entryPayloads s size e (entryRecords s w n fs nf e))) ≡ 24 * b + x * e .records
     unfolding entryPayloads
     size-is =
         let a = blocks-some size x (e .records) (rw (← q) (omega arith)) in
@@ -200,14 +200,14 @@ module _ (s ws : List ℕ) (sd size : ℕ) (out : List ℕ) (h : sd + length (bl
       rw y (wrote-block (block sd (blockOf kindSD (joined s (fragmentsOf ws)))) a (rw (← m) q))
 
 module _ (s fs : List ℕ) (e : Entry) where
-  no-signal : e .signal ≡ 0 → entrySignal s fs e ≡ []
+  pub no-signal : e .signal ≡ 0 → entrySignal s fs e ≡ []
   unfolding entrySignal
   no-signal z = sym (eq-yes _ _ _ _ z refl)
 
   pub signal-none : e .signal ≡ 0 → (at : ℕ) (out : List ℕ) → Wrote at (entrySignal s fs e) at out out
   signal-none z at out = rw (no-signal z) (wrote-none at out)
 
-  signal-some : (e .signal ≡ 0 → ⊥) → entrySignal s fs e ≡ block (e .sd) (blockOf kindSD (joined s (fragmentsOf (signalWords fs e)))) ∷ []
+  pub signal-some : (e .signal ≡ 0 → ⊥) → entrySignal s fs e ≡ block (e .sd) (blockOf kindSD (joined s (fragmentsOf (signalWords fs e)))) ∷ []
   unfolding entrySignal
   signal-some z = sym (eq-no _ _ _ _ z refl)
 
@@ -223,7 +223,7 @@ module _ (s fs : List ℕ) (e : Entry) where
 
 -- ---- all columns: what is left to write, written, gives the whole
 module _ (s : List ℕ) (size : ℕ) (w : List ℕ) (n : ℕ) (fs : List ℕ) (nf : ℕ) (cs m : List ℕ) where
-  data-open : (k number : ℕ) → k < number → dataFrom s size w n fs nf cs m k (number - k)
+  pub data-open : (k number : ℕ) → k < number → dataFrom s size w n fs nf cs m k (number - k)
       ≡ entryBlocks s size w n fs nf (entryIn cs m k)
       ++ (entrySignal s fs (entryIn cs m k) ++ dataFrom s size w n fs nf cs m (k + 1) (number - (k + 1)))
   unfolding dataFrom

@@ -137,6 +137,12 @@ module _ (s l : List ℕ) (before after : List Fragment) where
       let b = length-append gs after in
       rw length-blit (omega arith)
 
+  signal-pieces : (g : Signal) (e : Entry) → 3 * length (before ++ (fragmentsIn g ++ after)) ≤ length l
+      → e .signal ≡ signalWord (length before) g → e .pieces ≡ sizeOfSignal g
+      → (e .signal ≡ 0 → ⊥) → fragmentsOf (signalWords (blit 0 (fragmentWords (before ++ (fragmentsIn g ++ after))) l) e) ≡ fragmentsIn g
+  signal-pieces noSignal e h x y z = absurd (z x)
+  signal-pieces (signalData gs) e h x y z = rw (signal-words gs e h x y) (words-back gs)
+
 size-is : (g : Signal) → sizeOfSignal g ≡ length (fragmentsIn g)
 size-is noSignal = refl
 size-is (signalData fs) = refl
@@ -200,10 +206,11 @@ pub record SameColumn (s : List ℕ) (size : ℕ) (w : List ℕ) (n : ℕ) (fs :
   pub sd : e .sd ≡ placed .sd
   pub blocks : entryBlocks s size w n fs nf e ≡ blocksAt s size placed
   pub signal : entrySignal s fs e ≡ sdBlocks s (placed .column .signalOf) (placed .sd)
+  pub pieces : (e .signal ≡ 0 → ⊥) → fragmentsOf (signalWords fs e) ≡ fragmentsIn (placed .column .signalOf)
 
 same-later : {s : List ℕ} {size : ℕ} {w : List ℕ} {n : ℕ} {fs : List ℕ} {nf : ℕ} {e : Entry} {p : Placed} {ps : List Placed}
     → SameColumn s size w n fs nf e ps → SameColumn s size w n fs nf e (p ∷ ps)
-same-later c = record { placed = c .placed; one = there (c .one); first = c .first; sd = c .sd; blocks = c .blocks; signal = c .signal }
+same-later c = record { placed = c .placed; one = there (c .one); first = c .first; sd = c .sd; blocks = c .blocks; signal = c .signal; pieces = c .pieces }
 
 -- ---- all columns
 record AllSame (s : List ℕ) (size : ℕ) (w : List ℕ) (n : ℕ) (fs : List ℕ) (nf : ℕ) (cs m : List ℕ) (k : ℕ) (ps : List Placed) : Type 0 where
@@ -234,6 +241,8 @@ module _ (s : List ℕ) (size : ℕ) (w : List ℕ) (n nf : ℕ) (cs m l : List 
       rw e (signal-same s l before after sig (entryIn cs m k) (p .sd) h (v .signal) (v .pieces) (v .sd)) in
       let fi : (entryIn cs m k .signal ≡ 0 → ⊥) → 3 * (entryIn cs m k .signal - 1) + 3 * entryIn cs m k .pieces ≤ length fs =
       rw e (signal-fits s l before after sig (entryIn cs m k) h (v .signal) (v .pieces)) in
+      let pc : (entryIn cs m k .signal ≡ 0 → ⊥) → fragmentsOf (signalWords fs (entryIn cs m k)) ≡ fragmentsIn sig =
+      rw e (signal-pieces s l before after sig (entryIn cs m k) h (v .signal) (v .pieces)) in
       record {
         blocks = rw (blocks-same v u size, si, r .blocks);
         entries = λ i a b. ⊎-elim
@@ -241,7 +250,7 @@ module _ (s : List ℕ) (size : ℕ) (w : List ℕ) (n nf : ℕ) (cs m l : List 
             (λ (x : k < i). r .entries i (omega arith) (omega arith))
             (eq-or-lt-of-le a);
         columns = λ i a b. ⊎-elim
-            (λ (x : k ≡ i). rw (← x) (record { placed = p; one = here; first = v .first; sd = v .sd; blocks = blocks-same v u size; signal = si }))
+            (λ (x : k ≡ i). rw (← x) (record { placed = p; one = here; first = v .first; sd = v .sd; blocks = blocks-same v u size; signal = si; pieces = pc }))
             (λ (x : k < i). same-later (r .columns i (omega arith) (omega arith)))
             (eq-or-lt-of-le a);
       }

@@ -146,22 +146,22 @@ signals-length (c ∷ cs) = let r = signals-length cs in simp length-append (rw 
 
 -- ---- the parts of the file
 module _ {x : Args} {items pieces columns omitted : ℕ} {n : numbers.Numbers} {v f w m : List ℕ} (st : Stands x items pieces columns omitted n v f w m) where
-  abbrev s : List ℕ
+  abbrev pub s : List ℕ
   s = x .image
 
-  abbrev d : Decided
+  abbrev pub d : Decided
   d = st .by .told
 
-  abbrev l : Layout
+  abbrev pub l : Layout
   l = d .laidOut
 
-  abbrev known : Known x d
+  abbrev pub known : Known x d
   known = decided-known x d (st .by .is)
 
-  abbrev laid : LaidOut (rulesOf x) s (x .blockSize) (length (x .text)) (d .planned .columns) l
+  abbrev pub laid : LaidOut (rulesOf x) s (x .blockSize) (length (x .text)) (d .planned .columns) l
   laid = o x d known
 
-  counted : Numbers l (n .copies) (n .history) (n .metadata) (n .chain) (n .attachments)
+  pub counted : Numbers l (n .copies) (n .history) (n .metadata) (n .chain) (n .attachments)
   counted =
       let z = st .by .numbered in
       record { all = z .copies; first = z .history; next = z .metadata; blocks = z .chain; moved = z .attachments }
@@ -188,7 +188,7 @@ module _ {x : Args} {items pieces columns omitted : ℕ} {n : numbers.Numbers} {
   abbrev pub partAttached : List Block
   partAttached = attachmentBlocks s (l .past .chain) (memoOf l) (l .fh) (l .attached .attachments)
 
-  whole : blocksOf x l ≡ partFront ++ (partHistory ++ (partNew ++ (partColumns ++ (partStructure ++ (partData ++ partAttached)))))
+  pub whole : blocksOf x l ≡ partFront ++ (partHistory ++ (partNew ++ (partColumns ++ (partStructure ++ (partData ++ partAttached)))))
   unfolding blocksOf
   whole = refl
 
@@ -196,11 +196,11 @@ module _ {x : Args} {items pieces columns omitted : ℕ} {n : numbers.Numbers} {
   all-ordered = subst (λ (bs : List Block). Ordered 0 bs (l .fileSize)) whole (ordered x d known)
 
   -- ---- what the words give
-  long : 8192 ≤ length m
+  pub long : 8192 ≤ length m
   unfolding laidCopies
   long = let h = st .by .longD in let e : length m ≡ length (st .d) = ap length (st .by .numbered .words) ∙ rw (length-blit, length-blit, length-blit, length-blit) in omega (arith, h, e)
 
-  memo-is : copiesIn m (n .copies) ≡ memoOf l
+  pub memo-is : copiesIn m (n .copies) ≡ memoOf l
   memo-is = ap (λ (k : ℕ). copiesIn m k) (counted .all) ∙ copies-read laid (st .d) m (st .by .longD) (st .by .numbered .words)
 
   chain-is : part historyAt (n .chain) m ≡ l .past .chain
@@ -239,25 +239,25 @@ module _ {x : Args} {items pieces columns omitted : ℕ} {n : numbers.Numbers} {
       front-eq s (x .ident) p q r t
 
   -- ---- each part's blocks
-  history-same : copiedBlocks s (part historyAt (n .chain) m) (copiesIn m (n .copies)) (n .fh) (part 0 (n .history - 0) (copiesIn m (n .copies))) ≡ partHistory
+  pub history-same : copiedBlocks s (part historyAt (n .chain) m) (copiesIn m (n .copies)) (n .fh) (part 0 (n .history - 0) (copiesIn m (n .copies))) ≡ partHistory
   history-same =
       history-blocks laid counted (st .d) m (st .by .longD) (st .by .numbered .words) (n .fh)
       ∙ ap (λ (k : ℕ). copiedBlocks s (l .past .chain) (memoOf l) k (l .past .made .memo)) (st .by .numbered .fh)
 
-  columns-same : copiedBlocks s (part historyAt (n .chain) m) (copiesIn m (n .copies)) (n .fh) (part (n .history) (n .metadata - n .history) (copiesIn m (n .copies))) ≡ partColumns
+  pub columns-same : copiedBlocks s (part historyAt (n .chain) m) (copiesIn m (n .copies)) (n .fh) (part (n .history) (n .metadata - n .history) (copiesIn m (n .copies))) ≡ partColumns
   columns-same =
       columns-blocks laid counted (st .d) m (st .by .longD) (st .by .numbered .words) (n .fh)
       ∙ ap (λ (k : ℕ). copiedBlocks s (l .past .chain) (memoOf l) k (drop (length (l .past .made .memo)) (l .metadata .memo))) (st .by .numbered .fh)
 
-  attached-same : attachmentBlocks s (part historyAt (n .chain) m) (copiesIn m (n .copies)) (n .fh) (attachmentsIn m (n .metadata) (n .attachments)) ≡ partAttached
+  pub attached-same : attachmentBlocks s (part historyAt (n .chain) m) (copiesIn m (n .copies)) (n .fh) (attachmentsIn m (n .metadata) (n .attachments)) ≡ partAttached
   attached-same =
       attachments-blocks laid counted (st .d) m (st .by .longD) (st .by .numbered .words) (n .fh)
       ∙ ap (λ (k : ℕ). attachmentBlocks s (l .past .chain) (memoOf l) k (l .attached .attachments)) (st .by .numbered .fh)
 
-  new-same : block (n .md) (mdBytes (x .text)) ∷ block (n .fh) (fhBytes (n .md) (x .time)) ∷ [] ≡ partNew
+  pub new-same : block (n .md) (mdBytes (x .text)) ∷ block (n .fh) (fhBytes (n .md) (x .time)) ∷ [] ≡ partNew
   new-same = new-eq (x .text) (x .time) (st .by .numbered .md) (st .by .numbered .fh)
 
-  structure-same : structureBlocks (onTable (x .table)) s (x .blockSize) (copiesIn m (n .copies)) (attachmentsIn m (n .metadata) (n .attachments)) (placedIn (x .photos) s w m 0 columns) (placedIn (x .photos) s w m 0 columns) ≡ partStructure
+  pub structure-same : structureBlocks (onTable (x .table)) s (x .blockSize) (copiesIn m (n .copies)) (attachmentsIn m (n .metadata) (n .attachments)) (placedIn (x .photos) s w m 0 columns) (placedIn (x .photos) s w m 0 columns) ≡ partStructure
   structure-same =
       ap (λ (k : ℕ). structureBlocks (onTable (x .table)) s (x .blockSize) (copiesIn m (n .copies)) (attachmentsIn m (n .metadata) (n .attachments)) (placedIn (x .photos) s w m 0 k) (placedIn (x .photos) s w m 0 k)) number-placed
       ∙ structure-in (x .photos) s (length (st .by .source .fragments)) (d .planned) l (st .c) (st .d) w m (st .by .inColumns) (st .by .numbered .words) (columns-placed laid)
@@ -310,7 +310,7 @@ module _ {x : Args} {items pieces columns omitted : ℕ} {n : numbers.Numbers} {
   kept-pieces : 3 * length (known .steps .source .fragments ++ signalFragments (d .planned .columns)) ≤ length (take 3072 (st .b))
   kept-pieces = omega (arith, few-pieces, length-take-le 3072 (st .b) (omega (arith, st .by .longB)))
 
-  data-same : dataFrom s (x .blockSize) v items (take 3072 f) pieces w m 0 columns ≡ partData
+  pub data-same : dataFrom s (x .blockSize) v items (take 3072 f) pieces w m 0 columns ≡ partData
   data-same =
       data-eq s (x .blockSize) words-source number-items words-kept number-pieces words-columns (st .by .numbered .words) (st .by .columns)
       ∙ data-blocks x d known (st .a) (take 3072 (st .b)) (st .c) (st .d) (st .by .longA) (st .by .longC) (st .by .longD) kept-pieces (columns-placed laid)
@@ -321,6 +321,22 @@ module _ {x : Args} {items pieces columns omitted : ℕ} {n : numbers.Numbers} {
       column-eq s (x .blockSize) k (l .placed) words-source number-items words-kept number-pieces words-columns (st .by .numbered .words)
       (data-columns x d known (st .a) (take 3072 (st .b)) (st .c) (st .d) (st .by .longA) (st .by .longC) (st .by .longD) kept-pieces (columns-placed laid) k
       (omega (arith, h, e)))
+
+  -- ---- the columns' blocks, where they are in order
+  pub structure-stands : (a e : ℕ) → Ordered a partStructure e
+      → StructureReady (x .photos) (onTable (x .table)) s (x .blockSize) w m (attachmentsIn m (n .metadata) (n .attachments)) columns (n .copies) a e
+  structure-stands a e r =
+      subst (λ (k : ℕ). StructureReady (x .photos) (onTable (x .table)) s (x .blockSize) w m (attachmentsIn m (n .metadata) (n .attachments)) k (n .copies) a e) (sym number-placed)
+      (structure-ready (x .photos) s (length (st .by .source .fragments)) (d .planned) l (st .c) (st .d) w m (st .by .inColumns) (st .by .numbered .words) (columns-placed laid)
+      (known .fewColumns) (st .by .longC) (st .by .longD) referred (attachmentsIn m (n .metadata) (n .attachments)) (in-image x d known)
+      (subst (λ (k : List Copy). Ordered a (structureBlocks (onTable (x .table)) s (x .blockSize) k (attachmentsIn m (n .metadata) (n .attachments)) (l .placed) (l .placed)) e) (sym memo-is)
+      (subst (λ (k : List Attachment). Ordered a (structureBlocks (onTable (x .table)) s (x .blockSize) (memoOf l) k (l .placed) (l .placed)) e) (sym moved-is)
+      (subst (λ (bs : List Block). Ordered a bs e) (sym (by-table (rulesOf x) s (x .blockSize) (memoOf l) (l .attached .attachments) (l .placed) (l .placed))) r))))
+
+  pub data-stands : {kept : List ℕ} → kept ≡ take 3072 f → (a e : ℕ) → Ordered a partData e → DataReady s (x .blockSize) v items kept pieces w m columns a e
+  data-stands q a e r =
+      ready-eq s (x .blockSize) a e words-source number-items (q ∙ words-kept) number-pieces words-columns (st .by .numbered .words) (st .by .columns)
+      (data-ready x d known (st .a) (take 3072 (st .b)) (st .c) (st .d) (st .by .longA) (st .by .longC) (st .by .longD) kept-pieces (columns-placed laid) a e r)
 
   -- ---- each part's room and what was written, where the file is begun
   module _ (ys : List Block) {before : List Block} {a : ℕ} {out last : List ℕ} where
@@ -373,13 +389,7 @@ module _ {x : Args} {items pieces columns omitted : ℕ} {n : numbers.Numbers} {
 
     pub structure-asks : Begun before (partStructure ++ ys) (l .fileSize) a out last
         → StructureReady (x .photos) (onTable (x .table)) s (x .blockSize) w m (attachmentsIn m (n .metadata) (n .attachments)) columns (n .copies) a (length last)
-    structure-asks b =
-        subst (λ (k : ℕ). StructureReady (x .photos) (onTable (x .table)) s (x .blockSize) w m (attachmentsIn m (n .metadata) (n .attachments)) k (n .copies) a (length last)) (sym number-placed)
-        (structure-ready (x .photos) s (length (st .by .source .fragments)) (d .planned) l (st .c) (st .d) w m (st .by .inColumns) (st .by .numbered .words) (columns-placed laid)
-        (known .fewColumns) (st .by .longC) (st .by .longD) referred (attachmentsIn m (n .metadata) (n .attachments)) (in-image x d known)
-        (subst (λ (k : List Copy). Ordered a (structureBlocks (onTable (x .table)) s (x .blockSize) k (attachmentsIn m (n .metadata) (n .attachments)) (l .placed) (l .placed)) (length last)) (sym memo-is)
-        (subst (λ (k : List Attachment). Ordered a (structureBlocks (onTable (x .table)) s (x .blockSize) (memoOf l) k (l .placed) (l .placed)) (length last)) (sym moved-is)
-        (subst (λ (bs : List Block). Ordered a bs (length last)) (sym (by-table (rulesOf x) s (x .blockSize) (memoOf l) (l .attached .attachments) (l .placed) (l .placed))) (begun-room partStructure ys b)))))
+    structure-asks b = structure-stands a (length last) (begun-room partStructure ys b)
 
     pub structure-done : Begun before (partStructure ++ ys) (l .fileSize) a out last → {r : ℕ} {next : List ℕ}
         → Wrote a (structureBlocks (onTable (x .table)) s (x .blockSize) (copiesIn m (n .copies)) (attachmentsIn m (n .metadata) (n .attachments)) (placedIn (x .photos) s w m 0 columns) (placedIn (x .photos) s w m 0 columns)) r last next
@@ -388,10 +398,7 @@ module _ {x : Args} {items pieces columns omitted : ℕ} {n : numbers.Numbers} {
 
     pub data-asks : {kept : List ℕ} → kept ≡ take 3072 f → Begun before (partData ++ ys) (l .fileSize) a out last
         → DataReady s (x .blockSize) v items kept pieces w m columns a (length last)
-    data-asks q b =
-        ready-eq s (x .blockSize) a (length last) words-source number-items (q ∙ words-kept) number-pieces words-columns (st .by .numbered .words) (st .by .columns)
-        (data-ready x d known (st .a) (take 3072 (st .b)) (st .c) (st .d) (st .by .longA) (st .by .longC) (st .by .longD) kept-pieces (columns-placed laid) a (length last)
-        (begun-room partData ys b))
+    data-asks q b = data-stands q a (length last) (begun-room partData ys b)
 
     pub data-done : {kept : List ℕ} → kept ≡ take 3072 f → Begun before (partData ++ ys) (l .fileSize) a out last → {r : ℕ} {next : List ℕ}
         → Wrote a (dataFrom s (x .blockSize) v items kept pieces w m 0 columns) r last next → Begun (before ++ partData) ys (l .fileSize) r out next

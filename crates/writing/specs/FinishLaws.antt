@@ -169,7 +169,7 @@ module _ {x : Args} {items fragments columns omissions : ℕ} {n : Numbers} {v f
           k .steps .groups ∙ rw (a, b)
 
 -- ---- the whole call
-lent-fine-of : (x : Args) (d : Decided) → decided x ≡ ok d → lentIn x ≡ fine
+pub lent-fine-of : (x : Args) (d : Decided) → decided x ≡ ok d → lentIn x ≡ fine
 unfolding decided
 lent-fine-of x d e = then-fine (lentIn x) _ e .0
 
@@ -219,12 +219,12 @@ pub shares-timed : (image : List ℕ) (size : ℕ) (ident text : List ℕ) (time
     → Shares (decided (args image size ident text time chosen)) h
 shares-timed image size ident text time chosen k d e = k d (sym (decided-untimed image size ident text time chosen) ∙ e)
 
-refused-answer : (x : Args) (o l : ℕ) (v : Verdict) {n p : ℕ} → andThen v (λ _. decided x) ≡ refused n p → andThen v (λ _. answer x o l) ≡ refused n p
+pub refused-answer : (x : Args) (o l : ℕ) (v : Verdict) {n p : ℕ} → andThen v (λ _. decided x) ≡ refused n p → andThen v (λ _. answer x o l) ≡ refused n p
 unfolding answer
 refused-answer x o l (refused m q) e = cc
 refused-answer x o l (ok z) e = rw e
 
-lent-untimed : (image : List ℕ) (size : ℕ) (ident text : List ℕ) (time : ℕ) (chosen : Rules) → lentIn (args image size ident text time chosen) ≡ lentIn (untimed image size ident text chosen)
+pub lent-untimed : (image : List ℕ) (size : ℕ) (ident text : List ℕ) (time : ℕ) (chosen : Rules) → lentIn (args image size ident text time chosen) ≡ lentIn (untimed image size ident text chosen)
 unfolding lentIn
 lent-untimed image size ident text time chosen = refl
 

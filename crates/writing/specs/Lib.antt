@@ -33,3 +33,5 @@ pub mod DataReadyLaws
 pub mod FileLaws
 pub mod Final
 pub mod FinalLaws
+pub mod Beginning
+pub mod BeginningLaws

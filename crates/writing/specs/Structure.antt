@@ -58,6 +58,13 @@ pub record Near (memo : List ℕ) (n : ℕ) : Type 0 where
   pub long : 8192 ≤ length memo
   pub below : (m : ℕ) → m < n → getD memo (placedAt + 3 * m) 0 < 9223372036854775808
 
+-- a column's places are near, and its references few
+pub record Bounded (h : PlacedColumn) : Type 0 where
+  pub dg : h .dg < 9223372036854775808
+  pub after : h .dg ≤ h .cn
+  pub cn : h .cn ≤ h .dg + 176
+  pub photos : h .photos ≤ 65535
+
 -- ---- its blocks
 
 -- the bytes of its CN

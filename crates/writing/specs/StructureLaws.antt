@@ -109,6 +109,10 @@ unfolding signalIn
 sd-yes zero sd h = absurd (h refl)
 sd-yes (suc m) sd h = refl
 
+-- no place is far
+pub not-far : {A : Type 0} {memo : List ℕ} {n m : ℕ} → Near memo n → m < n → 9223372036854775808 ≤ getD memo (placedAt + 3 * m) 0 → A
+not-far {m = m} q h l = let b = q .below m h in absurd (omega arith)
+
 -- the master's CG
 module _ (memo : List ℕ) (n : ℕ) where
   pub place-no : (w : ℕ) → w ≡ 0 → 0 ≡ masterPlace memo n w
@@ -172,6 +176,9 @@ pub size-near : (m : Option ℕ) → cgSize m ≤ 112
 size-near none = omega arith
 size-near (some m) = le-refl 112
 
+pub cn-near : (d w : ℕ) {x : ℕ} → x ≡ cgSize (masterIn w) → d + 64 + x ≤ d + 176
+cn-near d w e = omega (arith, e, size-near (masterIn w))
+
 -- the stored type: t is the channel's, v its treatment
 module _ (table s : List ℕ) (c : ℕ) {t v : ℕ} (e : t ≡ channelType s c) (k : v ≡ treatment table t) where
   pub stored-zero : v ≡ 2 → 0 ≡ storedType table (channelType s c)
@@ -218,24 +225,24 @@ pub link-new : (m : List Copy) (a b : ℕ) {r : ℕ} → r ≡ linkOf (copyOf b 
 unfolding newLink
 link-new m a b e q = e ∙ link-or (copyOf b m) ∙ rw q
 
--- ---- the blocks' bytes over what was laid
-module _ (s : List ℕ) (m : List Copy) (h : PlacedColumn) (d e : List ℕ) where
-  pub filled-dg : (next : ℕ) {dl comment : ℕ} → e ≡ blit 0 (dgFrom next (h .dg + 64) dl comment) d → dl ≡ ifEq (h .blocks) 0 0 (h .cn + cnLength h)
-      → comment ≡ newLink m (linkAt s (h .parent) 3) → e ≡ blit 0 (columnDG s m h next) d
+-- ---- the blocks' bytes, laid by f over d
+module _ (s : List ℕ) (m : List Copy) (h : PlacedColumn) (f : List ℕ → List ℕ → List ℕ) (d e : List ℕ) where
+  pub filled-dg : (next : ℕ) {dl comment : ℕ} → e ≡ f (dgFrom next (h .dg + 64) dl comment) d → dl ≡ ifEq (h .blocks) 0 0 (h .cn + cnLength h)
+      → comment ≡ newLink m (linkAt s (h .parent) 3) → e ≡ f (columnDG s m h next) d
   unfolding columnDG
   filled-dg next i a b = i ∙ rw (a, b)
 
   pub filled-cg : {name source comment bytes : ℕ} {inval : Bool}
-      → e ≡ blit 0 (cgFrom s (h .group) (h .cn) name source comment (h .remote) (h .master) (h .records) bytes inval) d
+      → e ≡ f (cgFrom s (h .group) (h .cn) name source comment (h .remote) (h .master) (h .records) bytes inval) d
       → name ≡ newLink m (linkAt s (h .group) 2) → source ≡ newLink m (linkAt s (h .group) 3) → comment ≡ newLink m (linkAt s (h .group) 5)
-      → bytes ≡ channelBytes s (h .channel) → inval ≡ keepsInval s (h .group) (h .channel) → e ≡ blit 0 (columnCG s m h) d
+      → bytes ≡ channelBytes s (h .channel) → inval ≡ keepsInval s (h .group) (h .channel) → e ≡ f (columnCG s m h) d
   unfolding columnCG
   filled-cg i a b c x y = i ∙ rw (a, b, c, x, y)
 
   pub filled-front : {size links name source conversion unit comment : ℕ}
-      → e ≡ blit 0 (cnFront size links name source conversion (h .sd) unit comment) d → size ≡ cnLength h → links ≡ 8 + h .photos
+      → e ≡ f (cnFront size links name source conversion (h .sd) unit comment) d → size ≡ cnLength h → links ≡ 8 + h .photos
       → name ≡ newLink m (linkAt s (h .channel) 2) → source ≡ newLink m (linkAt s (h .channel) 3) → conversion ≡ newLink m (linkAt s (h .channel) 4)
-      → unit ≡ newLink m (linkAt s (h .channel) 6) → comment ≡ newLink m (linkAt s (h .channel) 7) → e ≡ blit 0 (columnFront s m h) d
+      → unit ≡ newLink m (linkAt s (h .channel) 6) → comment ≡ newLink m (linkAt s (h .channel) 7) → e ≡ f (columnFront s m h) d
   unfolding columnFront
   filled-front i k l a b c x y = i ∙ rw (k, l, a, b, c, x, y)
 

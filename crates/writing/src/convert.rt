@@ -44,7 +44,7 @@ fn are_bytes(image: &[u8])
 }
 
 // The counts of what was decided.
-fn count_up(
+pub(crate) fn count_up(
     image: &[u8],
     size: u64,
     source: &[u64],

@@ -12,7 +12,7 @@ use data_blocks::column::write_blocks;
 use offsets::kept::forget;
 ghost use mathlib.Core.Path.{_≡_};
 ghost use mathlib.Core.List.{[], _∷_};
-ghost use Prim.Native.Nat.{_+_, _*_, _-_, _≤_};
+ghost use Prim.Native.Nat.{_+_, _*_, _-_, _≤_, _<_};
 ghost use lib.ListN.{length};
 ghost use Rattle.base.specs.Blit.{blit};
 ghost use Rattle.mdf.specs.Block.{kindSD};
@@ -54,6 +54,33 @@ pub(crate) fn entry_at(columns: &[u64], memo: &[u64], k: u64) -> Entry
         first: memo[p + 1],
         sd: memo[p + 2],
     }
+}
+
+// The same of any words, where there are as many as it takes.
+pub fn entry_of(columns: &[u64], memo: &[u64], k: u64) -> Entry
+    ensures { λ r. ⌜ (k < 512 → 4096 ≤ length (now (columns .entry)) → 8192 ≤ length (now (memo .entry))
+        → r ≡ entryIn (now (columns .entry)) (now (memo .entry)) k) ⌝ }
+{
+    let none = Entry {
+        channel: 0,
+        group: 0,
+        parent: 0,
+        records: 0,
+        signal: 0,
+        pieces: 0,
+        first: 0,
+        sd: 0,
+    };
+    if 511 < k {
+        return none;
+    }
+    if columns.len() < 4096 {
+        return none;
+    }
+    if memo.len() < 8192 {
+        return none;
+    }
+    entry_at(columns, memo, k)
 }
 
 // The data blocks of column e, at the front of out; o is what is held of its DG.

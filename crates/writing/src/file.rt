@@ -26,7 +26,7 @@ ghost use Rattle.writing.specs.Answer.{args, fileFor};
 ghost use Rattle.writing.specs.Finish.{Stands};
 
 // The place of the first column's DG, 0 without columns.
-fn first_column(copies: &[u64], n: u64) -> u64
+pub fn first_column(copies: &[u64], n: u64) -> u64
     ensures { λ r. ⌜ r ≡ ifEq n 0 0 (getD (now (copies .entry)) 6656 0) ⌝ }
 {
     if n == 0 {
@@ -36,7 +36,7 @@ fn first_column(copies: &[u64], n: u64) -> u64
 }
 
 // The place of the first block of the history: the copy of the chain's first, or the new FH.
-fn first_history(copies: &[u64], used: u64, chain: u64, fh: u64) -> u64
+pub fn first_history(copies: &[u64], used: u64, chain: u64, fh: u64) -> u64
     ensures { λ r. ⌜ r ≡ ifEq chain 0 fh (newLink (copiesIn (now (copies .entry)) used) (getD (now (copies .entry)) 4352 0)) ⌝ }
 {
     if chain == 0 {
@@ -47,7 +47,7 @@ fn first_history(copies: &[u64], used: u64, chain: u64, fh: u64) -> u64
 }
 
 // The place of the copy of the HD's comment.
-fn comment_of(image: &[u8], copies: &[u64], used: u64) -> u64
+pub fn comment_of(image: &[u8], copies: &[u64], used: u64) -> u64
     ensures { λ r. ⌜ r ≡ newLink (copiesIn (now (copies .entry)) used) (linkAt (now (image .entry)) 64 5) ⌝ }
 {
     let a = link_at(image, 64, 5);

@@ -26,3 +26,21 @@ pub(crate) fn write_list(list: &mut [u64], columns: &[u64], n: usize)
     put_words(list, 1, columns, 4096, n);
     put_words(list, 1 + n, columns, 4097, n);
 }
+
+// The same of any words; where the list or the words are too short, nothing is written.
+pub fn put_list(list: &mut [u64], columns: &[u64], n: u64)
+    ensures { λ _. ⌜ (2 * n + 1 ≤ length (now (list .entry)) → 4096 + 2 * n ≤ length (now (columns .entry))
+        → now (list .exit) ≡ blit 0 (listed (now (columns .entry)) n) (now (list .entry))) ⌝ }
+{
+    let words = columns.len() as u64;
+    if words < 4096 {
+        return;
+    }
+    if (words - 4096) / 2 < n {
+        return;
+    }
+    if (list.len() as u64) < 2 * n + 1 {
+        return;
+    }
+    write_list(list, columns, n as usize);
+}

@@ -26,7 +26,7 @@ fn less_two(x: u64) -> u64
 }
 
 // Of the DG at d, among n items, with nf fragments.
-pub(crate) fn own_of(source: &[u64], n: u64, nf: u64, d: u64) -> Own
+pub fn own_of(source: &[u64], n: u64, nf: u64, d: u64) -> Own
     ensures { λ r. ⌜ OwnOf (now (source .entry)) n nf d r ⌝ }
 {
     let past = past_dg(source, n, d);

@@ -6,15 +6,16 @@ use channels::width_of;
 use choices::treatment_of;
 use photos::photos_of;
 ghost use mathlib.Core.Path.{_≡_};
-ghost use Prim.Native.Nat.{_≤_, _<_};
-ghost use lib.ListN.{length};
+ghost use Prim.Native.Nat.{_+_, _*_, _≤_, _<_};
+ghost use lib.ListN.{length, getD};
+ghost use Rattle.work_words.specs.CopyWords.{placedAt};
 ghost use Rattle.plan.specs.Channel.{channelType, width};
 ghost use Rattle.plan.specs.Geometry.{blockCount, blockPayload};
 ghost use Rattle.plan.specs.Layout.{cgSize};
 ghost use Rattle.result.specs.Fill.{storedType, sdLink};
 ghost use Rattle.filling.specs.FillLaws.{hasMaster};
 ghost use Rattle.writing.specs.PlacedIn.{masterIn, signalIn};
-ghost use Rattle.writing.specs.Structure.{masterPlace, nextPlace, columnOf, Near};
+ghost use Rattle.writing.specs.Structure.{masterPlace, nextPlace, columnOf, Near, Bounded};
 
 // Its CN in the image and the type that it is stored with, its CG and DG, its number of records, whether its master is in another group and that group's new CG; the places of its
 // DG, CN, first data block and SD, 0 without signal data; the number of its data blocks, of its references to attachments, and the payload of one.
@@ -67,8 +68,8 @@ fn sd_link(word: u64, sd: u64) -> u64
 
 // The master's CG, by its word, of n columns.
 fn master_place(memo: &[u64], n: u64, word: u64) -> u64
-    requires { ⌜ Near (now memo) n ⌝ }
-    ensures { λ r. ⌜ r ≡ masterPlace (now (memo .entry)) n word ⌝ }
+    requires { ⌜ (n ≤ 512) × (8192 ≤ length (now memo)) ⌝ }
+    ensures { λ r. ⌜ (Near (now (memo .entry)) n → r ≡ masterPlace (now (memo .entry)) n word) ⌝ }
 {
     if word == 0 {
         return 0;
@@ -77,18 +78,38 @@ fn master_place(memo: &[u64], n: u64, word: u64) -> u64
     if n <= m {
         return 0;
     }
-    memo[(6656 + 3 * m) as usize] + 64
+    let dg = memo[(6656 + 3 * m) as usize];
+    if 9223372036854775808 <= dg {
+        return 0;
+    }
+    dg + 64
 }
 
-// The DG of the column after number k, of n columns.
+// The DG of the column after number k, of n columns; any number where the words aren't there.
+pub fn place_after(memo: &[u64], n: u64, k: u64) -> u64
+    ensures { λ r. ⌜ (n ≤ 512 → 8192 ≤ length (now (memo .entry)) → r ≡ nextPlace (now (memo .entry)) n k) ⌝ }
+{
+    if n <= k {
+        return 0;
+    }
+    if n <= k + 1 {
+        return 0;
+    }
+    if 512 < n {
+        return 0;
+    }
+    if memo.len() < 8192 {
+        return 0;
+    }
+    memo[(6656 + 3 * (k + 1)) as usize]
+}
+
+// The same where they are.
 pub(crate) fn next_place(memo: &[u64], n: u64, k: u64) -> u64
     requires { ⌜ Near (now memo) n × (k < n) ⌝ }
     ensures { λ r. ⌜ r ≡ nextPlace (now (memo .entry)) n k ⌝ }
 {
-    if n <= k + 1 {
-        return 0;
-    }
-    memo[(6656 + 3 * (k + 1)) as usize]
+    place_after(memo, n, k)
 }
 
 // How many data blocks a column of n records has.
@@ -119,8 +140,30 @@ fn stored_type(image: &[u8], table: &[u8], c: u64) -> u64
     t
 }
 
-// Column number k of n.
-pub(crate) fn column_of(
+// No column.
+fn no_column() -> PlacedColumn
+    ensures { λ r. ⌜ Bounded r ⌝ }
+{
+    PlacedColumn {
+        channel: 0,
+        stored: 0,
+        group: 0,
+        parent: 0,
+        records: 0,
+        remote: false,
+        master: 0,
+        dg: 0,
+        cn: 0,
+        first: 0,
+        sd: 0,
+        blocks: 0,
+        photos: 0,
+        payload: 0,
+    }
+}
+
+// Column number k of n, where its words are there and its DG is near.
+fn column_near(
     image: &[u8],
     photos: bool,
     table: &[u8],
@@ -130,8 +173,10 @@ pub(crate) fn column_of(
     n: u64,
     k: u64,
 ) -> PlacedColumn
-    requires { ⌜ Near (now memo) n × (k < n) × (4096 ≤ length (now columns)) ⌝ }
-    ensures { λ r. ⌜ (r ≡ columnOf photos (now (table .entry)) (now (image .entry)) size (now (columns .entry)) (now (memo .entry)) n k) × (r .photos ≤ 65535) ⌝ }
+    requires { ⌜ (n ≤ 512) × (k < n) × (4096 ≤ length (now columns)) × (8192 ≤ length (now memo))
+        × (getD (now memo) (placedAt + 3 * k) 0 < 9223372036854775808) ⌝ }
+    ensures { λ r. ⌜ Bounded r × (Near (now (memo .entry)) n
+        → r ≡ columnOf photos (now (table .entry)) (now (image .entry)) size (now (columns .entry)) (now (memo .entry)) n k) ⌝ }
 {
     let i = (8 * k) as usize;
     let j = (6656 + 3 * k) as usize;
@@ -164,4 +209,53 @@ pub(crate) fn column_of(
         photos: references,
         payload,
     }
+}
+
+// The same of any words; no column where they aren't there.
+pub fn column_at(
+    image: &[u8],
+    photos: bool,
+    table: &[u8],
+    size: u64,
+    columns: &[u64],
+    memo: &[u64],
+    n: u64,
+    k: u64,
+) -> PlacedColumn
+    ensures { λ r. ⌜ Bounded r × (Near (now (memo .entry)) n → k < n → 4096 ≤ length (now (columns .entry))
+        → r ≡ columnOf photos (now (table .entry)) (now (image .entry)) size (now (columns .entry)) (now (memo .entry)) n k) ⌝ }
+{
+    if n <= k {
+        return no_column();
+    }
+    if 512 < n {
+        return no_column();
+    }
+    if columns.len() < 4096 {
+        return no_column();
+    }
+    if memo.len() < 8192 {
+        return no_column();
+    }
+    if 9223372036854775808 <= memo[(6656 + 3 * k) as usize] {
+        return no_column();
+    }
+    column_near(image, photos, table, size, columns, memo, n, k)
+}
+
+// The same where they are.
+pub(crate) fn column_of(
+    image: &[u8],
+    photos: bool,
+    table: &[u8],
+    size: u64,
+    columns: &[u64],
+    memo: &[u64],
+    n: u64,
+    k: u64,
+) -> PlacedColumn
+    requires { ⌜ Near (now memo) n × (k < n) × (4096 ≤ length (now columns)) ⌝ }
+    ensures { λ r. ⌜ (r ≡ columnOf photos (now (table .entry)) (now (image .entry)) size (now (columns .entry)) (now (memo .entry)) n k) × (r .photos ≤ 65535) ⌝ }
+{
+    column_at(image, photos, table, size, columns, memo, n, k)
 }

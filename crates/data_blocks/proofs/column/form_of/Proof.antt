@@ -17,9 +17,9 @@ block-count-requires : tie.Need-block-count-requires
 block-count-requires c κs = search needs
 
 returns : tie.Need-returns
-returns c =
+returns c e =
     record {
-      shape-of = c .before .before .before .shape-of .ensures (c .before .before .before .before .before .pre);
+      shape-of = c .before .before .before .shape-of .ensures e;
       kind-is = c .before .before .data-kind .ensures;
       per-is = c .before .per-full .ensures;
       blocks-are = c .block-count .ensures;

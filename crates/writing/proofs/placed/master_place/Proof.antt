@@ -1,37 +1,39 @@
 -- The master's DG, 64 bytes before its CG.
-use Prim.Native.Nat.{_-_}
-use Rattle.writing.specs.StructureLaws.{place-no, place-past, place-yes}
+use Rattle.writing.specs.StructureLaws.{place-no, place-past, place-yes, not-far}
 use native.Mathlib.Omega.{arith}
 use borrow.Author.Needs.{needs}
 use Rattle.writing.proofs.placed.master_place.Statement.{statement}
 use Rattle.writing.proofs.placed.master_place.Tie as tie
 
 returns : tie.Need-returns
-returns c = place-no _ _ _ (omega arith)
+returns c = λ q. place-no _ _ _ (omega arith)
 
 sub-m : tie.Need-sub-m
 sub-m c = search needs
 
 returns-2 : tie.Need-returns-2
-returns-2 c = place-past _ _ _ (omega arith) (omega arith)
+returns-2 c = λ q. place-past _ _ _ (omega arith) (omega arith)
 
-mul-result : tie.Need-mul-result
-mul-result c = search needs
+mul-dg : tie.Need-mul-dg
+mul-dg c = search needs
+
+add-dg : tie.Need-add-dg
+add-dg c = search needs
+
+mul-dg-2 : tie.Need-mul-dg-2
+mul-dg-2 c = search needs
+
+shared-slice-read-dg : tie.Need-shared-slice-read-dg
+shared-slice-read-dg c = search needs
+
+returns-3 : tie.Need-returns-3
+returns-3 c = λ q. not-far q (omega arith) (c .if3 .taken)
 
 add-result : tie.Need-add-result
 add-result c = search needs
 
-mul-result-2 : tie.Need-mul-result-2
-mul-result-2 c = search needs
-
-shared-slice-read-result : tie.Need-shared-slice-read-result
-shared-slice-read-result c = search needs
-
-add-result-2 : tie.Need-add-result-2
-add-result-2 c = omega (arith, c .before .before .before .pre .below (c .before .before .before .args .word - 1) (omega arith))
-
-returns-3 : tie.Need-returns-3
-returns-3 c = place-yes _ _ _ (omega arith) (omega arith)
+returns-4 : tie.Need-returns-4
+returns-4 c = λ q. place-yes _ _ _ (omega arith) (omega arith)
 
 pub master-place-spec : {M : Type 1} → statement M
 master-place-spec =
@@ -40,9 +42,10 @@ master-place-spec =
     returns
     sub-m
     returns-2
-    mul-result
+    mul-dg
+    add-dg
+    mul-dg-2
+    shared-slice-read-dg
+    returns-3
     add-result
-    mul-result-2
-    shared-slice-read-result
-    add-result-2
-    returns-3)
+    returns-4)

@@ -1,4 +1,5 @@
 -- A CG over the column's numbers.
+use Rattle.base.specs.Blit.{blit}
 use Rattle.writing.specs.StructureLaws.{filled-cg}
 use borrow.Author.Needs.{needs}
 use Rattle.writing.proofs.structure.fill_cg.Statement.{statement}
@@ -27,7 +28,7 @@ same-length c = search needs
 
 returns : tie.Need-returns
 returns c =
-    filled-cg _ _ _ _ _ (c .before .before .put-cg .ensures)
+    filled-cg _ _ _ (blit 0) _ _ (c .before .before .put-cg .ensures)
     (c .before .before .before .before .before .before .before .before .link .ensures)
     (c .before .before .before .before .before .before .before .link2 .ensures)
     (c .before .before .before .before .before .before .link3 .ensures)

@@ -1,4 +1,5 @@
 -- The links are those of the column's DG.
+use Rattle.base.specs.Blit.{blit}
 use Rattle.writing.specs.StructureLaws.{filled-dg}
 use borrow.Author.Needs.{needs}
 use Rattle.writing.proofs.structure.fill_dg.Statement.{statement}
@@ -20,7 +21,7 @@ same-length : tie.Need-same-length
 same-length c = search needs
 
 returns : tie.Need-returns
-returns c = filled-dg _ _ _ _ _ _ (c .before .before .put-dg .ensures) (c .before .before .before .before .before .before .dl-place .ensures) (c .before .before .before .before .before .link .ensures)
+returns c = filled-dg _ _ _ (blit 0) _ _ _ (c .before .before .put-dg .ensures) (c .before .before .before .before .before .before .dl-place .ensures) (c .before .before .before .before .before .link .ensures)
 
 pub fill-dg-spec : {M : Type 1} → statement M
 fill-dg-spec =

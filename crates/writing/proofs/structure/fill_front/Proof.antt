@@ -1,5 +1,6 @@
 -- The links are those of the column's CN.
 use mathlib.Core.Path.{refl}
+use Rattle.base.specs.Blit.{blit}
 use Rattle.writing.specs.StructureLaws.{filled-front}
 use borrow.Author.Needs.{needs}
 use Rattle.writing.proofs.structure.fill_front.Statement.{statement}
@@ -36,7 +37,7 @@ same-length : tie.Need-same-length
 same-length c = search needs
 
 returns : tie.Need-returns
-returns c = filled-front _ _ _ _ _ (c .before .before .put-cn .ensures) refl refl (c .before .before .before .before .before .before .before .before .before .before .link .ensures) (c .before .before .before .before .before .before .before .before .before .link2 .ensures) (c .before .before .before .before .before .before .before .before .link3 .ensures) (c .before .before .before .before .before .before .before .link4 .ensures) (c .before .before .before .before .before .before .link5 .ensures)
+returns c = filled-front _ _ _ (blit 0) _ _ (c .before .before .put-cn .ensures) refl refl (c .before .before .before .before .before .before .before .before .before .before .link .ensures) (c .before .before .before .before .before .before .before .before .before .link2 .ensures) (c .before .before .before .before .before .before .before .before .link3 .ensures) (c .before .before .before .before .before .before .before .link4 .ensures) (c .before .before .before .before .before .before .link5 .ensures)
 
 pub fill-front-spec : {M : Type 1} → statement M
 fill-front-spec =

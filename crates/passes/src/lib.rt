@@ -1,0 +1,1 @@
+// Definitions and laws of passes over several conversions in steps; no code.

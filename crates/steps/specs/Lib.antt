@@ -1,0 +1,5 @@
+pub mod Conversion
+pub mod Span
+pub mod SpanLaws
+pub mod Steps
+pub mod StepsLaws

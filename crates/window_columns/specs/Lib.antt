@@ -1,0 +1,4 @@
+pub mod Columns
+pub mod ColumnsLaws
+pub mod PassedLaws
+pub mod AllLaws

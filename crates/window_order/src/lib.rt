@@ -1,0 +1,1 @@
+// Laws about blocks in order over a window of the file; no code.
