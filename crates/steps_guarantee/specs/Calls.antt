@@ -83,7 +83,7 @@ Call x (recall n) a b = Moves (recalling (a .conversion .steps) n (stateIn a)) a
 -- one after the other, each given what the one before left
 pub data Calls (x : Args) : List Op → Between → Between → Type 0 where
   noCall : {a : Between} → Calls x [] a a
-  call : {o : Op} {os : List Op} {a b c : Between} → Call x o a b → Calls x os b c → Calls x (o ∷ os) a c
+  call : {o : Op} {os : List Op} {a c : Between} (b : Between) → Call x o a b → Calls x os b c → Calls x (o ∷ os) a c
 
 -- bookkeeping: the number that naming or recalling answers, 0 where it is no refusal
 abbrev pub numberOf : Checked State → ℕ
