@@ -90,7 +90,7 @@ abbrev pub numberOf : Checked State → ℕ
 numberOf (ok s) = 0
 numberOf (refused number place) = number
 
--- "refuses with 5": the call y, whatever output, list and work slices it is given
+-- "refuses with 5": the call y, whatever output and list it is given and whatever work slices that pass 1
 pub record Refuses (y : Args) : Type 0 where
   pub decides : decided y ≡ refused 5 0
   pub answers : (bytes spaces : ℕ) → answer y bytes spaces ≡ refused 5 0

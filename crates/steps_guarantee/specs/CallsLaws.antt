@@ -291,8 +291,8 @@ module _ {x : Args} {a : Between} (g : Begun x a) where
   steps-made : a .conversion .steps ≡ stepsOf (length (made x))
   steps-made = steps-first ∙ ap stepsOf (sym (ap length made-is ∙ file-length x d known))
 
-  -- that is the answer of the conversion in one go
-  pub begun-answer : answer x (length (a .file)) (length (a .list)) ≡ ok d
+  -- what was decided is the answer of the conversion in one go
+  pub begun-answer : answer x (length (a .file)) (length (a .list)) ≡ ok (toldOf g)
   unfolding answer
   begun-answer =
       let st = g .accepted .holds .stands in
@@ -316,19 +316,19 @@ module _ {x : Args} {a : Between} (g : Begun x a) where
     follows : Follows x (a .file) (a .list) b (run (made x) (omitted x) os (begun (a .file) (a .list)))
     follows = follows-calls x (a .file) (a .list) os follows-begun c
 
-    -- state, file and list are those of the definition
     running-is : runningOf (b .conversion) (b .file) (b .list) (run (made x) (omitted x) os (begun (a .file) (a .list)) .high)
         ≡ inSteps x d (a .file) (a .list) os
     running-is =
         follows .runs ∙ ap (λ (v : Checked Decided). run (fileFor x v) (listFor v) os (begun (a .file) (a .list))) (g .accepted .holds .stands .by .is)
 
-    pub calls-run : (stateIn b ≡ inSteps x d (a .file) (a .list) os .state) × (b .file ≡ inSteps x d (a .file) (a .list) os .file)
-        × (b .list ≡ inSteps x d (a .file) (a .list) os .list)
+    -- state, file and list are those of the definition
+    pub calls-run : (stateIn b ≡ inSteps x (toldOf g) (a .file) (a .list) os .state) × (b .file ≡ inSteps x (toldOf g) (a .file) (a .list) os .file)
+        × (b .list ≡ inSteps x (toldOf g) (a .file) (a .list) os .list)
     calls-run =
         (ap (λ (z : Running). z .state) running-is, ap (λ (z : Running). z .file) running-is, ap (λ (z : Running). z .list) running-is)
 
     -- "the number of steps is known before the first", from the size
-    pub calls-known : b .conversion .steps ≡ stepsOf (d .laidOut .fileSize)
+    pub calls-known : b .conversion .steps ≡ stepsOf (toldOf g .laidOut .fileSize)
     calls-known = follows .steps ∙ sym steps-made ∙ steps-first
 
     next-in : b .conversion .next ≡ inSteps x d (a .file) (a .list) os .state .next
