@@ -1,7 +1,9 @@
 //! bench TURNS [LOAD]: times the port, the Rust converter and a plain copy on the rack's loads, each also at twice the length.
 //! bench read TURNS: times reading ranges of column files.
+//! bench steps TURNS [LOAD]: times all steps of a conversion beside one go.
 mod loads;
 mod reading;
+mod stepping;
 use loads::{apart, bus, by_turns, dealt, described, history, many_links, mixed, recording, shuffled, zero_links, Group, Order};
 use mf4_rs::column::{to_column_oriented_bytes, to_column_oriented_with, ColumnOptions, ColumnSink};
 use mf4_rs::error::MdfError;
@@ -284,6 +286,15 @@ fn ten() -> Vec<Group> {
     (1..=10).map(|id| Group::of(30, 32, id)).collect()
 }
 
+// The rack's groups, which are recorded for some time.
+fn racks() -> [(&'static str, Vec<Group>); 3] {
+    [
+        ("300 channels of 32 bits", vec![Group::of(300, 32, 0)]),
+        ("300 channels of 16 bits with invalidation bits", vec![Group { inval: true, ..Group::of(300, 16, 0) }]),
+        ("10 unsorted groups of 30 channels of 32 bits", ten()),
+    ]
+}
+
 type Load = fn(u64) -> Vec<u8>;
 
 // Further loads, each so many times its length.
@@ -349,19 +360,14 @@ fn main() {
     if std::env::args().nth(1).as_deref() == Some("read") {
         return reading::run(std::env::args().nth(2).map_or(5, |t| t.parse().unwrap()));
     }
+    if std::env::args().nth(1).as_deref() == Some("steps") {
+        return stepping::run(std::env::args().nth(2).map_or(5, |t| t.parse().unwrap()), &std::env::args().nth(3).unwrap_or_default());
+    }
     let turns: usize = std::env::args().nth(1).map_or(5, |t| t.parse().unwrap());
     let only = std::env::args().nth(2).unwrap_or_default();
-    let sorted = [Group::of(300, 32, 0)];
-    let inval = [Group { inval: true, ..Group::of(300, 16, 0) }];
-    let unsorted = ten();
-    let loads = [
-        ("300 channels of 32 bits", &sorted[..]),
-        ("300 channels of 16 bits with invalidation bits", &inval[..]),
-        ("10 unsorted groups of 30 channels of 32 bits", &unsorted[..]),
-    ];
     println!("| load | s | MB | port best | median | Rust best | median | copy best | median | port / Rust | with new memory | twice the length |");
     println!("|---|---|---|---|---|---|---|---|---|---|---|---|");
-    for (name, groups) in loads.iter().filter(|l| l.0.contains(&only)) {
+    for (name, groups) in racks().iter().filter(|l| l.0.contains(&only)) {
         let mut before = None;
         for seconds in [60, 120, 240] {
             before = Some(line(name, &seconds.to_string(), &recording(groups, 1000 * seconds, 4 << 20), turns, before));
