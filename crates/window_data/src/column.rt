@@ -13,13 +13,34 @@ use data_blocks::column::prepare;
 use data_blocks::column::prepare_offsets;
 use data_blocks::piece::Form;
 use data_blocks::total::total_of;
+use offsets::kept::offsets_of;
 ghost use mathlib.Core.Path.{_≡_};
 ghost use lib.ListN.{length};
 ghost use Rattle.mdf.specs.Records.{most64, sizeOf};
 ghost use Rattle.work_words.specs.Words.{fragmentsOf};
+ghost use Rattle.places.specs.Pool.{KeepsRight};
 ghost use Rattle.cells.specs.Spot.{Readable};
 ghost use Rattle.data_blocks.specs.Region.{Formed};
 ghost use Rattle.window_data.specs.Blocks.{LaysRecords, LaysBlocks};
+
+// Stretches of the DG's groups come to be kept, if neither stretches nor offsets of the group at g are.
+fn keep_stretches(
+    pool: &mut [u64],
+    words: &[u64],
+    image: &[u8],
+    d: u64,
+    g: u64,
+    groups: &[u64],
+    fragments: &[u64],
+)
+    ensures { λ _. ⌜ KeepsRight (now (image .entry)) d (now (groups .entry)) (now (fragments .entry)) (now (pool .entry)) (now (pool .exit)) ⌝ }
+{
+    let kept = offsets_of(words, d, g);
+    if kept.known {
+        return;
+    }
+    prepare(pool, image, d, g, groups, fragments);
+}
 
 // The records of the column's group, one of several: by kept stretches, by kept offsets, by framing.
 fn lay_among(
@@ -40,7 +61,7 @@ fn lay_among(
     ensures { λ _. ⌜ LaysRecords a (now (image .entry)) (now (groups .entry)) (now (fragments .entry)) c f (now (pool .entry)) (now (pool .exit))
         (now (words .entry)) (now (words .exit)) (now (w .entry)) (now (w .exit)) ⌝ }
 {
-    prepare(pool, image, c.parent, c.group, groups, fragments);
+    keep_stretches(pool, words, image, c.parent, c.group, groups, fragments);
     let r = record_from(f, a);
     let done = lay_pool(w, a, image, c.parent, c.group, fragments, pool, f, size, r);
     if done == f.records {
