@@ -184,7 +184,7 @@ def killed_at_random_moments_in_place():
             if old is not None:
                 write(result, old)
             p = start(MEDIUM.path, result, IN_PLACE, "--force")
-            time.sleep(Run.random.uniform(0, 1.5 * MEDIUM.seconds))
+            time.sleep(Run.random.uniform(0, 3 * MEDIUM.seconds))
             p.kill()
             end(p)
             told.append(state_of(result, old, MEDIUM.result))
@@ -226,6 +226,16 @@ def failures_in_place():
                 expect((CUT in r.said) == (found == "cut"), r.said)
                 expect(found != "old" or read(result) == old, "another length")
                 converts(run(*into(here, None)[1], "--force"))
+
+
+@any_user
+def omissions_that_cannot_be_said_in_place():
+    """They are said before the last store: who can't be told them has no whole RESULT."""
+    for old in olds():
+        with folder() as here, open("/dev/full", "w") as full:
+            result, words = into(here, old)
+            expect(run(*words, "--quiet", stderr=full).returncode == FAILED, "another status")
+            expect(state_of(result, old, SMALL.result) == ("none" if old is None else "cut"), "a result")
 
 
 @any_user

@@ -1,13 +1,15 @@
 """Conversions in steps (document 02, request 11): the library's calls beside the definition, and beside the conversion in one go."""
 import ctypes
 import os
+import re
+import subprocess
 import time
 
 from case_conversions import expected_refusals
 from case_damaged import damaged
 from case_photos import EVERY_FORM, Group, Recording
 from case_share import Group as Clock, Rack
-from common import EXAMPLE, MEDIUM, ROOT, SAMPLE, Run, expect, read, test
+from common import EXAMPLE, LIBRARY, MEDIUM, ROOT, SAMPLE, Run, cc, expect, place, read, test, write
 from mdf import blocks_of
 from steps import (
     LIST, MOST, OFFSETS, PAGE, STRETCHES, WORK, Call, Live, Mixed, Running, State, agrees, alone, lengths_of, library, long_blocks, mixed, naming, recalling,
@@ -388,7 +390,22 @@ def any_state_and_any_words():
     return "%d of them stored" % told
 
 
-# ---- time
+# ---- stack and time
+
+
+@test
+def stack_of_every_call():
+    """The header has what was measured, and asks for 256 KiB."""
+    program = place("stack")
+    cc(os.path.join(ROOT, "host", "tests", "stack.c"), LIBRARY, "-pthread", "-o", program)
+    made = [place(write(name, image)) for name, image in (("long", long_blocks()), ("unsorted", mixed(*UNSORTED)), ("regular", mixed(Mixed((9,) * 100, 3000))))]
+    data = [os.path.join(DATA, name) for name in ("metadata", "reasons", "signal-fragments")]
+    told = subprocess.run([program, SAMPLE, EXAMPLE, *data, *made], check=True, stdout=subprocess.PIPE).stdout.decode().strip()
+    with open(os.path.join(ROOT, "include", "sitaungo.h")) as f:
+        named = [int(n.replace(",", "")) for n in re.findall(r"[0-9]+,[0-9]+", next(line for line in f if "stack left" in line))]
+    taken = [int(n) for n in re.findall("[0-9]+", told)]
+    expect(len(named) == len(taken) and all(t <= n <= 200 << 10 for t, n in zip(taken, named)), told, "and not", named)
+    return told
 
 
 @test
