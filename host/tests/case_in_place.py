@@ -131,7 +131,8 @@ def results_that_cannot_be_stored_into():
         os.link(recording, os.path.join(here, "same"))
         os.symlink("a.mf4", os.path.join(here, "link"))
         os.mkdir(os.path.join(here, "sub"))
-        for name, said in (("same", "is the recording itself"), ("link", "is the recording itself"), ("sub", "is a folder"), ("no/r.mf4", "can't open the folder")):
+        itself = "is the recording itself"
+        for name, said in (("same", itself), ("link", itself), ("sub", "is a folder"), ("no/r.mf4", "can't open the folder")):
             fails(run(recording, os.path.join(here, name), IN_PLACE, "--force"), said)
         expect(read(recording) == read(SAMPLE), "the recording was changed")
         closed = write(os.path.join(here, "closed"), b"old")
