@@ -8,6 +8,7 @@ ghost use Rattle.passes.specs.Passes.{unfinished, bases, given, capped, shared}
 ghost use Rattle.shares.specs.Eights.{listOf, jobsFrom, verdictOf, SharedAs};
 
 // Eight numbers.
+#[repr(C)]
 pub struct Eight {
     pub a: u64,
     pub b: u64,
@@ -20,6 +21,7 @@ pub struct Eight {
 }
 
 // A refusal's number, 0 where there is none; the stores that each job gets, 0 past the jobs.
+#[repr(C)]
 pub struct Shares {
     pub number: u64,
     pub shares: Eight,
@@ -94,16 +96,6 @@ fn with(e: Eight, i: u64, x: u64) -> Eight
         return r;
     }
     e
-}
-
-// What a job has left, of so many steps: the stores from the next one on.
-pub fn left(steps: u64, next: u64) -> u64
-    ensures { λ r. ⌜ r ≡ steps - next ⌝ }
-{
-    if steps < next {
-        return 0;
-    }
-    steps - next
 }
 
 // The smaller of two.

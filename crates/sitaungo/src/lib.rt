@@ -1,5 +1,6 @@
 // The conversion, in one go and in steps, its listing, the reader of column files and their inventory sheet, for programs that link them.
 pub mod column_file;
+pub mod eight_cells;
 pub mod in_steps;
 
 use choices::Choices;

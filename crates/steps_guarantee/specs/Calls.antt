@@ -83,14 +83,14 @@ Call x (recall n) a b = Moves (recalling (a .conversion .steps) n (stateIn a)) a
 -- one after the other, each given what the one before left
 pub data Calls (x : Args) : List Op → Between → Between → Type 0 where
   noCall : {a : Between} → Calls x [] a a
-  call : {o : Op} {os : List Op} {a b c : Between} → Call x o a b → Calls x os b c → Calls x (o ∷ os) a c
+  call : {o : Op} {os : List Op} {a c : Between} (b : Between) → Call x o a b → Calls x os b c → Calls x (o ∷ os) a c
 
 -- bookkeeping: the number that naming or recalling answers, 0 where it is no refusal
 abbrev pub numberOf : Checked State → ℕ
 numberOf (ok s) = 0
 numberOf (refused number place) = number
 
--- "refuses with 5": the call y, whatever output, list and work slices it is given
+-- "refuses with 5": the call y, whatever output and list it is given and whatever work slices that pass 1
 pub record Refuses (y : Args) : Type 0 where
   pub decides : decided y ≡ refused 5 0
   pub answers : (bytes spaces : ℕ) → answer y bytes spaces ≡ refused 5 0

@@ -9,7 +9,7 @@ use lib.ListN.{length, replicate, length-replicate}
 use Rattle.base.specs.Blit.{blit}
 use Rattle.base.specs.BlitLaws.{length-blit}
 use Rattle.base.specs.ChoiceLaws.{lt-no}
-use Rattle.base.specs.Checked.{Checked, ok, refused, andThen, fine}
+use Rattle.base.specs.Checked.{Checked, ok, refused, fine}
 use Rattle.plan.specs.Columns.{omissionWords}
 use Rattle.result.specs.Result.{Args, Decided, fileOf, decided, answer, workIn, convert}
 use Rattle.result.specs.Guarantee.{Guaranteed}
@@ -19,9 +19,9 @@ use Rattle.stores.specs.Cases.{lt-or-le}
 use Rattle.stores.specs.Stores.{stepsOf, storeOf, stored, State, naming, recalling, Op, step, name, recall, Running, begun, onward, moved, does, run}
 use Rattle.stores.specs.StoresLaws.{steps-some, OneRun, one-run}
 use Rattle.stores.specs.RunLaws as calls
-use Rattle.stores.specs.RunLaws.{named-late, recalled-late, holds-begun, under, holds-step, holds-name, holds-recall, name-keeps, recall-keeps, step-stores, step-further, run-finished, steps-only}
+use Rattle.stores.specs.RunLaws.{named-late, recalled-late, holds-begun, under, holds-step, holds-name, holds-recall, step-stores, step-further, run-finished}
 use Rattle.stores_laws.specs.Passing.{Passing}
-use Rattle.stores_laws.specs.Steps.{file-length, file-least, inSteps, steps-known, finished, cut-list, cut-decided, cut-answer, cut-convert}
+use Rattle.stores_laws.specs.Steps.{file-length, file-least, inSteps, finished, cut-list, cut-decided, cut-answer, cut-convert}
 use Rattle.positions.specs.Held.{stateOf}
 use Rattle.writing.specs.Answer.{fileFor}
 use Rattle.writing.specs.FinishLaws.{stands-words}
@@ -30,8 +30,8 @@ use Rattle.steps.specs.declared.position.Position.{Position}
 use Rattle.steps.specs.declared.begin.Started.the-variants.{Done}
 use Rattle.writing.specs.declared.convert.Report.{Report}
 use Rattle.placing.specs.Decision.{four}
-use Rattle.steps.specs.Conversion.{positionsOf, callOf, atPositions, atNext}
-use Rattle.steps.specs.Steps.{cleared, listFor, Holds, Begins, Starts, runningOf, stepped, Steps, OneStore, Lent, lent, allCleared, Bounded, PositionAs}
+use Rattle.steps.specs.Conversion.{positionsOf, atPositions}
+use Rattle.steps.specs.Steps.{cleared, listFor, Holds, Starts, runningOf, Steps, Lent, lent, allCleared, Bounded, PositionAs}
 use Rattle.steps.specs.StepsLaws.{holds-named}
 use Rattle.steps_guarantee.specs.Calls.{Between, stateIn, callIn, HoldsIn, Finished, Unfinished, Begun, StepsIn, Stepped, Moves, toldOf, Call, Calls, noCall, call, numberOf, Refuses}
 
@@ -120,13 +120,13 @@ module _ {x : Args} {out list : List ℕ} {a : Between} {r : Running} (h : Follo
 
   -- ---- a step
   module _ {b : Between} (s : Stepped x a b) where
-    steps-in : Unfinished a → StepsIn x a b
-    steps-in lt = subst (λ (y : Args). StepsIn y a b) (h .call) (s .right)
+    steps-in : StepsIn x a b
+    steps-in = subst (λ (y : Args). StepsIn y a b) (h .call) (s .right)
 
-    steps-as : (lt : Unfinished a)
+    steps-as : Unfinished a
         → Steps x (a .conversion) (a .file) (a .list) (b .conversion) (b .words .source) (b .words .fragments) (b .words .columns) (b .words .copies)
         (b .words .stretches) (b .words .offsets) (b .file) (b .list)
-    steps-as lt = let t = h .ready lt in steps-in lt (t .holds) (t .fileFits) (t .listFits)
+    steps-as lt = let t = h .ready lt in steps-in (t .holds) (t .fileFits) (t .listFits)
 
     file-kept : length (b .file) ≡ length (a .file)
     file-kept = let o = s .bounded .store in ap length (o .is) ∙ length-blit (o .at) (o .bytes) (a .file)
@@ -138,8 +138,9 @@ module _ {x : Args} {out list : List ℕ} {a : Between} {r : Running} (h : Follo
         let n : b .conversion .next ≡ a .conversion .next + 1 = ap (λ (k : Conversion). k .next) on in
         let m : b .conversion .steps ≡ a .conversion .steps = ap (λ (k : Conversion). k .steps) on in
         record {
-          runs = subst (λ (z : Running). runningOf (b .conversion) (b .file) (b .list) (does (made x) (omitted x) step z .high) ≡ does (made x) (omitted x) step z) (h .runs)
-              (steps-as lt .runs (r .high));
+          runs = subst
+              (λ (z : Running). runningOf (b .conversion) (b .file) (b .list) (does (made x) (omitted x) step z .high) ≡ does (made x) (omitted x) step z)
+              (h .runs) (steps-as lt .runs (r .high));
           sound = holds-step (made x) (omitted x) out list (h .sound);
           call = ap (callIn x) on ∙ h .call;
           steps = m ∙ h .steps;
@@ -191,7 +192,8 @@ module _ {x : Args} {out list : List ℕ} {a : Between} {r : Running} (h : Follo
         zeros = λ g. absurd (omega (arith, g, n, u, below));
       }
 
-  moved-as : (v : Checked State) {b : Between} → Moves v a b → Unfinished a → calls.Holds (made x) (omitted x) out list (moved r v) → Follows x out list b (moved r v)
+  moved-as : (v : Checked State) {b : Between} → Moves v a b → Unfinished a → calls.Holds (made x) (omitted x) out list (moved r v)
+      → Follows x out list b (moved r v)
   moved-as (refused number place) m lt sound = moved-same m
   moved-as (ok s) m lt sound =
       let below = under (made x) (omitted x) out list (h .sound) (omega (arith, lt, next-is, h .steps)) in
@@ -238,13 +240,13 @@ follows-calls : (x : Args) (out list : List ℕ) (os : List Op) {a b : Between} 
     → Follows x out list b (run (made x) (omitted x) os r)
 unfolding run
 follows-calls x out list [] h noCall = h
-follows-calls x out list (o ∷ os) h (call c cs) = follows-calls x out list os (follows-call h o c) cs
+follows-calls x out list (o ∷ os) h (call b c cs) = follows-calls x out list os (follows-call h o c) cs
 
 -- steps alone go on by one each, up to the last store
 steps-onward : (x : Args) (n : ℕ) {a b : Between} → Calls x (replicate n step) a b → a .conversion .next ≤ a .conversion .steps
     → (b .conversion .next ≡ min (a .conversion .next + n) (a .conversion .steps)) × (b .conversion .steps ≡ a .conversion .steps)
 steps-onward x zero noCall h = (omega (arith, h), refl)
-steps-onward x (suc n) {a} {b} (call {b = c} s cs) h =
+steps-onward x (suc n) {a} (call c s cs) h =
     ⊎-elim
     (λ lt.
     let on = s .bounded .onward lt in
@@ -263,7 +265,7 @@ steps-onward x (suc n) {a} {b} (call {b = c} s cs) h =
 -- calls after calls are calls
 pub calls-append : {x : Args} {os bs : List Op} {a b c : Between} → Calls x os a b → Calls x bs b c → Calls x (os ++ bs) a c
 calls-append noCall t = t
-calls-append (call s cs) t = call s (calls-append cs t)
+calls-append (call b s cs) t = call b s (calls-append cs t)
 
 number-is : (v : Checked State) {a b : Between} (m : Moves v a b) → m .answered .number ≡ numberOf v
 number-is (ok s) m = m .right .0
@@ -289,13 +291,14 @@ module _ {x : Args} {a : Between} (g : Begun x a) where
   steps-made : a .conversion .steps ≡ stepsOf (length (made x))
   steps-made = steps-first ∙ ap stepsOf (sym (ap length made-is ∙ file-length x d known))
 
-  -- that is the answer of the conversion in one go
-  pub begun-answer : answer x (length (a .file)) (length (a .list)) ≡ ok d
+  -- what was decided is the answer of the conversion in one go
+  pub begun-answer : answer x (length (a .file)) (length (a .list)) ≡ ok (toldOf g)
   unfolding answer
   begun-answer =
-      let b = g .accepted .holds .stands .by in
-      rw (b .is)
-      (sym (lt-no _ _ _ _ (omega (arith, g .accepted .fileFits, b .numbered .fileSize)) (lt-no _ _ _ _ (omega (arith, g .accepted .listFits, stands-words (g .accepted .holds .stands))) refl)))
+      let st = g .accepted .holds .stands in
+      let fits : d .laidOut .fileSize ≤ length (a .file) = omega (arith, g .accepted .fileFits, st .by .numbered .fileSize) in
+      let lists : length (omissionWords (d .planned .omissions)) ≤ length (a .list) = omega (arith, g .accepted .listFits, stands-words st) in
+      rw (st .by .is) (sym (lt-no _ _ _ _ fits (lt-no _ _ _ _ lists refl)))
 
   follows-begun : Follows x (a .file) (a .list) a (begun (a .file) (a .list))
   follows-begun =
@@ -313,19 +316,19 @@ module _ {x : Args} {a : Between} (g : Begun x a) where
     follows : Follows x (a .file) (a .list) b (run (made x) (omitted x) os (begun (a .file) (a .list)))
     follows = follows-calls x (a .file) (a .list) os follows-begun c
 
-    -- state, file and list are those of the definition
     running-is : runningOf (b .conversion) (b .file) (b .list) (run (made x) (omitted x) os (begun (a .file) (a .list)) .high)
         ≡ inSteps x d (a .file) (a .list) os
     running-is =
         follows .runs ∙ ap (λ (v : Checked Decided). run (fileFor x v) (listFor v) os (begun (a .file) (a .list))) (g .accepted .holds .stands .by .is)
 
-    pub calls-run : (stateIn b ≡ inSteps x d (a .file) (a .list) os .state) × (b .file ≡ inSteps x d (a .file) (a .list) os .file)
-        × (b .list ≡ inSteps x d (a .file) (a .list) os .list)
+    -- state, file and list are those of the definition
+    pub calls-run : (stateIn b ≡ inSteps x (toldOf g) (a .file) (a .list) os .state) × (b .file ≡ inSteps x (toldOf g) (a .file) (a .list) os .file)
+        × (b .list ≡ inSteps x (toldOf g) (a .file) (a .list) os .list)
     calls-run =
         (ap (λ (z : Running). z .state) running-is, ap (λ (z : Running). z .file) running-is, ap (λ (z : Running). z .list) running-is)
 
     -- "the number of steps is known before the first", from the size
-    pub calls-known : b .conversion .steps ≡ stepsOf (d .laidOut .fileSize)
+    pub calls-known : b .conversion .steps ≡ stepsOf (toldOf g .laidOut .fileSize)
     calls-known = follows .steps ∙ sym steps-made ∙ steps-first
 
     next-in : b .conversion .next ≡ inSteps x d (a .file) (a .list) os .state .next
