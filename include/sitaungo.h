@@ -12,7 +12,7 @@
  * - What a work slice, out, list or lines holds at entry doesn't matter: anything may stand there. Between the calls of a conversion in steps its slices stay
  *   as they were left, see there.
  * - Length times element size is below 2^63.
- * - The calling thread has 256 KiB of stack left: 117,232 bytes were measured, whatever the recording; reading takes 48,312, a plot or a sheet hardly more.
+ * - The calling thread has 256 KiB of stack left: under 184,320 bytes were measured, whatever the recording, 101,376 in steps, 49,152 for reading.
  */
 #ifndef SITAUNGO_H
 #define SITAUNGO_H

@@ -85,7 +85,8 @@ static void read_types(struct choices *c, const char *path)
 }
 
 enum {
-    WORD = 1, BLOCK_SIZE = 256, CHECK, COMPLETE, FORCE, IN_PLACE, JSON, LISTING, PHOTOS, QUIET, RESUME, SHA256, SHARE_TIME, SHEET, TYPES, UNIT, VERIFY, HELP, VERSION
+    WORD = 1, BLOCK_SIZE = 256, CHECK, COMPLETE, FORCE, IN_PLACE, JSON, LISTING, PHOTOS, QUIET, RESUME, SHA256, SHARE_TIME, SHEET, TYPES, UNIT, VERIFY,
+    HELP, VERSION
 };
 
 static const struct option known[] = {

@@ -246,7 +246,7 @@ def _load():
         ("sitaungo_range_part", _Part, _SLICE + _RANGE),
         ("sitaungo_plot", _Plotting, _SLICE + _SLICE + _SLICE),
         ("sitaungo_sheet", ctypes.c_size_t, _SLICE + _SLICE),
-        ("sitaungo_begin", _Begun, [*_SLICE, ctypes.c_uint64, *_SLICE, *_SLICE, ctypes.c_uint64, _Options, *_SLICE, ctypes.c_uint64, ctypes.c_uint64] + 6 * _SLICE),
+        ("sitaungo_begin", _Begun, [*_SLICE, ctypes.c_uint64, *_SLICE, *_SLICE, ctypes.c_uint64, _Options, *_SLICE, *_RANGE[:2]] + 6 * _SLICE),
         ("sitaungo_advance", _State, [_State, ctypes.c_uint64, *_SLICE, *_FIXED]),
         ("sitaungo_name", _Position, [_State, ctypes.c_uint64]),
         ("sitaungo_recall", _Position, [_State, ctypes.c_uint64]),

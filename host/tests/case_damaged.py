@@ -72,7 +72,8 @@ def damaged_recordings_under_sanitizers():
 
 def one_damaged(here, image):
     recording, result = write(os.path.join(here, "a.mf4"), image), os.path.join(here, "r.mf4")
-    r = clean(run(recording, result, "--json", "-", "--force", "--sha256", *Run.random.choice(((), ("--verify",), ("--resume",)))), 0, REFUSED)
+    words = Run.random.choice(((), ("--verify",), ("--resume",), ("--in-place",), ("--in-place", "--resume")))
+    r = clean(run(recording, result, "--json", "-", "--force", "--sha256", *words), 0, REFUSED)
     json.loads(r.printed)
     if r.returncode == 0:
         clean(run("--check", recording, result), 0)

@@ -131,7 +131,8 @@ def results_that_cannot_be_stored_into():
         os.link(recording, os.path.join(here, "same"))
         os.symlink("a.mf4", os.path.join(here, "link"))
         os.mkdir(os.path.join(here, "sub"))
-        for name, said in (("same", "is the recording itself"), ("link", "is the recording itself"), ("sub", "is a folder"), ("no/r.mf4", "can't open the folder")):
+        itself = "is the recording itself"
+        for name, said in (("same", itself), ("link", itself), ("sub", "is a folder"), ("no/r.mf4", "can't open the folder")):
             fails(run(recording, os.path.join(here, name), IN_PLACE, "--force"), said)
         expect(read(recording) == read(SAMPLE), "the recording was changed")
         closed = write(os.path.join(here, "closed"), b"old")
@@ -184,7 +185,7 @@ def killed_at_random_moments_in_place():
             if old is not None:
                 write(result, old)
             p = start(MEDIUM.path, result, IN_PLACE, "--force")
-            time.sleep(Run.random.uniform(0, 1.5 * MEDIUM.seconds))
+            time.sleep(Run.random.uniform(0, 3 * MEDIUM.seconds))
             p.kill()
             end(p)
             told.append(state_of(result, old, MEDIUM.result))
@@ -226,6 +227,16 @@ def failures_in_place():
                 expect((CUT in r.said) == (found == "cut"), r.said)
                 expect(found != "old" or read(result) == old, "another length")
                 converts(run(*into(here, None)[1], "--force"))
+
+
+@any_user
+def omissions_that_cannot_be_said_in_place():
+    """They are said before the last store: who can't be told them has no whole RESULT."""
+    for old in olds():
+        with folder() as here, open("/dev/full", "w") as full:
+            result, words = into(here, old)
+            expect(run(*words, "--quiet", stderr=full).returncode == FAILED, "another status")
+            expect(state_of(result, old, SMALL.result) == ("none" if old is None else "cut"), "a result")
 
 
 @any_user

@@ -1,13 +1,15 @@
 """Conversions in steps (document 02, request 11): the library's calls beside the definition, and beside the conversion in one go."""
 import ctypes
 import os
+import re
+import subprocess
 import time
 
 from case_conversions import expected_refusals
 from case_damaged import damaged
 from case_photos import EVERY_FORM, Group, Recording
 from case_share import Group as Clock, Rack
-from common import EXAMPLE, MEDIUM, ROOT, SAMPLE, Run, expect, read, test
+from common import EXAMPLE, LIBRARY, MEDIUM, ROOT, SAMPLE, Run, cc, expect, place, read, test, write
 from mdf import blocks_of
 from steps import (
     LIST, MOST, OFFSETS, PAGE, STRETCHES, WORK, Call, Live, Mixed, Running, State, agrees, alone, lengths_of, library, long_blocks, mixed, naming, recalling,
@@ -130,13 +132,16 @@ def blocks_over_pages():
 # ---- other lengths
 
 
+LENGTHS = ((0, 0), (0, OFFSETS), (STRETCHES, 0), (1, 1), (STRETCHES - 1, OFFSETS - 1), (64, 3000), (STRETCHES + 1, 10000), (STRETCHES, 1 << 16))
+
+
 @test
 @alone
 def steps_without_words_for_places():
     """Whatever room there is to keep places of records, and in files and lists that are longer or just long enough."""
     for call in small():
         whole, words = call.made()[1:]
-        for stretches, offsets in ((0, 0), (0, OFFSETS), (STRETCHES, 0), (1, 1), (STRETCHES - 1, OFFSETS - 1), (64, 3000), (STRETCHES + 1, 10000), (STRETCHES, 1 << 16)):
+        for stretches, offsets in LENGTHS:
             more = Run.random.choice((0, 0, 1, 5000))
             live = Live(call, bytearray(b"\x5a") * (len(whole) + more), lengths_of(stretches, offsets), len(words) + more)
             while live.left():
@@ -186,7 +191,8 @@ def names_of_positions():
     expect(live.recall(0) == live.recall(MOST) == live.recall(5) == 29, "recalled before any name")
     expect(live.name(0) == 0 and live.recall(MOST) == 29 and live.recall(0) == 0, "the name 0")
     live.step()
-    expect(live.name(MOST) == 0 and live.name(MOST - 1) == 0 and live.name(1) == 0 and live.state.held() == [(0, 0), (MOST, 1), (MOST - 1, 1), (1, 1)], "four names")
+    expect(live.name(MOST) == live.name(MOST - 1) == live.name(1) == 0, "four names")
+    expect(live.state.held() == [(0, 0), (MOST, 1), (MOST - 1, 1), (1, 1)], "where they are", live.state.held())
     live.step()
     expect(live.name(2) == 30 and live.recall(2) == 29 and live.state.held()[3] == (1, 1), "a fifth name")
     expect(live.name(MOST) == 0 and live.state.held() == [(0, 0), (MOST, 2), (MOST - 1, 1), (1, 1)], "a name moves")
@@ -331,7 +337,8 @@ def changed_run(before, after):
 
 def any_number():
     r = Run.random
-    return r.choice((0, 1, 2, 7, 8, 63, 64, 511, 512, 2047, 2048, 4095, 4096, 8191, 1 << 32, 1 << 62, MOST - 1, MOST, r.randrange(20), r.randrange(1 << 14), r.getrandbits(64)))
+    borders = (0, 1, 2, 7, 8, 63, 64, 511, 512, 2047, 2048, 4095, 4096, 8191, 1 << 32, 1 << 62, MOST - 1, MOST)
+    return r.choice((*borders, r.randrange(20), r.randrange(1 << 14), r.getrandbits(64)))
 
 
 def spoiled(state):
@@ -388,7 +395,22 @@ def any_state_and_any_words():
     return "%d of them stored" % told
 
 
-# ---- time
+# ---- stack and time
+
+
+@test
+def stack_of_every_call():
+    """The header has what was measured, and asks for 256 KiB."""
+    program = place("stack")
+    cc(os.path.join(ROOT, "host", "tests", "stack.c"), LIBRARY, "-pthread", "-o", program)
+    made = [place(write(name, image)) for name, image in (("long", long_blocks()), ("unsorted", mixed(*UNSORTED)), ("regular", mixed(Mixed((9,) * 100, 3000))))]
+    data = [os.path.join(DATA, name) for name in ("metadata", "reasons", "signal-fragments")]
+    told = subprocess.run([program, SAMPLE, EXAMPLE, *data, *made], check=True, stdout=subprocess.PIPE).stdout.decode().strip()
+    with open(os.path.join(ROOT, "include", "sitaungo.h")) as f:
+        named = [int(n.replace(",", "")) for n in re.findall(r"[0-9]+,[0-9]+", next(line for line in f if "stack left" in line))]
+    taken = [int(n) for n in re.findall("[0-9]+", told)]
+    expect(len(named) == len(taken) and all(t <= n <= 200 << 10 for t, n in zip(taken, named)), told, "and not", named)
+    return told
 
 
 @test

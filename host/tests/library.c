@@ -744,12 +744,12 @@ static void try_positions(void)
     static const uint64_t places[] = {0, 4, 2, 3};
     for (int i = 0; i < SITAUNGO_NAMES; i++) {
         p = sitaungo_recall(s, names[i]);
-        check(p.number == 0 && p.conversion.next == places[i] && p.conversion.count == 4 && sitaungo_left(p.conversion) == 5 - places[i], "a position recalled");
         s = p.conversion;
+        check(p.number == 0 && s.next == places[i] && s.count == 4 && sitaungo_left(s) == 5 - places[i], "a position recalled");
     }
     s = advance(c, s, UINT64_MAX);
     for (int i = 0; i < SITAUNGO_NAMES; i++)
-        check(sitaungo_name(s, names[i]).number == SITAUNGO_REFUSED_NAME && sitaungo_recall(s, names[i]).number == SITAUNGO_REFUSED_NAME, "after the last store");
+        check(sitaungo_name(s, names[i]).number == 30 && sitaungo_recall(s, names[i]).number == 30, "after the last store");
     check(sitaungo_recall(s, 2).number == SITAUNGO_REFUSED_NAME, "30 before 29");
 }
 

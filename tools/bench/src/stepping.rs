@@ -78,15 +78,18 @@ impl Words {
     }
 }
 
+fn lent(share: bool) -> Lent {
+    Lent { ident: [&b"MDF     4.20    "[..], &[0; 48]].concat(), text: b"steps".to_vec(), time: 0, share }
+}
+
 /// A line of the table: one go, beginning and all steps, the longest step; the ratio of all steps to those at half the length, where there is one.
-fn line(name: &str, seconds: &str, image: &[u8], turns: usize, how: (bool, bool), before: Option<f64>) -> f64 {
-    let (share, places) = how;
-    let lent = Lent { ident: [&b"MDF     4.20    "[..], &[0; 48]].concat(), text: b"steps".to_vec(), time: 0, share };
-    let mut work = lend_work(if places { shared_records(image) } else { 0 });
+fn line(name: &str, seconds: &str, image: &[u8], turns: usize, share: bool, before: Option<f64>) -> f64 {
+    let lent = lent(share);
+    let mut work = lend_work(shared_records(image));
     let mut list = vec![0; 2049];
     let need = call(image, &lent, &mut work, &mut [], &mut list).place as usize;
     let (mut whole, mut file) = (vec![1u8; need], vec![2u8; need]);
-    let mut words = Words::lend(image, places);
+    let mut words = Words::lend(image, true);
     let once = times(turns, || assert!(call(image, &lent, &mut work, &mut whole, &mut list).accepted));
     let mut steps = 0;
     let all = times(turns, || {
@@ -111,41 +114,58 @@ fn line(name: &str, seconds: &str, image: &[u8], turns: usize, how: (bool, bool)
     all.0
 }
 
+/// A line of the last table: single steps in as many places, without words to keep places of records in. A step frames the data from its front then.
+fn single(name: &str, image: &[u8], places: u64) {
+    let (lent, mut list) = (lent(false), vec![0; 2049]);
+    let need = call(image, &lent, &mut lend_work(0), &mut [], &mut list).place as usize;
+    let (mut file, mut words) = (vec![2u8; need], Words::lend(image, false));
+    let begun = words.begin(image, &lent, need);
+    let steps: Vec<f64> = (1..=places)
+        .map(|k| {
+            let from = spent();
+            words.advance(image, &lent, State { next: k * (begun.steps - 2) / places, ..begun }, 1, &mut file, &mut list);
+            spent() - from
+        })
+        .collect();
+    let mean = steps.iter().sum::<f64>() / places as f64;
+    println!("| {name} | {:.1} | {} | {mean:.3} | {:.3} |", image.len() as f64 / 1e6, begun.steps, steps.iter().copied().fold(0.0, f64::max));
+}
+
 fn head(what: &str) {
     println!("| {what} | s | MB | steps | one go best | median | all steps best | median | steps / one go | longest step | twice the length |");
     println!("|---|---|---|---|---|---|---|---|---|---|---|");
 }
 
 pub fn run(turns: usize, only: &str) {
-    let usual = (false, true);
     head("load");
     for (name, groups) in racks().iter().filter(|l| l.0.contains(only)) {
         let mut before = None;
         for seconds in [60, 120, 240] {
-            before = Some(line(name, &seconds.to_string(), &recording(groups, 1000 * seconds, 4 << 20), turns, usual, before));
+            before = Some(line(name, &seconds.to_string(), &recording(groups, 1000 * seconds, 4 << 20), turns, false, before));
         }
     }
     let name = "a conversion block with many links";
     if name.contains(only) {
-        let once = line(name, "", &many_links(1 << 19), turns, usual, None);
-        line(name, "", &many_links(1 << 20), turns, usual, Some(once));
+        let once = line(name, "", &many_links(1 << 19), turns, false, None);
+        line(name, "", &many_links(1 << 20), turns, false, Some(once));
     }
     for (name, make) in further().iter().filter(|l| l.0.contains(only)) {
-        let once = line(name, "", &make(1), turns, usual, None);
-        line(name, "", &make(2), turns, usual, Some(once));
+        let once = line(name, "", &make(1), turns, false, None);
+        line(name, "", &make(2), turns, false, Some(once));
     }
     for (name, image) in framed().iter().filter(|l| l.0.contains(only)) {
-        line(name, "", image, turns, usual, None);
+        line(name, "", image, turns, false, None);
     }
     println!();
     head("load, with one clock for equal groups");
     for (name, make) in clocks().iter().filter(|l| l.0.contains(only)) {
-        let once = line(name, "", &make(1), turns, (true, true), None);
-        line(name, "", &make(2), turns, (true, true), Some(once));
+        let once = line(name, "", &make(1), turns, true, None);
+        line(name, "", &make(2), turns, true, Some(once));
     }
     println!();
-    head("load, with no words for places");
+    println!("| load, with no words for places | MB | steps | mean of 20 steps | longest |");
+    println!("|---|---|---|---|---|");
     for (name, image) in irregular().iter().filter(|l| l.0.contains(only)) {
-        line(name, "", image, turns.min(2), (false, false), None);
+        single(name, image, 20);
     }
 }

@@ -1,0 +1,1 @@
+// Document 02's request 14, converting a result again: the statement; no code.
