@@ -40,10 +40,10 @@ one-more s ts v h k u i = in-append ts (v ∷ []) (h u) (λ j. last u j) i
     last u here = k
     last u (there j) = absurd (in-none j)
 
-passed-from : (turns : ℕ) (s : List ℕ) (a : ℕ) (t t' : Attached) → AllPassed s (t .attachments) → attachmentsFrom turns s a t ≡ ok t' → AllPassed s (t' .attachments)
+passed-from : (most turns : ℕ) (s : List ℕ) (a : ℕ) (t t' : Attached) → AllPassed s (t .attachments) → attachmentsFrom most turns s a t ≡ ok t' → AllPassed s (t' .attachments)
 unfolding attachmentsFrom attach
-passed-from zero s a t t' h e = subst (λ (x : Attached). AllPassed s (x .attachments)) (ok-same e) h
-passed-from (suc turns) s a t t' h e =
+passed-from most zero s a t t' h e = subst (λ (x : Attached). AllPassed s (x .attachments)) (ok-same e) h
+passed-from most (suc turns) s a t t' h e =
     let same : _≡_ {A = Checked Attached} (ok t) (ok t') → AllPassed s (t' .attachments) = λ q. subst (λ (x : Attached). AllPassed s (x .attachments)) (ok-same q) h in
     eq-cases a 0 _ _ e (λ _ q. same q) (λ _ q.
     by-pick (isAttached a (t .attachments)) _ _ q same (λ r.
@@ -51,14 +51,14 @@ passed-from (suc turns) s a t t' h e =
     eq-cases (kindAt s a) kindAT _ _ (w .2) (λ k e1.
     let x = then-ok (attachmentIn s a) _ e1 in
     let y = lt-first _ _ _ _ (x .2) refused≢ok in
-    let m = then-ok (copyLinks (copyRoot s) s (linksAt s a - 1) (a + 32) (t .made)) _ (y .1) in
-    passed-from turns s (firstLink s a) (attach a (sizeAt s a) (t .made) (m .0) t) t'
+    let m = then-ok (copyLinks (copyRoot most s) s (linksAt s a - 1) (a + 32) (t .made)) _ (y .1) in
+    passed-from most turns s (firstLink s a) (attach a (sizeAt s a) (t .made) (m .0) t) t'
     (one-more s (t .attachments) _ h (record { tested = x .1; kind = k })) (m .2))
     (λ _ q. same q)))
 
-pub all-passed : (s : List ℕ) (a : ℕ) (m : Copies) (t : Attached) → attachmentsOf s a m ≡ ok t → AllPassed s (t .attachments)
+pub all-passed : (most : ℕ) (s : List ℕ) (a : ℕ) (m : Copies) (t : Attached) → attachmentsOf most s a m ≡ ok t → AllPassed s (t .attachments)
 unfolding attachmentsOf
-all-passed s a m t e = passed-from (mostAttachments + 2) s a (record { attachments = []; made = m }) t (λ u i. absurd (in-none i)) e
+all-passed most s a m t e = passed-from most (mostAttachments + 2) s a (record { attachments = []; made = m }) t (λ u i. absurd (in-none i)) e
 
 -- ---- in the file
 head-kind : (f s : List ℕ) (a b : ℕ) → headAt f b ≡ headAt s a → kindAt f b ≡ kindAt s a
@@ -115,7 +115,7 @@ module _ (s f : List ℕ) (bytes : (i : ℕ) → getD s i 0 < 256) (chain : List
     same-head : headAt f (t .to) ≡ headAt s (t .from)
     same-head = at-same s f bytes chain memo fh all (t .from) (t .to) (nextAttachment ts) (k .moved) (k .above) (k .small) (k .stands) .head
 
-    size-is : sizeAt f (t .to) ≡ sizeAt s (t .from)
+    pub size-is : sizeAt f (t .to) ≡ sizeAt s (t .from)
     size-is = head-size f s (t .from) (t .to) same-head
 
     links-is : linksAt f (t .to) ≡ linksAt s (t .from)

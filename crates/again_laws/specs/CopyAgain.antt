@@ -75,54 +75,54 @@ module _ (f : List ℕ) (good : ℕ → Type 0) (whole : (a : ℕ) → good a �
   links-good a g n i l =
       subst (λ (q : ℕ). good (leAt 8 f q)) (later-link a (lostLinks f a) i) (closed a g n (lostLinks f a + i) (omega arith) (omega arith))
 
-  pub copy-gives : (left : ℕ) (way : List ℕ) (a : ℕ) (m : Copies) → good a → Gives deeper Any (copyAt left f way a m)
+  pub copy-gives : (most left : ℕ) (way : List ℕ) (a : ℕ) (m : Copies) → good a → Gives deeper Any (copyAt most left f way a m)
   unfolding copyAt
-  copy-gives zero way a m g =
+  copy-gives most zero way a m g =
       on-eq (Gives deeper Any) a 0 (ok m) _ (λ _. gives tt) (λ _. on-copy (copyOf a (m .memo)) m (refused 16 a) (stops here))
-  copy-gives (suc left) way a m g =
+  copy-gives most (suc left) way a m g =
       on-eq (Gives deeper Any) a 0 (ok m) _ (λ _. gives tt) (λ n.
       on-copy (copyOf a (m .memo)) m _
       (on-pick (isIn a way) (refused 16 a) _ (stops here)
       (on-fine (wholeAt f a) _ (whole a g n)
       (on-pick (isCopied (kindAt f a)) _ (ok m)
-      (on-lt (length (m .memo) + length way) mostCopies _ (refused 19 a)
+      (on-lt (length (m .memo) + length way) most _ (refused 19 a)
       (gives-then (λ m'. ok (withCopy a (sizeAt f a) m'))
-      (links-give (copyAt left f (a ∷ way)) f good (λ b m' h. copy-gives left (a ∷ way) b m' h) (linksAt f a - lostLinks f a) (a + 24 + 8 * lostLinks f a) m
+      (links-give (copyAt most left f (a ∷ way)) f good (λ b m' h. copy-gives most left (a ∷ way) b m' h) (linksAt f a - lostLinks f a) (a + 24 + 8 * lostLinks f a) m
       (links-good a g n))
       (λ m' _. gives tt))
       (stops (there here)))
       (gives tt)))))
 
-  pub root-gives : (a : ℕ) (m : Copies) → good a → Gives deeper Any (copyRoot f a m)
+  pub root-gives : (most a : ℕ) (m : Copies) → good a → Gives deeper Any (copyRoot most f a m)
   unfolding copyRoot
-  root-gives a m g = copy-gives depth [] a m g
+  root-gives most a m g = copy-gives most depth [] a m g
 
   -- ---- what columns refer to
-  roots-give : (as' : List ℕ) (m : Copies) → ((a : ℕ) → In a as' → good a) → Gives deeper Any (copyRoots f as' m)
+  roots-give : (most : ℕ) (as' : List ℕ) (m : Copies) → ((a : ℕ) → In a as' → good a) → Gives deeper Any (copyRoots most f as' m)
   unfolding copyRoots
-  roots-give [] m h = gives tt
-  roots-give (a ∷ as') m h = gives-then (λ m'. copyRoots f as' m') (root-gives a m (h a here)) (λ m' _. roots-give as' m' (λ b i. h b (there i)))
+  roots-give most [] m h = gives tt
+  roots-give most (a ∷ as') m h = gives-then (λ m'. copyRoots most f as' m') (root-gives most a m (h a here)) (λ m' _. roots-give most as' m' (λ b i. h b (there i)))
 
-  columns-give : (cs : List Column) (m : Copies) → ((c : Column) → In c cs → (a : ℕ) → In a (columnLinks f c) → good a) → Gives deeper Any (columnCopies f cs m)
+  columns-give : (most : ℕ) (cs : List Column) (m : Copies) → ((c : Column) → In c cs → (a : ℕ) → In a (columnLinks f c) → good a) → Gives deeper Any (columnCopies most f cs m)
   unfolding columnCopies
-  columns-give [] m h = gives tt
-  columns-give (c ∷ cs) m h =
-      gives-then (λ m'. columnCopies f cs m') (roots-give (columnLinks f c) m (h c here)) (λ m' _. columns-give cs m' (λ d i. h d (there i)))
+  columns-give most [] m h = gives tt
+  columns-give most (c ∷ cs) m h =
+      gives-then (λ m'. columnCopies most f cs m') (roots-give most (columnLinks f c) m (h c here)) (λ m' _. columns-give most cs m' (λ d i. h d (there i)))
 
   -- ---- the history: good blocks with links, one after the other
   module _ (past : ℕ → Type 0) (pastGood : (a : ℕ) → past a → (a ≡ 0 → ⊥) → good a) (pastLinked : (a : ℕ) → past a → (a ≡ 0 → ⊥) → linksAt f a ≡ 0 → ⊥)
       (pastNext : (a : ℕ) → past a → (a ≡ 0 → ⊥) → past (firstLink f a)) where
-    past-gives : (turns a : ℕ) (h : History) → past a → Gives deeper Any (historyFrom turns f a h)
+    past-gives : (most turns a : ℕ) (h : History) → past a → Gives deeper Any (historyFrom most turns f a h)
     unfolding historyFrom
-    past-gives zero a h p = gives tt
-    past-gives (suc turns) a h p =
+    past-gives most zero a h p = gives tt
+    past-gives most (suc turns) a h p =
         on-eq (Gives deeper Any) a 0 (ok h) _ (λ _. gives tt) (λ n.
         on-pick (isIn a (h .chain)) (ok h) _ (gives tt)
         (on-fine (wholeAt f a) _ (whole a (pastGood a p n) n)
         (on-pick (isCopied (kindAt f a)) _ (ok h)
         (on-eq (Gives deeper Any) (linksAt f a) 0 (refused 17 a) _ (λ z. absurd (pastLinked a p n z)) (λ _.
-        gives-then (λ m. historyFrom turns f (firstLink f a) (history (h .chain ++ (a ∷ [])) m)) (root-gives a (h .made) (pastGood a p n)) (λ m _.
-        past-gives turns (firstLink f a) (history (h .chain ++ (a ∷ [])) m) (pastNext a p n))))
+        gives-then (λ m. historyFrom most turns f (firstLink f a) (history (h .chain ++ (a ∷ [])) m)) (root-gives most a (h .made) (pastGood a p n)) (λ m _.
+        past-gives most turns (firstLink f a) (history (h .chain ++ (a ∷ [])) m) (pastNext a p n))))
         (gives tt))))
 
     -- ---- attachments: they pass their checks, and their links from the second on are good
@@ -137,19 +137,19 @@ module _ (f : List ℕ) (good : ℕ → Type 0) (whole : (a : ℕ) → good a �
       unfolding linkAt
       others-good a p n i l = subst (λ (q : ℕ). good (leAt 8 f q)) (next-link a i) (atGood a p n i (omega arith))
 
-      at-gives : (turns a : ℕ) (t : Attached) → at a → Gives deeper Any (attachmentsFrom turns f a t)
+      at-gives : (most turns a : ℕ) (t : Attached) → at a → Gives deeper Any (attachmentsFrom most turns f a t)
       unfolding attachmentsFrom
-      at-gives zero a t p = gives tt
-      at-gives (suc turns) a t p =
+      at-gives most zero a t p = gives tt
+      at-gives most (suc turns) a t p =
           on-eq (Gives deeper Any) a 0 (ok t) _ (λ _. gives tt) (λ n.
           on-pick (isAttached a (t .attachments)) (ok t) _ (gives tt)
           (on-fine (headerIn f a) _ (atHeader a p n)
           (on-eq (Gives deeper Any) (kindAt f a) kindAT _ (ok t) (λ _.
           on-fine (attachmentIn f a) _ (atFine a p n)
           (on-lt (length (t .attachments)) mostAttachments _ (refused 19 a)
-          (gives-then (λ m. attachmentsFrom turns f (firstLink f a) (attach a (sizeAt f a) (t .made) m t))
-          (links-give (copyRoot f) f good root-gives (linksAt f a - 1) (a + 32) (t .made) (others-good a p n)) (λ m _.
-          at-gives turns (firstLink f a) (attach a (sizeAt f a) (t .made) m t) (atNext a p n)))
+          (gives-then (λ m. attachmentsFrom most turns f (firstLink f a) (attach a (sizeAt f a) (t .made) m t))
+          (links-give (copyRoot most f) f good (root-gives most) (linksAt f a - 1) (a + 32) (t .made) (others-good a p n)) (λ m _.
+          at-gives most turns (firstLink f a) (attach a (sizeAt f a) (t .made) m t) (atNext a p n)))
           (stops (there here))))
           (λ _. gives tt))))
 
@@ -158,9 +158,9 @@ module _ (f : List ℕ) (good : ℕ → Type 0) (whole : (a : ℕ) → good a �
           → ((c : Column) → In c cs → (a : ℕ) → In a (columnLinks f c) → good a) → Gives deeper Any (layout o f size n cs)
       unfolding layout historyOf attachmentsOf
       layout-gives o size n cs comment first attached columns =
-          gives-then _ (root-gives (linkAt f 64 5) (copies [] 168) comment) (λ m0 _.
-          gives-then _ (past-gives (mostCopies + 1) (linkAt f 64 1) (history [] m0) first) (λ h _.
-          gives-then _ (columns-give cs (copies (h .made .memo) (fhPlace (h .made) n + 56)) columns) (λ m2 _.
-          gives-then _ (at-gives (mostAttachments + 2) (linkAt f 64 3)
+          gives-then _ (root-gives mostCopies (linkAt f 64 5) (copies [] 168) comment) (λ m0 _.
+          gives-then _ (past-gives mostCopies (mostCopies + 1) (linkAt f 64 1) (history [] m0) first) (λ h _.
+          gives-then _ (columns-give mostCopies cs (copies (h .made .memo) (fhPlace (h .made) n + 56)) columns) (λ m2 _.
+          gives-then _ (at-gives mostCopies (mostAttachments + 2) (linkAt f 64 3)
           (record { attachments = []; made = copies (m2 .memo) (dataEnd o f size (structureEnd f size (pastCopies m2) cs) cs) }) attached) (λ t _.
           gives tt))))

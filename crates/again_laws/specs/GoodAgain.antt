@@ -93,8 +93,7 @@ first-new-good s memo md fh a chain = go (historyLink a chain memo fh) refl
 
 -- ---- blocks that stand
 module _ (s f : List ℕ) (bytes : (i : ℕ) → getD s i 0 < 256) (chain : List ℕ) (memo : List Copy) (md fh : ℕ)
-    (all : (c : Copy) → In c memo → CopyStands s f chain memo fh c) (mdSmall : md < 256 ^ 8) (fhSmall : fh < 256 ^ 8) (text' : List ℕ) (time : ℕ)
-    (short : length text' ≤ 4096) (mdStands : Stands f md (mdBytes text')) (fhStands : Stands f fh (fhBytes md time)) where
+    (all : (c : Copy) → In c memo → CopyStands s f chain memo fh c) (mdSmall : md < 256 ^ 8) (fhSmall : fh < 256 ^ 8) where
   good-small : (b : ℕ) → Good memo md fh b → b < 256 ^ 8
   good-small b (nowhere e) = rw e (lit< tt)
   good-small b (copied a e) = all _ (copy-in a b memo e) .below
@@ -112,7 +111,7 @@ module _ (s f : List ℕ) (bytes : (i : ℕ) → getD s i 0 < 256) (chain : List
     copy-size : sizeAt f b ≡ sizeAt s a
     copy-size = head-size f s a b (same-block s f bytes chain memo fh all a b e .head)
 
-    copy-links : linksAt f b ≡ linksAt s a
+    pub copy-links : linksAt f b ≡ linksAt s a
     copy-links = head-links f s a b (same-block s f bytes chain memo fh all a b e .head)
 
     copy-whole : wholeAt f b ≡ fine
@@ -146,117 +145,124 @@ module _ (s f : List ℕ) (bytes : (i : ℕ) → getD s i 0 < 256) (chain : List
         rw at (read-word (linkWords s memo k (a + 32)) i (b + 32) st (omega (arith, length-linkWords s memo k (a + 32)))
         (rw v (new-small s f bytes chain memo fh all _)) ∙ v)
 
-    copy-good : (i : ℕ) → i < linksAt s a → Good memo md fh (linkAt f b i)
+    pub copy-good : (i : ℕ) → i < linksAt s a → Good memo md fh (linkAt f b i)
     copy-good zero l = rw (first-is l) (first-new-good s memo md fh a chain)
     copy-good (suc i) l = rw (later-is i l) (new-good memo md fh (leAt 8 s (a + 32 + 8 * i)))
 
-  -- ---- MD and FH
-  md-top : Stands f md (header kindMD (mdSize (length text')) 0)
-  unfolding mdBytes
-  md-top = stands-front _ _ (stands-front _ _ mdStands)
+  -- ---- with the new MD and FH
+  module _ (text' : List ℕ) (time : ℕ) (short : length text' ≤ 4096) (mdStands : Stands f md (mdBytes text')) (fhStands : Stands f fh (fhBytes md time)) where
+    md-top : Stands f md (header kindMD (mdSize (length text')) 0)
+    unfolding mdBytes
+    md-top = stands-front _ _ (stands-front _ _ mdStands)
 
-  md-links : linksAt f md ≡ 0
-  md-links = header-links kindMD (mdSize (length text')) 0 md-top (lit< tt)
+    md-links : linksAt f md ≡ 0
+    md-links = header-links kindMD (mdSize (length text')) 0 md-top (lit< tt)
 
-  md-least : (n : ℕ) → 24 + n ≤ mdSize n
-  unfolding mdSize align8
-  md-least n = omega arith
+    md-least : (n : ℕ) → 24 + n ≤ mdSize n
+    unfolding mdSize align8
+    md-least n = omega arith
 
-  md-whole : wholeAt f md ≡ fine
-  md-whole =
-      let near = md-near (length text') in
-      let size : sizeAt f md ≡ mdSize (length text') = header-size kindMD (mdSize (length text')) 0 md-top (omega arith) in
-      let long = length-md text' in
-      let least = md-least (length text') in
-      let inside = stands-inside (mdBytes text') mdStands (omega arith) in
-      whole-fine f md (omega (arith, md-links)) (omega arith) (omega arith)
+    pub md-size : sizeAt f md ≡ mdSize (length text')
+    md-size = header-size kindMD (mdSize (length text')) 0 md-top (omega (arith, md-near (length text')))
 
-  fh-top : Stands f fh (header kindFH 56 2 ++ le 8 0 ++ le 8 md)
-  unfolding fhBytes
-  fh-top = stands-front _ _ (stands-front _ _ fhStands)
+    md-whole : wholeAt f md ≡ fine
+    md-whole =
+        let near = md-near (length text') in
+        let size = md-size in
+        let long = length-md text' in
+        let least = md-least (length text') in
+        let inside = stands-inside (mdBytes text') mdStands (omega arith) in
+        whole-fine f md (omega (arith, md-links)) (omega arith) (omega arith)
 
-  fh-header : Stands f fh (header kindFH 56 2)
-  fh-header = stands-front _ _ (stands-front _ _ fh-top)
+    fh-top : Stands f fh (header kindFH 56 2 ++ le 8 0 ++ le 8 md)
+    unfolding fhBytes
+    fh-top = stands-front _ _ (stands-front _ _ fhStands)
 
-  pub fh-links : linksAt f fh ≡ 2
-  fh-links = header-links kindFH 56 2 fh-header (lit< tt)
+    fh-header : Stands f fh (header kindFH 56 2)
+    fh-header = stands-front _ _ (stands-front _ _ fh-top)
 
-  pub fh-next : linkAt f fh 0 ≡ 0
-  unfolding linkAt
-  fh-next = read 8 0 (stands-at {b = fh + 24 + 8 * 0} (header kindFH 56 2) (le 8 0) (stands-front _ _ fh-top) (simp length-header (omega arith))) (lit< tt)
+    pub fh-links : linksAt f fh ≡ 2
+    fh-links = header-links kindFH 56 2 fh-header (lit< tt)
 
-  fh-md : linkAt f fh 1 ≡ md
-  unfolding linkAt
-  fh-md =
-      read 8 md (stands-at {b = fh + 24 + 8 * 1} (header kindFH 56 2 ++ le 8 0) (le 8 md) fh-top (simp (length-append, length-header, length-le) (omega arith))) mdSmall
+    pub fh-next : linkAt f fh 0 ≡ 0
+    unfolding linkAt
+    fh-next = read 8 0 (stands-at {b = fh + 24 + 8 * 0} (header kindFH 56 2) (le 8 0) (stands-front _ _ fh-top) (simp length-header (omega arith))) (lit< tt)
 
-  fh-whole : wholeAt f fh ≡ fine
-  fh-whole =
-      let size : sizeAt f fh ≡ 56 = header-size kindFH 56 2 fh-header (lit< tt) in
-      let long = length-fh md time in
-      let inside = stands-inside (fhBytes md time) fhStands (omega arith) in
-      whole-fine f fh (omega (arith, fh-links)) (omega arith) (omega arith)
+    fh-md : linkAt f fh 1 ≡ md
+    unfolding linkAt
+    fh-md =
+        read 8 md (stands-at {b = fh + 24 + 8 * 1} (header kindFH 56 2 ++ le 8 0) (le 8 md) fh-top (simp (length-append, length-header, length-le) (omega arith))) mdSmall
 
-  fh-lost : lostLinks f fh ≡ 1
-  unfolding lostLinks
-  fh-lost = sym (eq-yes _ _ _ _ (header-kind kindFH 56 2 fh-header (lit< tt)) refl)
+    pub fh-size : sizeAt f fh ≡ 56
+    fh-size = header-size kindFH 56 2 fh-header (lit< tt)
 
-  fh-good : (i : ℕ) → 1 ≤ i → i < 2 → Good memo md fh (linkAt f fh i)
-  fh-good zero h l = absurd (omega arith)
-  fh-good (suc zero) h l = rw fh-md (text refl)
-  fh-good (suc (suc i)) h l = absurd (omega arith)
+    fh-whole : wholeAt f fh ≡ fine
+    fh-whole =
+        let size = fh-size in
+        let long = length-fh md time in
+        let inside = stands-inside (fhBytes md time) fhStands (omega arith) in
+        whole-fine f fh (omega (arith, fh-links)) (omega arith) (omega arith)
 
-  -- ---- all that is good
-  pub good-whole : (b : ℕ) → Good memo md fh b → (b ≡ 0 → ⊥) → wholeAt f b ≡ fine
-  good-whole b (nowhere e) n = absurd (n e)
-  good-whole b (copied a e) n = copy-whole a b e
-  good-whole b (text e) n = rw e md-whole
-  good-whole b (entry e) n = rw e fh-whole
+    fh-lost : lostLinks f fh ≡ 1
+    unfolding lostLinks
+    fh-lost = sym (eq-yes _ _ _ _ (header-kind kindFH 56 2 fh-header (lit< tt)) refl)
 
-  pub good-closed : (b : ℕ) → Good memo md fh b → (b ≡ 0 → ⊥) → (i : ℕ) → lostLinks f b ≤ i → i < linksAt f b → Good memo md fh (linkAt f b i)
-  good-closed b (nowhere e) n i h l = absurd (n e)
-  good-closed b (copied a e) n i h l = copy-good a b e i (omega (arith, copy-links a b e))
-  good-closed b (text e) n i h l = let z : linksAt f b ≡ 0 = rw e md-links in absurd (omega arith)
-  good-closed b (entry e) n i h l =
-      let m : linksAt f b ≡ 2 = rw e fh-links in
-      let k : lostLinks f b ≡ 1 = rw e fh-lost in
-      rw e (fh-good i (omega arith) (omega arith))
+    fh-good : (i : ℕ) → 1 ≤ i → i < 2 → Good memo md fh (linkAt f fh i)
+    fh-good zero h l = absurd (omega arith)
+    fh-good (suc zero) h l = rw fh-md (text refl)
+    fh-good (suc (suc i)) h l = absurd (omega arith)
 
-  -- ---- the history: its blocks are good, have links, and lead on
-  pub data PastAt (b : ℕ) : Type 0 where
-    ended : b ≡ 0 → PastAt b
-    goesOn : Good memo md fh b → (as' : List ℕ) → HistoryDue s f chain fh as' b → ((c : ℕ) → In c as' → 0 < linksAt s c) → PastAt b
+    -- ---- all that is good
+    pub good-whole : (b : ℕ) → Good memo md fh b → (b ≡ 0 → ⊥) → wholeAt f b ≡ fine
+    good-whole b (nowhere e) n = absurd (n e)
+    good-whole b (copied a e) n = copy-whole a b e
+    good-whole b (text e) n = rw e md-whole
+    good-whole b (entry e) n = rw e fh-whole
 
-  pub past-good : (b : ℕ) → PastAt b → (b ≡ 0 → ⊥) → Good memo md fh b
-  past-good b (ended e) n = absurd (n e)
-  past-good b (goesOn g as' h l) n = g
+    pub good-closed : (b : ℕ) → Good memo md fh b → (b ≡ 0 → ⊥) → (i : ℕ) → lostLinks f b ≤ i → i < linksAt f b → Good memo md fh (linkAt f b i)
+    good-closed b (nowhere e) n i h l = absurd (n e)
+    good-closed b (copied a e) n i h l = copy-good a b e i (omega (arith, copy-links a b e))
+    good-closed b (text e) n i h l = let z : linksAt f b ≡ 0 = rw e md-links in absurd (omega arith)
+    good-closed b (entry e) n i h l =
+        let m : linksAt f b ≡ 2 = rw e fh-links in
+        let k : lostLinks f b ≡ 1 = rw e fh-lost in
+        rw e (fh-good i (omega arith) (omega arith))
 
-  links-some : (b : ℕ) (as' : List ℕ) → HistoryDue s f chain fh as' b → ((c : ℕ) → In c as' → 0 < linksAt s c) → 0 < linksAt f b
-  unfolding HistoryDue
-  links-some b [] h l = let m : linksAt f b ≡ 2 = rw h fh-links in omega arith
-  links-some b (a ∷ as') h l = omega (arith, head-links f s a b (h .0 .head), l a here)
+    -- ---- the history: its blocks are good, have links, and lead on
+    pub data PastAt (b : ℕ) : Type 0 where
+      ended : b ≡ 0 → PastAt b
+      goesOn : Good memo md fh b → (as' : List ℕ) → HistoryDue s f chain fh as' b → ((c : ℕ) → In c as' → 0 < linksAt s c) → PastAt b
 
-  pub past-linked : (b : ℕ) → PastAt b → (b ≡ 0 → ⊥) → linksAt f b ≡ 0 → ⊥
-  past-linked b (ended e) n z = n e
-  past-linked b (goesOn g as' h l) n z = omega (arith, links-some b as' h l)
+    pub past-good : (b : ℕ) → PastAt b → (b ≡ 0 → ⊥) → Good memo md fh b
+    past-good b (ended e) n = absurd (n e)
+    past-good b (goesOn g as' h l) n = g
 
-  next-good : (b : ℕ) → Good memo md fh b → (b ≡ 0 → ⊥) → 0 < linksAt f b → Good memo md fh (linkAt f b 0)
-  next-good b (nowhere e) n l = absurd (n e)
-  next-good b (copied a e) n l = copy-good a b e 0 (omega (arith, copy-links a b e))
-  next-good b (text e) n l = let z : linksAt f b ≡ 0 = rw e md-links in absurd (omega arith)
-  next-good b (entry e) n l = nowhere (rw e fh-next)
+    links-some : (b : ℕ) (as' : List ℕ) → HistoryDue s f chain fh as' b → ((c : ℕ) → In c as' → 0 < linksAt s c) → 0 < linksAt f b
+    unfolding HistoryDue
+    links-some b [] h l = let m : linksAt f b ≡ 2 = rw h fh-links in omega arith
+    links-some b (a ∷ as') h l = omega (arith, head-links f s a b (h .0 .head), l a here)
 
-  first-is-link : (b : ℕ) → 0 < linksAt f b → firstLink f b ≡ linkAt f b 0
-  unfolding firstLink
-  first-is-link b l = sym (lt-yes _ _ _ _ l refl)
+    pub past-linked : (b : ℕ) → PastAt b → (b ≡ 0 → ⊥) → linksAt f b ≡ 0 → ⊥
+    past-linked b (ended e) n z = n e
+    past-linked b (goesOn g as' h l) n z = omega (arith, links-some b as' h l)
 
-  past-more : (b : ℕ) (as' : List ℕ) → Good memo md fh (linkAt f b 0) → HistoryDue s f chain fh as' b → ((c : ℕ) → In c as' → 0 < linksAt s c) → PastAt (linkAt f b 0)
-  unfolding HistoryDue
-  past-more b [] g h l = ended (rw h fh-next)
-  past-more b (a ∷ as') g h l = goesOn g as' (h .2) (λ c i. l c (there i))
+    pub next-good : (b : ℕ) → Good memo md fh b → (b ≡ 0 → ⊥) → 0 < linksAt f b → Good memo md fh (linkAt f b 0)
+    next-good b (nowhere e) n l = absurd (n e)
+    next-good b (copied a e) n l = copy-good a b e 0 (omega (arith, copy-links a b e))
+    next-good b (text e) n l = let z : linksAt f b ≡ 0 = rw e md-links in absurd (omega arith)
+    next-good b (entry e) n l = nowhere (rw e fh-next)
 
-  pub past-next : (b : ℕ) → PastAt b → (b ≡ 0 → ⊥) → PastAt (firstLink f b)
-  past-next b (ended e) n = absurd (n e)
-  past-next b (goesOn g as' h l) n =
-      let some' = links-some b as' h l in
-      rw (first-is-link b some') (past-more b as' (next-good b g n some') h l)
+    first-is-link : (b : ℕ) → 0 < linksAt f b → firstLink f b ≡ linkAt f b 0
+    unfolding firstLink
+    first-is-link b l = sym (lt-yes _ _ _ _ l refl)
+
+    past-more : (b : ℕ) (as' : List ℕ) → Good memo md fh (linkAt f b 0) → HistoryDue s f chain fh as' b → ((c : ℕ) → In c as' → 0 < linksAt s c) → PastAt (linkAt f b 0)
+    unfolding HistoryDue
+    past-more b [] g h l = ended (rw h fh-next)
+    past-more b (a ∷ as') g h l = goesOn g as' (h .2) (λ c i. l c (there i))
+
+    pub past-next : (b : ℕ) → PastAt b → (b ≡ 0 → ⊥) → PastAt (firstLink f b)
+    past-next b (ended e) n = absurd (n e)
+    past-next b (goesOn g as' h l) n =
+        let some' = links-some b as' h l in
+        rw (first-is-link b some') (past-more b as' (next-good b g n some') h l)

@@ -14,7 +14,7 @@ use Rattle.base.specs.Field.{leAt}
 use Rattle.mdf.specs.Block.{linksAt, linkAt, dataAt}
 use Rattle.mdf.specs.Chain.{isIn}
 use Rattle.plan.specs.Columns.{Column}
-use Rattle.plan.specs.Copies.{Copy, Attachment, columnLinks}
+use Rattle.plan.specs.Copies.{Copy, mostCopies, Attachment, columnLinks}
 use Rattle.plan.specs.Layout.{Layout, Placed, cnOf, layout}
 use Rattle.plan.specs.Photos.{headerChain, photoCount, photosFirst, photosIn}
 use Rattle.plan.specs.Rules.{Rules}
@@ -99,26 +99,26 @@ module _ (x : Args) (out list : List ℕ) (d : Decided) (bytes : AllBytes (x .im
   k : Known x d
   k = answer-known x (length out) (length list) d e
 
-  filled : (b : Block) → In b (blocksOf x l) → Stands f (b .at) (b .bytes)
+  pub filled : (b : Block) → In b (blocksOf x l) → Stands f (b .at) (b .bytes)
   filled = file-filled x l out (ordered x d k) (answer-accepted x (length out) (length list) d e .outputFits)
 
-  copied : (c : Copy) → In c memo → CopyStands s f (l .past .chain) memo (l .fh) c
+  pub copied : (c : Copy) → In c memo → CopyStands s f (l .past .chain) memo (l .fh) c
   copied = copy-stands x (d .planned .columns) l (o x d k) f bytes (ordered x d k) (file-below x d k) filled
 
-  md-small : l .md < 256 ^ 8
+  pub md-small : l .md < 256 ^ 8
   md-small = omega (arith, rest-within x l (ordered x d k) (in-md x l) .1, file-below x d k)
 
-  fh-small : l .fh < 256 ^ 8
+  pub fh-small : l .fh < 256 ^ 8
   fh-small = omega (arith, rest-within x l (ordered x d k) (in-fh x l) .1, file-below x d k)
 
   led-small : (a : ℕ) → newLink memo a < 256 ^ 8
   led-small a = new-small s f bytes (l .past .chain) memo (l .fh) copied a
 
-  abbrev GoodLink : ℕ → Type 0
+  abbrev pub GoodLink : ℕ → Type 0
   GoodLink b = Good memo (l .md) (l .fh) b
 
   -- ---- HD
-  comment-good : GoodLink (linkAt f 64 5)
+  pub comment-good : GoodLink (linkAt f 64 5)
   unfolding hdLinks
   comment-good = rw (hd-link x l f filled 5 (lit< tt) (led-small _)) (new-good memo (l .md) (l .fh) _)
 
@@ -126,7 +126,7 @@ module _ (x : Args) (out list : List ℕ) (d : Decided) (bytes : AllBytes (x .im
   first-good [] = entry refl
   first-good (a ∷ chain) = new-good memo (l .md) (l .fh) a
 
-  history-good : GoodLink (linkAt f 64 1)
+  pub history-good : GoodLink (linkAt f 64 1)
   unfolding hdLinks
   history-good =
       rw (hd-link x l f filled 1 (lit< tt) (first-small s f bytes (l .past .chain) memo (l .fh) copied fh-small (l .past .chain))) (first-good (l .past .chain))
@@ -140,18 +140,18 @@ module _ (x : Args) (out list : List ℕ) (d : Decided) (bytes : AllBytes (x .im
   attached-stands : (c : Block) → In c (attachments x l) → Stands f (c .at) (c .bytes)
   attached-stands c i = filled c (in-rest x l (in-attachments x l i))
 
-  first-attached : linkAt f 64 3 ≡ nextAttachment ats
+  pub first-attached : linkAt f 64 3 ≡ nextAttachment ats
   unfolding hdLinks
   first-attached = hd-link x l f filled 3 (lit< tt) (next-small s f bytes (l .past .chain) memo (l .fh) copied ats attached-below)
 
-  all-there : AllAt s f bytes (l .past .chain) memo (l .md) (l .fh) copied ats
+  pub all-there : AllAt s f bytes (l .past .chain) memo (l .md) (l .fh) copied ats
   all-there =
-      all-at s f bytes (l .past .chain) memo (l .md) (l .fh) copied ats _ _ (attachments-laid (o x d k) .laid) (all-passed s _ _ (l .attached) (o x d k .attached))
+      all-at s f bytes (l .past .chain) memo (l .md) (l .fh) copied ats _ _ (attachments-laid (o x d k) .laid) (all-passed mostCopies s _ _ (l .attached) (o x d k .attached))
       attached-above attached-below attached-stands
 
   linked : (c : ℕ) → In c (l .past .chain) → 0 < linksAt s c
   linked c i =
-      let m = past-listed s _ _ _ (o x d k .past) in
+      let m = past-listed mostCopies s _ _ _ (o x d k .past) in
       let q : l .past .chain ≡ m .more = m .chain in
       m .each c (subst (In c) q i) .linked
 

@@ -16,7 +16,7 @@ pub struct Choices {
 }
 
 // A power of two from 8 to 4096.
-fn is_unit(u: u64) -> bool
+pub fn is_unit(u: u64) -> bool
     ensures { λ r. ⌜ r ≡ isAmong u units ⌝ }
 {
     if u == 8 {

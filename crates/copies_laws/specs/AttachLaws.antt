@@ -64,19 +64,19 @@ laidAt-ends s a e (t ∷ ts) l =
     let k : t .to + sizeAt s (t .from) ≤ e = laidAt-ends s _ e ts (l .2) in
     omega arith
 
--- t' has more attachments than t, laid past what t had placed; at most 64 attachments and 2,048 copies. An attachment takes at most the image's
+-- t' has more attachments than t, laid past what t had placed; at most 64 attachments, and copies within the limit. An attachment takes at most the image's
 -- length and 7 bytes before and after it
-pub record GrownAt (s : List ℕ) (t t' : Attached) : Type 0 where
+pub record GrownAt (limit : ℕ) (s : List ℕ) (t t' : Attached) : Type 0 where
   pub more : List Attachment
   pub attachments : t' .attachments ≡ t .attachments ++ more
   pub memo : t' .made .memo ≡ t .made .memo ++ ownCopies more
   pub laid : LaidAt s (t .made .next) more (t' .made .next)
   pub tight : TightAt s (t .made .next) more (t' .made .next)
-  pub few : length (t .made .memo) ≤ 2048 → length (t' .made .memo) ≤ 2048
+  pub few : length (t .made .memo) ≤ limit → length (t' .made .memo) ≤ limit
   pub most : length (t .attachments) ≤ 64 → length (t' .attachments) ≤ 64
   pub near : t' .made .next ≤ t .made .next + 268435463 * length (ownCopies more) + length more * (length s + 14)
 
-pub attached-same : (s : List ℕ) {t t' : Attached} → t ≡ t' → GrownAt s t t'
+pub attached-same : {most : ℕ} (s : List ℕ) {t t' : Attached} → t ≡ t' → GrownAt most s t t'
 unfolding LaidAt TightAt ownCopies
 attached-same s {t} e = rw (← e) (record {
   more = [];
@@ -90,16 +90,16 @@ attached-same s {t} e = rw (← e) (record {
 })
 
 -- one attachment, then more
-pub attached-one : {s : List ℕ} {t t' : Attached} {m : Copies} (a : ℕ) → Moved s a → length (t .attachments) < 64 → Grown s 0 (t .made) m
-    → GrownAt s (attach a (sizeAt s a) (t .made) m t) t' → GrownAt s t t'
+pub attached-one : {most : ℕ} {s : List ℕ} {t t' : Attached} {m : Copies} (a : ℕ) → Moved s a → length (t .attachments) < 64 → Grown most s 0 (t .made) m
+    → GrownAt most s (attach a (sizeAt s a) (t .made) m t) t' → GrownAt most s t t'
 unfolding LaidAt TightAt ownCopies attach
-attached-one {s} {t} {t'} {m} a w h f g =
+attached-one {most} {s} {t} {t'} {m} a w h f g =
     let one : Attachment = record { from = a; to = align8 (m .next); own = drop (length (t .made .memo)) (m .memo) } in
     let own : one .own ≡ f .new = rw (f .memo) (drop-append-seam (t .made .memo) (f .new)) in
     let near1 : t' .made .next ≤ align8 (align8 (m .next) + sizeAt s a) + 268435463 * length (ownCopies (g .more)) + length (g .more) * (length s + 14) =
     g .near in
     let small : a + sizeAt s a ≤ length s = w .range in
-    let room : length (m .memo) + 0 ≤ 2048 → length (t' .made .memo) ≤ 2048 = λ q. g .few (omega arith) in
+    let room : length (m .memo) + 0 ≤ most → length (t' .made .memo) ≤ most = λ q. g .few (omega arith) in
     record {
       more = one ∷ g .more;
       attachments = g .attachments ∙ append-snoc (t .attachments) one (g .more);
@@ -117,32 +117,32 @@ attached-one {s} {t} {t'} {m} a w h f g =
     }
 
 -- the attachment chain
-pub attachments-grown : (turns : ℕ) (s : List ℕ) (a : ℕ) (t t' : Attached) → attachmentsFrom turns s a t ≡ ok t' → GrownAt s t t'
+pub attachments-grown : {most : ℕ} (turns : ℕ) (s : List ℕ) (a : ℕ) (t t' : Attached) → attachmentsFrom most turns s a t ≡ ok t' → GrownAt most s t t'
 unfolding attachmentsFrom
-attachments-grown zero s a t t' e = attached-same s (ok-same e)
-attachments-grown (suc turns) s a t t' e =
-    let same : ok t ≡ ok t' → GrownAt s t t' = λ q. attached-same s (ok-same q) in
+attachments-grown {most} zero s a t t' e = attached-same s (ok-same e)
+attachments-grown {most} (suc turns) s a t t' e =
+    let same : ok t ≡ ok t' → GrownAt most s t t' = λ q. attached-same s (ok-same q) in
     by-eq a 0 _ _ e same (λ q. by-pick (isAttached a (t .attachments)) _ _ q same (λ r.
     let h = then-ok (headerIn s a) _ r in
     by-eq (kindAt s a) kindAT _ _ (h .2) (λ k.
     let w = then-ok (attachmentIn s a) _ k in
     let l = lt-first _ _ _ _ (w .2) refused≢ok in
-    let m = then-ok (copyLinks (copyRoot s) s (linksAt s a - 1) (a + 32) (t .made)) _ (l .1) in
+    let m = then-ok (copyLinks (copyRoot most s) s (linksAt s a - 1) (a + 32) (t .made)) _ (l .1) in
     attached-one a (moved-fits s a (w .1)) (l .0)
-    (links-grown s 0 (copyRoot s) (root-grown s) (linksAt s a - 1) (a + 32) (t .made) (m .0) (m .1))
+    (links-grown s 0 (copyRoot most s) (root-grown s) (linksAt s a - 1) (a + 32) (t .made) (m .0) (m .1))
     (attachments-grown turns s (firstLink s a) _ t' (m .2)))
     same))
 
 -- all attachments: the copies made before are kept, at most 64 are laid from the end of what was placed before
-pub record AllAttached (s : List ℕ) (m : Copies) (t : Attached) : Type 0 where
+pub record AllAttached (limit : ℕ) (s : List ℕ) (m : Copies) (t : Attached) : Type 0 where
   pub memo : t .made .memo ≡ m .memo ++ ownCopies (t .attachments)
   pub laid : LaidAt s (m .next) (t .attachments) (t .made .next)
   pub tight : TightAt s (m .next) (t .attachments) (t .made .next)
-  pub few : length (m .memo) ≤ 2048 → length (t .made .memo) ≤ 2048
+  pub few : length (m .memo) ≤ limit → length (t .made .memo) ≤ limit
   pub most : length (t .attachments) ≤ 64
   pub near : t .made .next ≤ m .next + 268435463 * length (ownCopies (t .attachments)) + length (t .attachments) * (length s + 14)
 
-pub all-attached : (s : List ℕ) (a : ℕ) (m : Copies) (t : Attached) → attachmentsOf s a m ≡ ok t → AllAttached s m t
+pub all-attached : {most : ℕ} (s : List ℕ) (a : ℕ) (m : Copies) (t : Attached) → attachmentsOf most s a m ≡ ok t → AllAttached most s m t
 unfolding attachmentsOf
 all-attached s a m t e =
     let g = attachments-grown (mostAttachments + 2) s a (record { attachments = []; made = m }) t e in

@@ -73,28 +73,28 @@ laid-ends s a e (c ∷ cs) l =
     let k : c .to + sizeAt s (c .from) ≤ e = laid-ends s _ e cs (l .2) in
     omega arith
 
--- m' has more copies than m, laid past those of m. The copies and the k blocks on the way down stay at most 2,048; each copy takes at most its
--- greatest length and 7 bytes before it
-pub record Grown (s : List ℕ) (k : ℕ) (m m' : Copies) : Type 0 where
+-- m' has more copies than m, laid past those of m. The copies and the k blocks on the way down stay within the limit; each copy takes at most
+-- its greatest length and 7 bytes before it
+pub record Grown (most : ℕ) (s : List ℕ) (k : ℕ) (m m' : Copies) : Type 0 where
   pub new : List Copy
   pub memo : m' .memo ≡ m .memo ++ new
   pub laid : Laid s (m .next) new (m' .next)
   pub tight : Tight s (m .next) new (m' .next)
-  pub few : length (m .memo) + k ≤ 2048 → length (m' .memo) + k ≤ 2048
+  pub few : length (m .memo) + k ≤ most → length (m' .memo) + k ≤ most
   pub near : m' .next ≤ m .next + 268435463 * length new
 
-pub grown-tight : {s : List ℕ} {k : ℕ} {m m' : Copies} → Grown s k m m' → Tight s (m .next) (drop (length (m .memo)) (m' .memo)) (m' .next)
-grown-tight {s} {k} {m} {m'} g =
+pub grown-tight : {most : ℕ} {s : List ℕ} {k : ℕ} {m m' : Copies} → Grown most s k m m' → Tight s (m .next) (drop (length (m .memo)) (m' .memo)) (m' .next)
+grown-tight {most} {s} {k} {m} {m'} g =
     let e : drop (length (m .memo)) (m' .memo) ≡ g .new = ap (drop (length (m .memo))) (g .memo) ∙ drop-append-seam (m .memo) (g .new) in
     subst (λ (cs : List Copy). Tight s (m .next) cs (m' .next)) (sym e) (g .tight)
 
 -- the copies that are new are those past the old ones
-pub grown-new : {s : List ℕ} {k : ℕ} {m m' : Copies} → Grown s k m m' → Laid s (m .next) (drop (length (m .memo)) (m' .memo)) (m' .next)
-grown-new {s} {k} {m} {m'} g =
+pub grown-new : {most : ℕ} {s : List ℕ} {k : ℕ} {m m' : Copies} → Grown most s k m m' → Laid s (m .next) (drop (length (m .memo)) (m' .memo)) (m' .next)
+grown-new {most} {s} {k} {m} {m'} g =
     let e : drop (length (m .memo)) (m' .memo) ≡ g .new = ap (drop (length (m .memo))) (g .memo) ∙ drop-append-seam (m .memo) (g .new) in
     subst (λ (cs : List Copy). Laid s (m .next) cs (m' .next)) (sym e) (g .laid)
 
-pub grown-same : (s : List ℕ) (k : ℕ) {m m' : Copies} → m ≡ m' → Grown s k m m'
+pub grown-same : {most : ℕ} (s : List ℕ) (k : ℕ) {m m' : Copies} → m ≡ m' → Grown most s k m m'
 unfolding Laid Tight
 grown-same s k {m} e = rw (← e) (record {
   new = [];
@@ -105,8 +105,8 @@ grown-same s k {m} e = rw (← e) (record {
   near = omega arith;
 })
 
-pub grown-then : {s : List ℕ} {k : ℕ} {m n o : Copies} → Grown s k m n → Grown s k n o → Grown s k m o
-grown-then {s} {k} {m} {n} {o} f g = record {
+pub grown-then : {most : ℕ} {s : List ℕ} {k : ℕ} {m n o : Copies} → Grown most s k m n → Grown most s k n o → Grown most s k m o
+grown-then {most} {s} {k} {m} {n} {o} f g = record {
   new = f .new ++ g .new;
   memo = g .memo ∙ rw (f .memo) (append-assoc (m .memo) (f .new) (g .new));
   laid = laid-append s (m .next) (n .next) (o .next) (f .new) (g .new) (f .laid) (g .laid);
@@ -116,12 +116,12 @@ grown-then {s} {k} {m} {n} {o} f g = record {
 }
 
 -- the block itself, after what it links to, which was begun with one block more on the way
-pub grown-placed : {s : List ℕ} {k : ℕ} {m n : Copies} (a : ℕ) → Whole s a → length (m .memo) + k < 2048 → Grown s (suc k) m n
-    → Grown s k m (withCopy a (sizeAt s a) n)
+pub grown-placed : {most : ℕ} {s : List ℕ} {k : ℕ} {m n : Copies} (a : ℕ) → Whole s a → length (m .memo) + k < most → Grown most s (suc k) m n
+    → Grown most s k m (withCopy a (sizeAt s a) n)
 unfolding Laid Tight withCopy
-grown-placed {s} {k} {m} {n} a w h g =
-    let h : length (m .memo) + suc k ≤ 2048 = omega arith in
-    let q : length (n .memo) + suc k ≤ 2048 = g .few h in
+grown-placed {most} {s} {k} {m} {n} a w h g =
+    let h : length (m .memo) + suc k ≤ most = omega arith in
+    let q : length (n .memo) + suc k ≤ most = g .few h in
     let one : Copy = record { from = a; to = align8 (n .next) } in
     record {
       new = g .new ++ (one ∷ []);

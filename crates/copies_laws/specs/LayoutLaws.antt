@@ -11,7 +11,7 @@ use Rattle.mdf.specs.Block.{linkAt}
 use Rattle.plan.specs.Columns.{Column}
 use Rattle.plan.specs.Data.{blocksIn}
 use Rattle.plan.specs.Geometry.{align8}
-use Rattle.plan.specs.Copies.{Copy, copies, Attachment, copyRoot, historyOf, columnCopies, attachmentsOf}
+use Rattle.plan.specs.Copies.{Copy, copies, mostCopies, Attachment, copyRoot, historyOf, columnCopies, attachmentsOf}
 use Rattle.plan.specs.Rules.{Rules}
 use Rattle.plan.specs.Layout.{Placed, placedFrom, structureEnd, dataEnd, mdSize, Layout, pastCopies, fhPlace, layout}
 use Rattle.result.specs.Fill.{copiedBlocks, structureBlocks, dataBlocks, attachmentBlocks}
@@ -28,24 +28,24 @@ use Rattle.copies_laws.specs.PlacedLaws.{FewPhotos, structures-near, Wit
 
 -- the parts of a layout, for n bytes of history text
 pub record LaidOut (r : Rules) (s : List ℕ) (size n : ℕ) (cs : List Column) (l : Layout) : Type 0 where
-  pub comment : copyRoot s (linkAt s 64 5) (copies [] 168) ≡ ok (l .comment)
-  pub past : historyOf s (linkAt s 64 1) (l .comment) ≡ ok (l .past)
+  pub comment : copyRoot mostCopies s (linkAt s 64 5) (copies [] 168) ≡ ok (l .comment)
+  pub past : historyOf mostCopies s (linkAt s 64 1) (l .comment) ≡ ok (l .past)
   pub md : l .md ≡ align8 (l .past .made .next)
   pub fh : l .fh ≡ l .md + mdSize n
-  pub metadata : columnCopies s cs (copies (l .past .made .memo) (l .fh + 56)) ≡ ok (l .metadata)
+  pub metadata : columnCopies mostCopies s cs (copies (l .past .made .memo) (l .fh + 56)) ≡ ok (l .metadata)
   pub metadataEnd : l .metadataEnd ≡ structureEnd s size (pastCopies (l .metadata)) cs
   pub placed : l .placed ≡ placedFrom r s size (pastCopies (l .metadata)) (l .metadataEnd) cs
-  pub attached : attachmentsOf s (linkAt s 64 3) (copies (l .metadata .memo) (dataEnd r s size (l .metadataEnd) cs)) ≡ ok (l .attached)
+  pub attached : attachmentsOf mostCopies s (linkAt s 64 3) (copies (l .metadata .memo) (dataEnd r s size (l .metadataEnd) cs)) ≡ ok (l .attached)
   pub fileSize : l .fileSize ≡ l .attached .made .next
 
 pub laid-out : (r : Rules) (s : List ℕ) (size n : ℕ) (cs : List Column) (l : Layout) → layout r s size n cs ≡ ok l → LaidOut r s size n cs l
 unfolding layout pastCopies fhPlace
 laid-out r s size n cs l e =
-    let a = then-ok (copyRoot s (linkAt s 64 5) (copies [] 168)) _ e in
-    let b = then-ok (historyOf s (linkAt s 64 1) (a .0)) _ (a .2) in
-    let c = then-ok (columnCopies s cs (copies (b .0 .made .memo) (fhPlace (b .0 .made) n + 56))) _ (b .2) in
+    let a = then-ok (copyRoot mostCopies s (linkAt s 64 5) (copies [] 168)) _ e in
+    let b = then-ok (historyOf mostCopies s (linkAt s 64 1) (a .0)) _ (a .2) in
+    let c = then-ok (columnCopies mostCopies s cs (copies (b .0 .made .memo) (fhPlace (b .0 .made) n + 56))) _ (b .2) in
     let e1 : ℕ = dataEnd r s size (structureEnd s size (pastCopies (c .0)) cs) cs in
-    let d = then-ok (attachmentsOf s (linkAt s 64 3) (copies (c .0 .memo) e1)) _ (c .2) in
+    let d = then-ok (attachmentsOf mostCopies s (linkAt s 64 3) (copies (c .0 .memo) e1)) _ (c .2) in
     rw (← ok-same (d .2)) (record {
       comment = a .1;
       past = b .1;
@@ -64,19 +64,19 @@ md-near n = omega arith
 
 module _ {r : Rules} {s : List ℕ} {size n : ℕ} {cs : List Column} {l : Layout} (o : LaidOut r s size n cs l) where
   -- ---- copies: those of the HD comment and the history, then those of the columns
-  pub history-from-start : Grown s 0 (copies [] 168) (l .past .made)
+  pub history-from-start : Grown mostCopies s 0 (copies [] 168) (l .past .made)
   history-from-start = grown-then (root-grown s _ _ _ (o .comment)) (past-grown s _ _ _ (o .past))
 
   pub history-laid : Laid s 168 (l .past .made .memo) (l .past .made .next)
   history-laid = grown-new history-from-start
 
-  pub columns-after-history : Grown s 0 (copies (l .past .made .memo) (l .fh + 56)) (l .metadata)
+  pub columns-after-history : Grown mostCopies s 0 (copies (l .past .made .memo) (l .fh + 56)) (l .metadata)
   columns-after-history = columns-grown s cs _ _ (o .metadata)
 
   pub columns-laid : Laid s (l .fh + 56) (drop (length (l .past .made .memo)) (l .metadata .memo)) (l .metadata .next)
   columns-laid = grown-new columns-after-history
 
-  pub attachments-laid : AllAttached s (copies (l .metadata .memo) (dataEnd r s size (l .metadataEnd) cs)) (l .attached)
+  pub attachments-laid : AllAttached mostCopies s (copies (l .metadata .memo) (dataEnd r s size (l .metadataEnd) cs)) (l .attached)
   attachments-laid = all-attached s _ _ _ (o .attached)
 
   -- "2,048 copied blocks", with those of attachments

@@ -92,7 +92,7 @@ pub length-dg : (s : List ℕ) (size : ℕ) (memo : List Copy) (p : Placed) (nex
 unfolding dgBytes
 length-dg s size memo p next = simp (length-append, length-header, length-le)
 
-length-masterLink : (ps : List Placed) (m : Option ℕ) → 72 + length (masterLink ps m) + 32 ≡ cgSize m
+pub length-masterLink : (ps : List Placed) (m : Option ℕ) → 72 + length (masterLink ps m) + 32 ≡ cgSize m
 length-masterLink ps none = refl
 length-masterLink ps (some m) = simp length-le
 

@@ -8,3 +8,4 @@ pub mod LengthLaws
 pub mod OrderLaws
 pub mod PlacedLaws
 pub mod LayoutLaws
+pub mod Alike

@@ -18,7 +18,7 @@ use Rattle.mdf.specs.Block.{kindTX, kindMD, kindAt, sizeAt, linksAt, linkAt, fi
 use Rattle.mdf.specs.Chain.{isIn}
 use Rattle.plan.specs.Columns.{Column}
 use Rattle.plan.specs.Geometry.{align8}
-use Rattle.plan.specs.Copies.{kindCC, kindSI, kindFH, Copy, Copies, copyOf, withCopy, isCopied, lostLinks, copyLinks, mostCopies, onCopy, copyAt, depth, copyRoot, copyRoots, History, history, historyFrom, historyOf, columnLinks, columnCopies, Attachment, Attached, isAttached, attach, attachmentsFrom, attachmentsOf}
+use Rattle.plan.specs.Copies.{kindCC, kindSI, kindFH, Copy, Copies, copyOf, withCopy, isCopied, lostLinks, copyLinks, onCopy, copyAt, depth, copyRoot, copyRoots, History, history, historyFrom, historyOf, columnLinks, columnCopies, Attachment, Attached, isAttached, attach, attachmentsFrom, attachmentsOf}
 use Rattle.plan.specs.Photos.{kindAT, mostAttachments, attachmentIn}
 use Rattle.result.specs.Names.{CopiedKind, isTX, isMD, isCC, isSI, isFH, Leads}
 use Rattle.result.specs.Guarantee.{In, here, there}
@@ -196,16 +196,16 @@ placed-kept s a size m n z k w f g = (
   λ _ _. copy-last a (align8 (n .next)) (n .memo),
 )
 
-fresh-kept : (s way : List ℕ) (a : ℕ) (m m' : Copies) (links : Checked Copies) → (a ≡ 0 → ⊥)
+fresh-kept : (most : ℕ) (s way : List ℕ) (a : ℕ) (m m' : Copies) (links : Checked Copies) → (a ≡ 0 → ⊥)
     → ((n : Copies) → links ≡ ok n → Kept s (m .memo) (n .memo)
     × ((i : ℕ) → i < linksAt s a - lostLinks s a → Followed s (n .memo) (leAt 8 s (a + 24 + 8 * lostLinks s a + 8 * i))))
-    → fresh s way a m links ≡ ok m' → Kept s (m .memo) (m' .memo) × Followed s (m' .memo) a
-fresh-kept s way a m m' links z f e =
+    → fresh most s way a m links ≡ ok m' → Kept s (m .memo) (m' .memo) × Followed s (m' .memo) a
+fresh-kept most s way a m m' links z f e =
     let r = then-ok (wholeAt s a) _ (pick-second (isIn a way) _ _ e refused≢ok) in
     go (isCopied (kindAt s a)) refl (whole-fits s a (r .1)) (r .2)
   where
     go : (t : Bool) → isCopied (kindAt s a) ≡ t → Whole s a
-        → pick t (ifLt (length (m .memo) + length way) mostCopies (andThen links (λ n. ok (withCopy a (sizeAt s a) n))) (refused 19 a)) (ok m) ≡ ok m'
+        → pick t (ifLt (length (m .memo) + length way) most (andThen links (λ n. ok (withCopy a (sizeAt s a) n))) (refused 19 a)) (ok m) ≡ ok m'
         → Kept s (m .memo) (m' .memo) × Followed s (m' .memo) a
     go true k w q =
         let l = then-ok links _ (lt-first _ _ _ _ q refused≢ok .1) in
@@ -213,62 +213,62 @@ fresh-kept s way a m m' links z f e =
         rw (← ok-same (l .2)) (placed-kept s a (sizeAt s a) m (l .0) z k w (g .0) (g .1))
     go false k w q = (kept-same s (ap (λ (x : Copies). x .memo) (ok-same q)), λ _ h. absurd (false≢true (sym k ∙ h)))
 
-pub copy-kept-at : (left : ℕ) (s way : List ℕ) (a : ℕ) (m m' : Copies) → copyAt left s way a m ≡ ok m'
+pub copy-kept-at : (most left : ℕ) (s way : List ℕ) (a : ℕ) (m m' : Copies) → copyAt most left s way a m ≡ ok m'
     → Kept s (m .memo) (m' .memo) × Followed s (m' .memo) a
 unfolding copyAt
-copy-kept-at zero s way a m m' e =
+copy-kept-at most zero s way a m m' e =
     on-zero a 0 _ _ e (λ z q. none-kept s a m m' z q)
     (λ z q. copied-kept s a m m' (refused 16 a) (copyOf a (m .memo)) refl (λ r. absurd (refused≢ok r)) q)
-copy-kept-at (suc left) s way a m m' e =
-    let links : Checked Copies = copyLinks (copyAt left s (a ∷ way)) s (linksAt s a - lostLinks s a) (a + 24 + 8 * lostLinks s a) m in
+copy-kept-at most (suc left) s way a m m' e =
+    let links : Checked Copies = copyLinks (copyAt most left s (a ∷ way)) s (linksAt s a - lostLinks s a) (a + 24 + 8 * lostLinks s a) m in
     let deeper : (n : Copies) → links ≡ ok n → Kept s (m .memo) (n .memo)
     × ((i : ℕ) → i < linksAt s a - lostLinks s a → Followed s (n .memo) (leAt 8 s (a + 24 + 8 * lostLinks s a + 8 * i))) =
-    λ n x. links-kept s (copyAt left s (a ∷ way)) (λ b o o' y. copy-kept-at left s (a ∷ way) b o o' y) _ _ m n x in
+    λ n x. links-kept s (copyAt most left s (a ∷ way)) (λ b o o' y. copy-kept-at most left s (a ∷ way) b o o' y) _ _ m n x in
     on-zero a 0 _ _ e (λ z q. none-kept s a m m' z q)
-    (λ z q. copied-kept s a m m' (fresh s way a m links) (copyOf a (m .memo)) refl (λ r. fresh-kept s way a m m' links z deeper r) q)
+    (λ z q. copied-kept s a m m' (fresh most s way a m links) (copyOf a (m .memo)) refl (λ r. fresh-kept most s way a m m' links z deeper r) q)
 
 -- ---- from outside of any copied block
-pub root-kept : (s : List ℕ) (a : ℕ) (m m' : Copies) → copyRoot s a m ≡ ok m' → Kept s (m .memo) (m' .memo) × Followed s (m' .memo) a
+pub root-kept : (most : ℕ) (s : List ℕ) (a : ℕ) (m m' : Copies) → copyRoot most s a m ≡ ok m' → Kept s (m .memo) (m' .memo) × Followed s (m' .memo) a
 unfolding copyRoot
-root-kept s a m m' e = copy-kept-at depth s [] a m m' e
+root-kept most s a m m' e = copy-kept-at most depth s [] a m m' e
 
-pub roots-kept : (s as' : List ℕ) (m m' : Copies) → copyRoots s as' m ≡ ok m'
+pub roots-kept : (most : ℕ) (s as' : List ℕ) (m m' : Copies) → copyRoots most s as' m ≡ ok m'
     → Kept s (m .memo) (m' .memo) × ((a : ℕ) → In a as' → Followed s (m' .memo) a)
 unfolding copyRoots
-roots-kept s [] m m' e = (kept-same s (ap (λ (x : Copies). x .memo) (ok-same e)), λ a i. absurd (not-in i))
-roots-kept s (b ∷ bs) m m' e =
-    let h = then-ok (copyRoot s b m) _ e in
-    let one = root-kept s b m (h .0) (h .1) in
-    let more = roots-kept s bs (h .0) m' (h .2) in
+roots-kept most s [] m m' e = (kept-same s (ap (λ (x : Copies). x .memo) (ok-same e)), λ a i. absurd (not-in i))
+roots-kept most s (b ∷ bs) m m' e =
+    let h = then-ok (copyRoot most s b m) _ e in
+    let one = root-kept most s b m (h .0) (h .1) in
+    let more = roots-kept most s bs (h .0) m' (h .2) in
     (kept-then (one .0) (more .0), in-each (followed-kept (more .0) b (one .1)) (more .1))
 
-pub columns-kept : (s : List ℕ) (cs : List Column) (m m' : Copies) → columnCopies s cs m ≡ ok m'
+pub columns-kept : (most : ℕ) (s : List ℕ) (cs : List Column) (m m' : Copies) → columnCopies most s cs m ≡ ok m'
     → Kept s (m .memo) (m' .memo) × ((c : Column) → In c cs → (a : ℕ) → In a (columnLinks s c) → Followed s (m' .memo) a)
 unfolding columnCopies
-columns-kept s [] m m' e = (kept-same s (ap (λ (x : Copies). x .memo) (ok-same e)), λ c i. absurd (not-in i))
-columns-kept s (c ∷ cs) m m' e =
-    let h = then-ok (copyRoots s (columnLinks s c) m) _ e in
-    let one = roots-kept s (columnLinks s c) m (h .0) (h .1) in
-    let more = columns-kept s cs (h .0) m' (h .2) in
+columns-kept most s [] m m' e = (kept-same s (ap (λ (x : Copies). x .memo) (ok-same e)), λ c i. absurd (not-in i))
+columns-kept most s (c ∷ cs) m m' e =
+    let h = then-ok (copyRoots most s (columnLinks s c) m) _ e in
+    let one = roots-kept most s (columnLinks s c) m (h .0) (h .1) in
+    let more = columns-kept most s cs (h .0) m' (h .2) in
     (kept-then (one .0) (more .0), in-each {P = λ (c : Column). (a : ℕ) → In a (columnLinks s c) → Followed s (m' .memo) a} (λ a i. followed-kept (more .0) a (one .1 a i)) (more .1))
 
 -- ---- the history chain
-history-kept : (turns : ℕ) (s : List ℕ) (a : ℕ) (h h' : History) → historyFrom turns s a h ≡ ok h' → Kept s (h .made .memo) (h' .made .memo)
+history-kept : (most turns : ℕ) (s : List ℕ) (a : ℕ) (h h' : History) → historyFrom most turns s a h ≡ ok h' → Kept s (h .made .memo) (h' .made .memo)
 unfolding historyFrom
-history-kept zero s a h h' e = kept-same s (ap (λ (x : History). x .made .memo) (ok-same e))
-history-kept (suc turns) s a h h' e =
+history-kept most zero s a h h' e = kept-same s (ap (λ (x : History). x .made .memo) (ok-same e))
+history-kept most (suc turns) s a h h' e =
     let same : ok h ≡ ok h' → Kept s (h .made .memo) (h' .made .memo) = λ q. kept-same s (ap (λ (x : History). x .made .memo) (ok-same q)) in
     by-eq a 0 _ _ e same (λ q. by-pick (isIn a (h .chain)) _ _ q same (λ r.
     let w = then-ok (wholeAt s a) _ r in
     by-pick (isCopied (kindAt s a)) _ _ (w .2) (λ t.
     let k = eq-back (linksAt s a) 0 _ _ t refused≢ok in
-    let m = then-ok (copyRoot s a (h .made)) _ k in
-    kept-then (root-kept s a (h .made) (m .0) (m .1) .0) (history-kept turns s (firstLink s a) _ h' (m .2)))
+    let m = then-ok (copyRoot most s a (h .made)) _ k in
+    kept-then (root-kept most s a (h .made) (m .0) (m .1) .0) (history-kept most turns s (firstLink s a) _ h' (m .2)))
     same))
 
-pub past-kept : (s : List ℕ) (a : ℕ) (m : Copies) (h : History) → historyOf s a m ≡ ok h → Kept s (m .memo) (h .made .memo)
+pub past-kept : (most : ℕ) (s : List ℕ) (a : ℕ) (m : Copies) (h : History) → historyOf most s a m ≡ ok h → Kept s (m .memo) (h .made .memo)
 unfolding historyOf
-past-kept s a m h e = history-kept (mostCopies + 1) s a (history [] m) h e
+past-kept most s a m h e = history-kept most (most + 1) s a (history [] m) h e
 
 -- none of these blocks stands before itself, nor among those before
 unfoldable pub Fresh : List ℕ → List ℕ → Type 0
@@ -307,48 +307,48 @@ unfolding Fresh
 one-listed s a h h' m n p r =
     record { more = a ∷ r .more; chain = r .chain ∙ append-snoc (h .chain) a (r .more); fresh = (n, r .fresh); each = in-each p (r .each) }
 
-history-listed : (turns : ℕ) (s : List ℕ) (a : ℕ) (h h' : History) → historyFrom turns s a h ≡ ok h' → Listed s h h'
+history-listed : (most turns : ℕ) (s : List ℕ) (a : ℕ) (h h' : History) → historyFrom most turns s a h ≡ ok h' → Listed s h h'
 unfolding historyFrom
-history-listed zero s a h h' e = none-listed s h h' e
-history-listed (suc turns) s a h h' e =
+history-listed most zero s a h h' e = none-listed s h h' e
+history-listed most (suc turns) s a h h' e =
     on-zero a 0 _ _ e (λ z q. none-listed s h h' q) (λ z q.
     on-pick (isIn a (h .chain)) _ _ q (λ i r. none-listed s h h' r) (λ i r.
     let w = then-ok (wholeAt s a) _ r in
     on-pick (isCopied (kindAt s a)) _ _ (w .2) (λ k u.
     on-zero (linksAt s a) 0 _ _ u (λ _ v. absurd (refused≢ok v)) (λ l v.
-    let m = then-ok (copyRoot s a (h .made)) _ v in
+    let m = then-ok (copyRoot most s a (h .made)) _ v in
     one-listed s a h h' (m .0) i
     (record {
       leads = record { nonzero = z; kind = copied-kind (kindAt s a) k };
       linked = positive (linksAt s a) l;
-      followed = followed-kept (history-kept turns s (firstLink s a) _ h' (m .2)) a (root-kept s a (h .made) (m .0) (m .1) .1);
+      followed = followed-kept (history-kept most turns s (firstLink s a) _ h' (m .2)) a (root-kept most s a (h .made) (m .0) (m .1) .1);
     })
-    (history-listed turns s (firstLink s a) (history (h .chain ++ (a ∷ [])) (m .0)) h' (m .2))))
+    (history-listed most turns s (firstLink s a) (history (h .chain ++ (a ∷ [])) (m .0)) h' (m .2))))
     (λ k u. none-listed s h h' u)))
 
-pub past-listed : (s : List ℕ) (a : ℕ) (m : Copies) (h : History) → historyOf s a m ≡ ok h → Listed s (history [] m) h
+pub past-listed : (most : ℕ) (s : List ℕ) (a : ℕ) (m : Copies) (h : History) → historyOf most s a m ≡ ok h → Listed s (history [] m) h
 unfolding historyOf
-past-listed s a m h e = history-listed (mostCopies + 1) s a (history [] m) h e
+past-listed most s a m h e = history-listed most (most + 1) s a (history [] m) h e
 
 -- ---- attachments
-attachments-kept : (turns : ℕ) (s : List ℕ) (a : ℕ) (t t' : Attached) → attachmentsFrom turns s a t ≡ ok t' → Kept s (t .made .memo) (t' .made .memo)
+attachments-kept : (most turns : ℕ) (s : List ℕ) (a : ℕ) (t t' : Attached) → attachmentsFrom most turns s a t ≡ ok t' → Kept s (t .made .memo) (t' .made .memo)
 unfolding attachmentsFrom attach
-attachments-kept zero s a t t' e = kept-same s (ap (λ (x : Attached). x .made .memo) (ok-same e))
-attachments-kept (suc turns) s a t t' e =
+attachments-kept most zero s a t t' e = kept-same s (ap (λ (x : Attached). x .made .memo) (ok-same e))
+attachments-kept most (suc turns) s a t t' e =
     let same : ok t ≡ ok t' → Kept s (t .made .memo) (t' .made .memo) = λ q. kept-same s (ap (λ (x : Attached). x .made .memo) (ok-same q)) in
     by-eq a 0 _ _ e same (λ q. by-pick (isAttached a (t .attachments)) _ _ q same (λ r.
     let h = then-ok (headerIn s a) _ r in
     by-eq (kindAt s a) kindAT _ _ (h .2) (λ k.
     let w = then-ok (attachmentIn s a) _ k in
     let l = lt-first _ _ _ _ (w .2) refused≢ok in
-    let m = then-ok (copyLinks (copyRoot s) s (linksAt s a - 1) (a + 32) (t .made)) _ (l .1) in
-    kept-then (links-kept s (copyRoot s) (root-kept s) (linksAt s a - 1) (a + 32) (t .made) (m .0) (m .1) .0)
-    (attachments-kept turns s (firstLink s a) _ t' (m .2)))
+    let m = then-ok (copyLinks (copyRoot most s) s (linksAt s a - 1) (a + 32) (t .made)) _ (l .1) in
+    kept-then (links-kept s (copyRoot most s) (root-kept most s) (linksAt s a - 1) (a + 32) (t .made) (m .0) (m .1) .0)
+    (attachments-kept most turns s (firstLink s a) _ t' (m .2)))
     same))
 
-pub attached-kept : (s : List ℕ) (a : ℕ) (m : Copies) (t : Attached) → attachmentsOf s a m ≡ ok t → Kept s (m .memo) (t .made .memo)
+pub attached-kept : (most : ℕ) (s : List ℕ) (a : ℕ) (m : Copies) (t : Attached) → attachmentsOf most s a m ≡ ok t → Kept s (m .memo) (t .made .memo)
 unfolding attachmentsOf
-attached-kept s a m t e = attachments-kept (mostAttachments + 2) s a (record { attachments = []; made = m }) t e
+attached-kept most s a m t e = attachments-kept most (mostAttachments + 2) s a (record { attachments = []; made = m }) t e
 
 -- what the links of an AT from the second on lead to is copied
 abbrev pub OtherLinks : List ℕ → List Copy → ℕ → Type 0
@@ -368,23 +368,23 @@ other-more s a t m k f g =
     (λ u j i h. followed-kept k _ (g u j i h))
     (λ i h. subst (λ (q : ℕ). Followed s (m .memo) (leAt 8 s q)) (omega arith) (f i (omega arith)))
 
-attachments-other : (turns : ℕ) (s : List ℕ) (a : ℕ) (t t' : Attached) → attachmentsFrom turns s a t ≡ ok t' → AllOther s t → AllOther s t'
+attachments-other : (most turns : ℕ) (s : List ℕ) (a : ℕ) (t t' : Attached) → attachmentsFrom most turns s a t ≡ ok t' → AllOther s t → AllOther s t'
 unfolding attachmentsFrom
-attachments-other zero s a t t' e g = subst (AllOther s) (ok-same e) g
-attachments-other (suc turns) s a t t' e g =
+attachments-other most zero s a t t' e g = subst (AllOther s) (ok-same e) g
+attachments-other most (suc turns) s a t t' e g =
     let same : ok t ≡ ok t' → AllOther s t' = λ q. subst (AllOther s) (ok-same q) g in
     by-eq a 0 _ _ e same (λ q. by-pick (isAttached a (t .attachments)) _ _ q same (λ r.
     let h = then-ok (headerIn s a) _ r in
     by-eq (kindAt s a) kindAT _ _ (h .2) (λ k.
     let w = then-ok (attachmentIn s a) _ k in
     let l = lt-first _ _ _ _ (w .2) refused≢ok in
-    let m = then-ok (copyLinks (copyRoot s) s (linksAt s a - 1) (a + 32) (t .made)) _ (l .1) in
-    let c = links-kept s (copyRoot s) (root-kept s) (linksAt s a - 1) (a + 32) (t .made) (m .0) (m .1) in
-    attachments-other turns s (firstLink s a) _ t' (m .2) (other-more s a t (m .0) (c .0) (c .1) g))
+    let m = then-ok (copyLinks (copyRoot most s) s (linksAt s a - 1) (a + 32) (t .made)) _ (l .1) in
+    let c = links-kept s (copyRoot most s) (root-kept most s) (linksAt s a - 1) (a + 32) (t .made) (m .0) (m .1) in
+    attachments-other most turns s (firstLink s a) _ t' (m .2) (other-more s a t (m .0) (c .0) (c .1) g))
     same))
 
-pub attached-other : (s : List ℕ) (a : ℕ) (m : Copies) (t : Attached) → attachmentsOf s a m ≡ ok t
+pub attached-other : (most : ℕ) (s : List ℕ) (a : ℕ) (m : Copies) (t : Attached) → attachmentsOf most s a m ≡ ok t
     → (u : Attachment) → In u (t .attachments) → OtherLinks s (t .made .memo) (u .from)
 unfolding attachmentsOf
-attached-other s a m t e =
-    attachments-other (mostAttachments + 2) s a (record { attachments = []; made = m }) t e (λ u i. absurd (not-in i))
+attached-other most s a m t e =
+    attachments-other most (mostAttachments + 2) s a (record { attachments = []; made = m }) t e (λ u i. absurd (not-in i))

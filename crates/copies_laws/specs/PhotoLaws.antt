@@ -23,17 +23,17 @@ use Rattle.copies_laws.specs.AnswerLaws.{ok-same, refused≢ok, by-eq, b
 
 -- ---- the chain
 
-attached-in : (a : ℕ) (ts : List Attachment) → isAttached a ts ≡ isIn a (attachedFrom ts)
+pub attached-in : (a : ℕ) (ts : List Attachment) → isAttached a ts ≡ isIn a (attachedFrom ts)
 unfolding isAttached isIn attachedFrom
 attached-in a [] = refl
 attached-in a (t ∷ ts) = rw (attached-in a ts) refl
 
-attached-length : (ts : List Attachment) → length ts ≡ length (attachedFrom ts)
+pub attached-length : (ts : List Attachment) → length ts ≡ length (attachedFrom ts)
 unfolding attachedFrom
 attached-length [] = refl
 attached-length (t ∷ ts) = omega (arith, attached-length ts)
 
-attached-more : (ts us : List Attachment) → attachedFrom (ts ++ us) ≡ attachedFrom ts ++ attachedFrom us
+pub attached-more : (ts us : List Attachment) → attachedFrom (ts ++ us) ≡ attachedFrom ts ++ attachedFrom us
 unfolding attachedFrom
 attached-more [] us = refl
 attached-more (t ∷ ts) us = ap (λ (l : List ℕ). t .from ∷ l) (attached-more ts us)
@@ -77,11 +77,11 @@ eq-known {A} {P} {r} m n a b e f g = go (eqb m n) refl
     go false q = g (eqb-false m n q) (eq-no m n a b (eqb-false m n q) refl ∙ e)
 
 -- "following the attachments by 01's checks up to 19" finds what the later stage moves
-header-from : (turns : ℕ) (s : List ℕ) (a : ℕ) (t t' : Attached) → attachmentsFrom turns s a t ≡ ok t'
+header-from : (most turns : ℕ) (s : List ℕ) (a : ℕ) (t t' : Attached) → attachmentsFrom most turns s a t ≡ ok t'
     → headerFrom turns s a (attachedFrom (t .attachments)) ≡ ok (attachedFrom (t' .attachments))
 unfolding attachmentsFrom headerFrom attachedFrom attach
-header-from zero s a t t' e = ap (λ (u : Attached). ok (attachedFrom (u .attachments))) (ok-same e)
-header-from (suc turns) s a t t' e =
+header-from most zero s a t t' e = ap (λ (u : Attached). ok (attachedFrom (u .attachments))) (ok-same e)
+header-from most (suc turns) s a t t' e =
     let met : List ℕ = attachedFrom (t .attachments) in
     let same : _≡_ {A = Checked Attached} (ok t) (ok t') → _≡_ {A = Checked (List ℕ)} (ok met) (ok (attachedFrom (t' .attachments))) =
     λ q. ap (λ (u : Attached). ok (attachedFrom (u .attachments))) (ok-same q) in
@@ -92,18 +92,18 @@ header-from (suc turns) s a t t' e =
     alike-eq (kindAt s a) kindAT _ _ _ _ e (λ e.
     alike-then (attachmentIn s a) _ _ e (λ _ e.
     alike-lt (length (t .attachments)) mostAttachments _ _ _ _ e (λ e.
-    then-gives (copyLinks (copyRoot s) s (linksAt s a - 1) (a + 32) (t .made)) _ e (λ m e.
+    then-gives (copyLinks (copyRoot most s) s (linksAt s a - 1) (a + 32) (t .made)) _ e (λ m e.
     subst (λ (l : List ℕ). headerFrom turns s (firstLink s a) l ≡ ok (attachedFrom (t' .attachments)))
     (attached-more (t .attachments) _)
-    (header-from turns s (firstLink s a) (attach a (sizeAt s a) (t .made) m t) t' e)))
+    (header-from most turns s (firstLink s a) (attach a (sizeAt s a) (t .made) m t) t' e)))
     (λ e. absurd (refused≢ok e))))
     same))))
 
 -- an attachment that planning meets is one that is moved
-pub header-moved : (s : List ℕ) (m : Copies) (t : Attached) → attachmentsOf s (linkAt s 64 3) m ≡ ok t → headerAttachments s ≡ attachedFrom (t .attachments)
+pub header-moved : (most : ℕ) (s : List ℕ) (m : Copies) (t : Attached) → attachmentsOf most s (linkAt s 64 3) m ≡ ok t → headerAttachments s ≡ attachedFrom (t .attachments)
 unfolding attachmentsOf headerAttachments headerChain attachedFrom
-header-moved s m t e =
-    ap chainMet (header-from (mostAttachments + 2) s (linkAt s 64 3) (record { attachments = []; made = m }) t e)
+header-moved most s m t e =
+    ap chainMet (header-from most (mostAttachments + 2) s (linkAt s 64 3) (record { attachments = []; made = m }) t e)
 
 -- none stood at 0
 nonzero-more : (met : List ℕ) (a : ℕ) → (isIn 0 met ≡ false) → (a ≡ 0 → ⊥) → isIn 0 (met ++ (a ∷ [])) ≡ false
@@ -124,11 +124,11 @@ header-nonzero (suc turns) s a met l h e =
     header-nonzero turns s (firstLink s a) (met ++ (a ∷ [])) l (nonzero-more met a h n) (lt-first _ _ _ _ e refused≢ok .1)))
     same)))
 
-pub attached-nonzero : (s : List ℕ) (m : Copies) (t : Attached) → attachmentsOf s (linkAt s 64 3) m ≡ ok t → isIn 0 (attachedFrom (t .attachments)) ≡ false
+pub attached-nonzero : (most : ℕ) (s : List ℕ) (m : Copies) (t : Attached) → attachmentsOf most s (linkAt s 64 3) m ≡ ok t → isIn 0 (attachedFrom (t .attachments)) ≡ false
 unfolding attachmentsOf attachedFrom isIn
-attached-nonzero s m t e =
+attached-nonzero most s m t e =
     header-nonzero (mostAttachments + 2) s (linkAt s 64 3) [] (attachedFrom (t .attachments)) refl
-    (header-from (mostAttachments + 2) s (linkAt s 64 3) (record { attachments = []; made = m }) t e)
+    (header-from most (mostAttachments + 2) s (linkAt s 64 3) (record { attachments = []; made = m }) t e)
 
 -- ---- references
 

@@ -14,7 +14,7 @@ use Rattle.base.specs.Choice.{pick, ifEq}
 use Rattle.base.specs.Blit.{part}
 use Rattle.plan.specs.Copies.{Copy, copyOf}
 use Rattle.work_words.specs.CopyWords.{historyAt}
-use Rattle.placing.specs.Answer.{linkOf}
+use Rattle.copier.specs.Answer.{linkOf}
 use Rattle.index.specs.Index.{newest, Indexed}
 use Rattle.index.specs.IndexLaws.{newest-least, newest-own, index-more, older-is}
 use Rattle.result.specs.Fill.{historyLink, firstNew}

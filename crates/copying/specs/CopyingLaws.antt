@@ -19,7 +19,7 @@ use Rattle.base.specs.BlitLaws.{blit-append}
 use Rattle.mdf.specs.Block.{kindAt, sizeAt, linksAt, linkAt, dataAt}
 use Rattle.plan.specs.Copies.{Copy, copyOf, kindFH}
 use Rattle.work_words.specs.CopyWords.{historyAt}
-use Rattle.placing.specs.Answer.{linkOf}
+use Rattle.copier.specs.Answer.{linkOf}
 use Rattle.puts.specs.PutLaws.{blit-past, part-past, take-min}
 use Rattle.result.specs.Fill.{header, orZero, newLink, newLinks, historyLink, firstNew, copiedLinks, dataOf, copiedBytes, atBytes}
 use Rattle.result.specs.FillLaws.{length-header}

@@ -68,7 +68,7 @@ placed-at s size (p ∷ ps) (suc k) c e =
     let r = placed-at s size ps k c e in
     record { placed = r .placed; isIn = there (r .isIn); same = r .same; numbered = r .numbered }
 
-placed-many : (ps : List Placed) → length (columnsPlaced ps) ≡ length ps
+pub placed-many : (ps : List Placed) → length (columnsPlaced ps) ≡ length ps
 unfolding columnsPlaced
 placed-many [] = refl
 placed-many (p ∷ ps) = ap suc (placed-many ps)

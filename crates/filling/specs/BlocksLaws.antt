@@ -3,7 +3,7 @@ use Prim.Native.Nat.{ℕ, zero, suc, _+_, _-_, _*_, _/_, _%_, _^_, _≤_, _<_, m
 use mathlib.Core.List.{List, [], _∷_, _++_, append-assoc, append-nil}
 use mathlib.Core.Bool.{Bool, true, false}
 use mathlib.Core.Path.{_≡_, refl, sym, ap, _∙_}
-use native.Mathlib.Nat.{add-zero, add-comm, add-mod-mod, div-add-mod', min-le-left, min-eq-left, min-eq-right, sub-zero, suc-sub-suc, le-of-lt}
+use native.Mathlib.Nat.{add-zero, add-comm, add-mod-mod, div-add-mod', min-comm, min-le-left, min-eq-left, min-eq-right, sub-zero, suc-sub-suc, le-of-lt}
 use native.Mathlib.Numerals.{sub-one}
 use native.Mathlib.Omega.{arith}
 use lib.ListN.{length, take, drop, replicate, length-append, length-take, length-drop}
@@ -21,8 +21,8 @@ use Rattle.mdf.specs.Group.{groupFlags}
 use Rattle.plan.specs.Channel.{channelFlags}
 use Rattle.plan.specs.Layout.{mdSize, dlSize}
 use Rattle.plan.specs.Geometry.{align8}
-use Rattle.puts.specs.PutLaws.{blit-past, le-add, le-wrap, take-min, take-replicate, part-past, length-header}
-use Rattle.result.specs.Fill.{header, mdBytes, cnFlags, blockLinks, dataOf, hdData}
+use Rattle.puts.specs.PutLaws.{blit-past, blit-take, le-add, le-wrap, take-min, take-replicate, part-past, length-header}
+use Rattle.result.specs.Fill.{header, mdBytes, cnFlags, blockLinks, dataOf}
 use Rattle.filling.specs.Blocks.{Laid, flagsFrom, cgHeader, cgFront, cgDataFrom, cgFrom, cnLinks, dlFrom}
 
 -- cs laid just past bs
@@ -84,27 +84,43 @@ md-laid n w text d₀ d₁ d₂ d₃ e q s t u =
     let two = blit-next 0 24 _ _ d₀ d₁ d₂ (rw front at s) (rw all at t) (simp length-header) in
     rw (← e) (blit-next 0 (24 + n) _ _ d₀ d₂ d₃ two (rw (md-pad n) at u) (simp (length-append, length-header) (omega arith)))
 
--- ---- HD: the data cut or filled to 32 bytes
+-- ---- data cut or filled
 take-pad : (m j : ℕ) (xs : List ℕ) → m ≤ j → take m (xs ++ replicate j 0) ≡ take m xs ++ replicate (m - length (take m xs)) 0
 take-pad zero j xs h = refl
 take-pad (suc m) j [] h = take-replicate (suc m) j 0 ∙ rw (min-eq-left h, sub-zero)
 take-pad (suc m) j (x ∷ xs) h = rw suc-sub-suc (ap (λ (ys : List ℕ). x ∷ ys) (take-pad m j xs (omega arith)))
 
-pub hd-data : (s : List ℕ) → hdData s
-    ≡ part (dataAt s 64) (min 32 (sizeAt s 64 - (24 + 8 * linksAt s 64))) s
-    ++ replicate (32 - length (part (dataAt s 64) (min 32 (sizeAt s 64 - (24 + 8 * linksAt s 64))) s)) 0
-unfolding hdData dataOf part
-hd-data s =
-    rw take-min (take-pad 32 32 (take (sizeAt s 64 - (24 + 8 * linksAt s 64)) (drop (dataAt s 64) s)) (omega arith))
+cut-data : (m n a : ℕ) (s : List ℕ) → m ≤ n → take m (dataOf s a ++ replicate n 0)
+    ≡ part (dataAt s a) (min m (sizeAt s a - (24 + 8 * linksAt s a))) s
+    ++ replicate (m - length (part (dataAt s a) (min m (sizeAt s a - (24 + 8 * linksAt s a))) s)) 0
+unfolding dataOf part
+cut-data m n a s h = rw take-min (take-pad m n (take (sizeAt s a - (24 + 8 * linksAt s a)) (drop (dataAt s a) s)) h)
 
-pub hd-laid : (n size p : ℕ) (s d₀ d₁ d₂ : List ℕ) → size ≡ sizeAt s 64 - (24 + 8 * linksAt s 64) → n ≡ min 32 size
-    → Laid 72 (part (dataAt s 64 + 0) n s) (72 + n) d₀ d₁ p → d₂ ≡ blit p (replicate (104 - p) 0) d₁ → d₂ ≡ blit 72 (hdData s) d₀
-hd-laid n size p s d₀ d₁ d₂ e f l z =
-    let q : n ≡ min 32 (sizeAt s 64 - (24 + 8 * linksAt s 64)) = f ∙ ap (min 32) e in
-    let k : ℕ = length (part (dataAt s 64) n s) in
-    let m : Laid 72 (part (dataAt s 64) n s) (72 + n) d₀ d₁ p = rw add-zero at l in
-    let pad : 104 - p ≡ 32 - k = omega (arith, m .past) in
-    rw (hd-data s, ← q) (blit-next 72 p _ _ d₀ d₁ d₂ (m .is) (rw pad at z) (m .past))
+past-all : (at m j p : ℕ) → p ≡ at + j → at + m - p ≡ m - j
+past-all at m j p e = omega arith
+
+-- only those that have room count
+blit-clip : (at m n : ℕ) (bs d : List ℕ) → m ≡ min n (length d - at) → blit at (take m bs) d ≡ blit at (take n bs) d
+blit-clip at m n bs d r =
+    let e : take m bs ≡ take (length d - at) (take n bs) = rw (r, min-comm n (length d - at)) (take-min (length d - at) n bs) in
+    rw e (blit-take (length d - at) (take n bs) at d (le-add-sub (length d) at))
+  where
+    le-add-sub : (k i : ℕ) → k ≤ i + (k - i)
+    le-add-sub k i = omega arith
+
+-- m of n bytes have room
+pub cut-laid : (at m n a k size p : ℕ) (s d₀ d₁ d₂ : List ℕ) → m ≡ min n (length d₀ - at) → size ≡ sizeAt s a - (24 + 8 * linksAt s a)
+    → k ≡ min m size → Laid at (part (dataAt s a + 0) k s) (at + k) d₀ d₁ p → d₂ ≡ blit p (replicate (at + m - p) 0) d₁
+    → d₂ ≡ blit at (take n (dataOf s a ++ replicate n 0)) d₀
+cut-laid at m n a k size p s d₀ d₁ d₂ r e f l z =
+    let q : k ≡ min m (sizeAt s a - (24 + 8 * linksAt s a)) = f ∙ ap (min m) e in
+    let j : ℕ = length (part (dataAt s a) k s) in
+    let t : Laid at (part (dataAt s a) k s) (at + k) d₀ d₁ p = rw add-zero at l in
+    let pad : at + m - p ≡ m - j = past-all at m j p (t .past) in
+    let few : m ≤ n = rw r (min-le-left n (length d₀ - at)) in
+    let cut : d₂ ≡ blit at (take m (dataOf s a ++ replicate n 0)) d₀ =
+    rw (cut-data m n a s few, ← q) (blit-next at p _ _ d₀ d₁ d₂ (t .is) (rw pad at z) (t .past)) in
+    cut ∙ blit-clip at m n (dataOf s a ++ replicate n 0) d₀ r
 
 -- ---- CG
 pub flags-remote : (s : List ℕ) (g f : ℕ) (remote : Bool) → Field 2 s (dataAt s g + 16) f → remote ≡ true

@@ -21,14 +21,14 @@ use puts::zero;
 ghost use mathlib.Core.Path.{_≡_};
 ghost use mathlib.Core.List.{_++_};
 ghost use Prim.Native.Nat.{_+_, _*_, _-_, _%_, _≤_, _<_};
-ghost use lib.ListN.{replicate};
+ghost use lib.ListN.{take, replicate};
 ghost use Rattle.base.specs.Field.{le};
 ghost use Rattle.base.specs.Blit.{blit, part};
 ghost use Rattle.mdf.specs.Block.{sizeAt, linksAt, dataAt};
 ghost use Rattle.mdf.specs.Group.{groupFlags};
 ghost use Rattle.plan.specs.Channel.{channelFlags};
 ghost use Rattle.plan.specs.Layout.{dlSize};
-ghost use Rattle.result.specs.Fill.{one, mdBytes, fhBytes, hdData, hdBytes, cnFlags, blockLinks};
+ghost use Rattle.result.specs.Fill.{one, mdBytes, fhBytes, dataOf, hdBytes, cnFlags, blockLinks};
 ghost use Rattle.filling.specs.Blocks.{Laid, dgFrom, flagsFrom, cgHeader, cgFront, cgCounts, cgDataFrom, cgFrom};
 ghost use Rattle.filling.specs.Blocks.{cnLinks, cnTypes, cnRest, cnFront, cnDataFrom, dlFrom};
 
@@ -36,7 +36,7 @@ const FH: u64 = 1212556067;
 
 // n bytes from byte i on of the data of the block at a, as many as the image has, at index at; the index past them.
 fn put_data(d: &mut [u8], at: usize, image: &[u8], a: u64, i: u64, n: u64) -> usize
-    requires { ⌜ at + n < 4096 ⌝ }
+    requires { ⌜ at + n < 18446744073709551616 ⌝ }
     ensures { λ r. ⌜ Laid at (part (dataAt (now (image .entry)) a + i) n (now (image .entry))) (at + n) (now (d .entry)) (now (d .exit)) r ⌝ }
 {
     let all = image.len() as u64;
@@ -100,13 +100,18 @@ fn data_size(image: &[u8], a: u64) -> u64
     size - 24 - 8 * links
 }
 
-// The HD's data, cut or filled to 32 bytes.
-fn put_hd_data(d: &mut [u8], image: &[u8])
-    ensures { λ _. ⌜ now (d .exit) ≡ blit 72 (hdData (now (image .entry))) (now (d .entry)) ⌝ }
+// n bytes of the data of the block at a, cut or filled with zeros, at index at.
+pub fn put_cut_data(d: &mut [u8], at: usize, n: u64, image: &[u8], a: u64)
+    ensures { λ _. ⌜ now (d .exit) ≡ blit at (take n (dataOf (now (image .entry)) a ++ replicate n 0)) (now (d .entry)) ⌝ }
 {
-    let n = least(32, data_size(image, 64));
-    let p = put_data(d, 72, image, 64, 0, n);
-    zero(d, p, (104 - p) as u64);
+    let room = d.len();
+    if room <= at {
+        return;
+    }
+    let m = least(n, (room - at) as u64);
+    let k = least(m, data_size(image, a));
+    let p = put_data(d, at, image, a, 0, k);
+    zero(d, p, (at + m as usize - p) as u64);
 }
 
 // The HD, with its first DG, FH and AT.
@@ -120,7 +125,7 @@ pub fn put_hd(d: &mut [u8], image: &[u8], dg: u64, fh: u64, attachment: u64, com
     put_u64(d, 48, attachment);
     put_u64(d, 56, 0);
     put_u64(d, 64, comment);
-    put_hd_data(d, image);
+    put_cut_data(d, 72, 32, image, 64);
 }
 
 // A column's DG.
@@ -155,7 +160,7 @@ fn put_cg_header(d: &mut [u8], remote: bool)
 }
 
 // Its header and the six links that every CG has.
-fn put_cg_front(d: &mut [u8], remote: bool, cn: u64, name: u64, source: u64, comment: u64)
+pub fn put_cg_front(d: &mut [u8], remote: bool, cn: u64, name: u64, source: u64, comment: u64)
     ensures { λ _. ⌜ now (d .exit) ≡ blit 0 (cgFront remote cn name source comment) (now (d .entry)) ⌝ }
 {
     put_cg_header(d, remote);

@@ -49,12 +49,12 @@ use Rattle.payload_laws.specs.UnitLaws.{IsUnit, to-past, to-is, first-some}
 use Rattle.payload_laws.specs.Near.{Near}
 use Rattle.payload_laws.specs.NearLaws.{near-close, eight-within, near-append, near-cons, near-none}
 
-dl-none : (n : ℕ) → n ≡ 0 → dlSize n ≡ 0
+pub dl-none : (n : ℕ) → n ≡ 0 → dlSize n ≡ 0
 unfolding dlSize
 dl-none n e = sym (eq-yes _ _ _ _ e refl)
 
 -- ---- starts
-signal-starts : (u : ℕ) → 0 < u → (g : Signal) (e : ℕ) → (g ≡ noSignal → ⊥) → signalAt u (signalSizes g) e % u ≡ 0
+pub signal-starts : (u : ℕ) → 0 < u → (g : Signal) (e : ℕ) → (g ≡ noSignal → ⊥) → signalAt u (signalSizes g) e % u ≡ 0
 signal-starts u h noSignal e s = absurd (s refl)
 signal-starts u h (signalData fs) e s = to-is u e h
 
@@ -69,11 +69,11 @@ all-start o h s size a d (c ∷ cs) p here =
 all-start o h s size a d (c ∷ cs) p (there i) = all-start o h s size _ _ cs p i
 
 module _ (u : ℕ) (i : IsUnit u) where
-  here-near : (a : ℕ) → a ≤ alignTo u a
+  pub here-near : (a : ℕ) → a ≤ alignTo u a
   here-near a = to-past u a (omega (arith, i .least))
 
   -- ---- copies and attachments
-  copied-near : (s chain : List ℕ) (memo : List Copy) (fh a e : ℕ) (cs : List Copy) → Laid s a cs e → Tight s a cs e
+  pub copied-near : (s chain : List ℕ) (memo : List Copy) (fh a e : ℕ) (cs : List Copy) → Laid s a cs e → Tight s a cs e
       → Near u a (copiedBlocks s chain memo fh cs) e
   unfolding Laid Tight copiedBlocks Near
   copied-near s chain memo fh a e [] l t = let k : e ≤ align8 a = t in omega (arith, eight-within u i a)
@@ -81,7 +81,7 @@ module _ (u : ℕ) (i : IsUnit u) where
       let k : c .to ≤ align8 a = t .0 in
       (omega (arith, eight-within u i a), rw (length-copied s chain memo fh (c .from) (l .1)) (copied-near s chain memo fh _ e cs (l .2) (t .1)))
 
-  attached-near : (s chain : List ℕ) (memo : List Copy) (fh a e : ℕ) (ts : List Attachment) → LaidAt s a ts e → TightAt s a ts e
+  pub attached-near : (s chain : List ℕ) (memo : List Copy) (fh a e : ℕ) (ts : List Attachment) → LaidAt s a ts e → TightAt s a ts e
       → Near u a (attachmentBlocks s chain memo fh ts) e
   unfolding LaidAt TightAt attachmentBlocks Near
   attached-near s chain memo fh a e [] l t = let k : e ≤ align8 a = t in omega (arith, eight-within u i a)

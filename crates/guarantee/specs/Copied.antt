@@ -12,7 +12,7 @@ use Rattle.mdf.specs.Block.{linkAt}
 use Rattle.plan.specs.Rules.{Rules}
 use Rattle.plan.specs.Photos.{references, photosIn}
 use Rattle.plan.specs.Columns.{Column}
-use Rattle.plan.specs.Copies.{Copy, Attachment, columnLinks}
+use Rattle.plan.specs.Copies.{Copy, mostCopies, Attachment, columnLinks}
 use Rattle.plan.specs.Layout.{Layout, Placed, cgOf, cnOf}
 use Rattle.result.specs.Fill.{Block, block, copiedBytes, copiedBlocks, attachmentBlocks, dgBytes, cgBytes, cnBytes, structureBlocks, nextDG, newLink, nextAttachment}
 use Rattle.result.specs.Ordered.{Ordered}
@@ -45,12 +45,12 @@ abbrev blockOf : List ℕ → List ℕ → List Copy → ℕ → Copy → Block
 blockOf s chain memo fh c = block (c .to) (copiedBytes s chain memo fh (c .from))
 
 module _ (s chain : List ℕ) (memo : List Copy) (fh : ℕ) {c : Copy} where
-  copied-in : (cs : List Copy) → In c cs → In (blockOf s chain memo fh c) (copiedBlocks s chain memo fh cs)
+  pub copied-in : (cs : List Copy) → In c cs → In (blockOf s chain memo fh c) (copiedBlocks s chain memo fh cs)
   unfolding copiedBlocks
   copied-in (c ∷ cs) here = here
   copied-in (b ∷ cs) (there i) = there (copied-in cs i)
 
-  attached-in : (ts : List Attachment) → In c (ownCopies ts) → In (blockOf s chain memo fh c) (attachmentBlocks s chain memo fh ts)
+  pub attached-in : (ts : List Attachment) → In c (ownCopies ts) → In (blockOf s chain memo fh c) (attachmentBlocks s chain memo fh ts)
   unfolding ownCopies attachmentBlocks
   attached-in (t ∷ ts) i =
       in-either (t .own) i (λ j. in-front _ (copied-in (t .own) j)) (λ j. in-back (copiedBlocks s chain memo fh (t .own)) (there (attached-in ts j)))
@@ -90,21 +90,21 @@ module _ (x : Args) (cs : List Column) (l : Layout) (o : LaidOut (rulesOf x) (x 
 
   -- ---- what was followed
   columns-all : Kept (x .image) (l .metadata .memo) (memoOf l)
-  columns-all = attached-kept (x .image) _ _ (l .attached) (o .attached)
+  columns-all = attached-kept mostCopies (x .image) _ _ (l .attached) (o .attached)
 
   pub all-made : (c : Copy) → In c (memoOf l) → Made (x .image) (memoOf l) c
   all-made =
-      kept-then (root-kept (x .image) _ _ _ (o .comment) .0)
-      (kept-then (past-kept (x .image) _ _ _ (o .past)) (kept-then (columns-kept (x .image) cs _ _ (o .metadata) .0) columns-all)) .made
+      kept-then (root-kept mostCopies (x .image) _ _ _ (o .comment) .0)
+      (kept-then (past-kept mostCopies (x .image) _ _ _ (o .past)) (kept-then (columns-kept mostCopies (x .image) cs _ _ (o .metadata) .0) columns-all)) .made
       (λ c i. absurd (in-none i))
 
   pub comment-followed : Followed (x .image) (memoOf l) (linkAt (x .image) 64 5)
   comment-followed =
-      followed-kept (kept-then (past-kept (x .image) _ _ _ (o .past)) (kept-then (columns-kept (x .image) cs _ _ (o .metadata) .0) columns-all)) _
-      (root-kept (x .image) _ _ _ (o .comment) .1)
+      followed-kept (kept-then (past-kept mostCopies (x .image) _ _ _ (o .past)) (kept-then (columns-kept mostCopies (x .image) cs _ _ (o .metadata) .0) columns-all)) _
+      (root-kept mostCopies (x .image) _ _ _ (o .comment) .1)
 
   pub column-followed : (c : Column) → In c cs → (a : ℕ) → In a (columnLinks (x .image) c) → Followed (x .image) (memoOf l) a
-  column-followed c i a j = followed-kept columns-all a (columns-kept (x .image) cs _ _ (o .metadata) .1 c i a j)
+  column-followed c i a j = followed-kept columns-all a (columns-kept mostCopies (x .image) cs _ _ (o .metadata) .1 c i a j)
 
   -- ---- the file
   module _ (f : List ℕ) (bytes : (i : ℕ) → getD (x .image) i 0 < 256) (order : Ordered 0 (blocksOf x l) (l .fileSize)) (small : l .fileSize < 256 ^ 8)
@@ -136,10 +136,10 @@ module _ (x : Args) (cs : List Column) (l : Layout) (o : LaidOut (rulesOf x) (x 
     unfolding hdLinks
     past-due =
         let s : List ℕ = x .image in
-        let m = past-listed s _ _ _ (o .past) in
+        let m = past-listed mostCopies s _ _ _ (o .past) in
         let small : l .fh < 256 ^ 8 = omega (arith, rest-within x l order (in-fh x l) .1, small) in
         let chained : l .past .chain ≡ m .more = m .chain in
-        let keeps = kept-then (columns-kept s cs _ _ (o .metadata) .0) columns-all in
+        let keeps = kept-then (columns-kept mostCopies s cs _ _ (o .metadata) .0) columns-all in
         let due : HistoryDue s f (l .past .chain) (l .fh) (l .past .chain) (firstFH (memoOf l) (l .past .chain) (l .fh)) =
         history-due s f bytes (l .past .chain) (memoOf l) (l .fh) copy-stands small [] (l .past .chain) refl (rw chained (m .fresh))
         (λ b i. past-kept-to keeps b (m .each b (subst (In b) chained i))) in
@@ -166,7 +166,7 @@ module _ (x : Args) (cs : List Column) (l : Layout) (o : LaidOut (rulesOf x) (x 
     pub attached-due : AttachmentsDue (x .image) f (l .past .chain) (attachedFrom (l .attached .attachments)) (linkAt f 64 3)
     attached-due =
         rw first-attached (attachments-due (x .image) f bytes (l .past .chain) (memoOf l) (l .fh) copy-stands (l .attached .attachments) _ _
-        (attachments-laid o .laid) (attached-other (x .image) _ _ _ (o .attached)) attached-above attached-below
+        (attachments-laid o .laid) (attached-other mostCopies (x .image) _ _ _ (o .attached)) attached-above attached-below
         (λ c i. filled c (in-rest x l (in-attachments x l i))))
 
     attached-at : (k : ℕ) → k < length (attachedFrom (l .attached .attachments))
@@ -211,8 +211,8 @@ module _ (x : Args) (cs : List Column) (l : Layout) (o : LaidOut (rulesOf x) (x 
       column-photos e tested =
           let s : List ℕ = x .image in
           let cn = cn-link (rulesOf x) s (x .blockSize) (memoOf l) (l .attached .attachments) p sound (filled _ (in-structure x l (parts .cn))) in
-          photos-due f (l .attached .attachments) (attached-nonzero s _ _ (o .attached)) attached-at s (p .column .channel) (cnOf p)
-          (header-moved s _ _ (o .attached)) tested
+          photos-due f (l .attached .attachments) (attached-nonzero mostCopies s _ _ (o .attached)) attached-at s (p .column .channel) (cnOf p)
+          (header-moved mostCopies s _ _ (o .attached)) tested
           (rw (← e) (λ i h b.
           let w = cn-photo s (memoOf l) (l .attached .attachments) p i in
           cn (8 + i) (omega arith) (rw w b) ∙ w))

@@ -1,5 +1,5 @@
 -- History and attachment chains are followed to their end: an accepted chain never ends for want of turns.
-use Prim.Native.Nat.{ℕ, zero, suc, _+_, _*_, _-_, _≤_}
+use Prim.Native.Nat.{ℕ, zero, suc, _+_, _*_, _-_, _≤_, _<_}
 use mathlib.Core.Bool.{Bool, true, false}
 use mathlib.Core.List.{List, [], _∷_, _++_, append-nil, append-assoc}
 use mathlib.Core.Logic.{_⊎_, inl, inr}
@@ -14,13 +14,15 @@ use Rattle.base.specs.ChoiceLaws.{lt-first}
 use Rattle.base.specs.Checked.{Checked, ok, refused, andThen}
 use Rattle.mdf.specs.Block.{kindAt, sizeAt, linksAt, firstLink, headerIn, wholeAt}
 use Rattle.mdf.specs.Chain.{isIn}
-use Rattle.plan.specs.Copies.{Copy, Copies, copyOf, withCopy, isCopied, lostLinks, copyLinks, onCopy, copyAt, copyRoot, mostCopies, History, history, historyFrom, historyOf, Attachment, Attached, isAttached, attach, attachmentsFrom, attachmentsOf}
+use Rattle.plan.specs.Copies.{Copy, Copies, copyOf, withCopy, isCopied, lostLinks, copyLinks, onCopy, copyAt, copyRoot, History, history, historyFrom, historyOf, Attachment, Attached, isAttached, attach, attachmentsFrom, attachmentsOf}
 use Rattle.plan.specs.Photos.{kindAT, mostAttachments, attachmentIn}
 use Rattle.result.specs.Member.{In, here, there}
 use Rattle.result.specs.Recording.{Leads, Followed, isAT, attachedFrom}
 use Rattle.copies_laws.specs.Laid.{Grown}
 use Rattle.copies_laws.specs.AnswerLaws.{eq-back}
 use Rattle.copies_laws.specs.CopyLaws.{root-grown}
+use Rattle.copies_laws.specs.PhotoLaws.{attached-more}
+use Rattle.copies_laws.specs.Alike.{froms, froms-append, froms-length}
 use Rattle.plan_laws.specs.Answers.{refused≢ok, ok-same, true≢false, with-ok, eq-cases, pick-cases, or-not}
 use Rattle.plan_laws.specs.Lists.{in-none, same, same-yes, same-no, occurs, occurs-append, no-longer}
 use Rattle.plan_laws.specs.DecideLaws.{none≢some}
@@ -45,20 +47,6 @@ not-in a (b ∷ l) e =
 
 -- ---- what is copied
 
-unfoldable froms : List Copy → List ℕ
-froms [] = []
-froms (c ∷ cs) = c .from ∷ froms cs
-
-froms-append : (cs ds : List Copy) → froms (cs ++ ds) ≡ froms cs ++ froms ds
-unfolding froms
-froms-append [] ds = refl
-froms-append (c ∷ cs) ds = ap (λ (l : List ℕ). c .from ∷ l) (froms-append cs ds)
-
-froms-length : (cs : List Copy) → length (froms cs) ≡ length cs
-unfolding froms
-froms-length [] = refl
-froms-length (c ∷ cs) = ap suc (froms-length cs)
-
 copy-found : (a k : ℕ) (cs : List Copy) → copyOf a cs ≡ some k → 1 ≤ occurs a (froms cs)
 unfolding copyOf froms occurs
 copy-found a k [] e = absurd (none≢some e)
@@ -72,15 +60,15 @@ unfolding withCopy froms occurs
 placed-last a size n = rw (froms-append, occurs-append) (omega (arith, same-yes a a refl))
 
 -- what becomes of a block that was not copied before, by what becomes of its links
-abbrev fresh : List ℕ → ℕ → Copies → Checked Copies → Checked Copies
-fresh s a m links =
+abbrev fresh : ℕ → List ℕ → ℕ → Copies → Checked Copies → Checked Copies
+fresh most s a m links =
     pick (isIn a []) (refused 16 a) (andThen (wholeAt s a) (λ _. pick (isCopied (kindAt s a))
-    (ifLt (length (m .memo) + 0) mostCopies (andThen links (λ n. ok (withCopy a (sizeAt s a) n))) (refused 19 a)) (ok m)))
+    (ifLt (length (m .memo) + 0) most (andThen links (λ n. ok (withCopy a (sizeAt s a) n))) (refused 19 a)) (ok m)))
 
-fresh-copied : (s : List ℕ) (a : ℕ) (m m' : Copies) (links : Checked Copies) → fresh s a m links ≡ ok m' → isCopied (kindAt s a) ≡ true
+fresh-copied : (most : ℕ) (s : List ℕ) (a : ℕ) (m m' : Copies) (links : Checked Copies) → fresh most s a m links ≡ ok m' → isCopied (kindAt s a) ≡ true
     → 1 ≤ occurs a (froms (m' .memo))
 unfolding isIn
-fresh-copied s a m m' links e k =
+fresh-copied most s a m m' links e k =
     with-ok (wholeAt s a) _ e (λ _ _ q.
     pick-cases (isCopied (kindAt s a)) _ _ q
     (λ _ q. with-ok links _ (lt-first _ _ _ _ q refused≢ok .1) (λ n _ r.
@@ -88,20 +76,20 @@ fresh-copied s a m m' links e k =
     (λ f _. absurd (true≢false (sym k ∙ f))))
 
 -- a block of a copied kind is among the copies afterwards
-copied-at : (left : ℕ) (s : List ℕ) (a : ℕ) (m m' : Copies) → copyAt (suc left) s [] a m ≡ ok m' → (a ≡ 0 → ⊥) → isCopied (kindAt s a) ≡ true
+copied-at : (most left : ℕ) (s : List ℕ) (a : ℕ) (m m' : Copies) → copyAt most (suc left) s [] a m ≡ ok m' → (a ≡ 0 → ⊥) → isCopied (kindAt s a) ≡ true
     → 1 ≤ occurs a (froms (m' .memo))
 unfolding copyAt
-copied-at left s a m m' e n k =
-    let links : Checked Copies = copyLinks (copyAt left s (a ∷ [])) s (linksAt s a - lostLinks s a) (a + 24 + 8 * lostLinks s a) m in
+copied-at most left s a m m' e n k =
+    let links : Checked Copies = copyLinks (copyAt most left s (a ∷ [])) s (linksAt s a - lostLinks s a) (a + 24 + 8 * lostLinks s a) m in
     eq-cases a 0 _ _ e (λ z _. absurd (n z)) (λ _ q. go links (copyOf a (m .memo)) refl q)
   where
-    go : (links : Checked Copies) (o : Option ℕ) → copyOf a (m .memo) ≡ o → onCopy o m (fresh s a m links) ≡ ok m' → 1 ≤ occurs a (froms (m' .memo))
+    go : (links : Checked Copies) (o : Option ℕ) → copyOf a (m .memo) ≡ o → onCopy o m (fresh most s a m links) ≡ ok m' → 1 ≤ occurs a (froms (m' .memo))
     go links (some p) q r = subst (λ (x : Copies). 1 ≤ occurs a (froms (x .memo))) (ok-same r) (copy-found a p (m .memo) q)
-    go links none q r = fresh-copied s a m m' links r k
+    go links none q r = fresh-copied most s a m m' links r k
 
-root-copied : (s : List ℕ) (a : ℕ) (m m' : Copies) → copyRoot s a m ≡ ok m' → (a ≡ 0 → ⊥) → isCopied (kindAt s a) ≡ true → 1 ≤ occurs a (froms (m' .memo))
+root-copied : (most : ℕ) (s : List ℕ) (a : ℕ) (m m' : Copies) → copyRoot most s a m ≡ ok m' → (a ≡ 0 → ⊥) → isCopied (kindAt s a) ≡ true → 1 ≤ occurs a (froms (m' .memo))
 unfolding copyRoot
-root-copied s a m m' e n k = copied-at 64 s a m m' e n k
+root-copied most s a m m' e n k = copied-at most 64 s a m m' e n k
 
 -- ---- the history chain
 
@@ -139,50 +127,50 @@ rest-all s goesOn a met r =
     }
 
 -- every block of the chain is copied, so there are no more than copies
-record Held (h : History) : Type 0 where
+record Held (most : ℕ) (h : History) : Type 0 where
   copied : (x : ℕ) → occurs x (h .chain) ≤ occurs x (froms (h .made .memo))
-  few : length (h .made .memo) ≤ 2048
+  few : length (h .made .memo) ≤ most
 
-held-few : {h : History} → Held h → length (h .chain) ≤ 2048
-held-few {h} k = omega (arith, no-longer (h .chain) (froms (h .made .memo)) (k .copied), froms-length (h .made .memo), k .few)
+held-few : {most : ℕ} {h : History} → Held most h → length (h .chain) ≤ most
+held-few {most} {h} k = omega (arith, no-longer (h .chain) (froms (h .made .memo)) (k .copied), froms-length (h .made .memo), k .few)
 
-held-more : (s : List ℕ) (a : ℕ) (h : History) (m : Copies) → Held h → isIn a (h .chain) ≡ false → (a ≡ 0 → ⊥) → isCopied (kindAt s a) ≡ true
-    → copyRoot s a (h .made) ≡ ok m → Held (history (h .chain ++ (a ∷ [])) m)
+held-more : (most : ℕ) (s : List ℕ) (a : ℕ) (h : History) (m : Copies) → Held most h → isIn a (h .chain) ≡ false → (a ≡ 0 → ⊥) → isCopied (kindAt s a) ≡ true
+    → copyRoot most s a (h .made) ≡ ok m → Held most (history (h .chain ++ (a ∷ [])) m)
 unfolding occurs
-held-more s a h m k i n c e =
+held-more most s a h m k i n c e =
     let g = root-grown s a (h .made) m e in
     record { copied = λ x. one g x; few = omega (arith, g .few (omega (arith, k .few))) }
   where
-    one : Grown s 0 (h .made) m → (x : ℕ) → occurs x (h .chain ++ (a ∷ [])) ≤ occurs x (froms (m .memo))
+    one : Grown most s 0 (h .made) m → (x : ℕ) → occurs x (h .chain ++ (a ∷ [])) ≤ occurs x (froms (m .memo))
     one g x =
         let old : occurs x (froms (m .memo)) ≡ occurs x (froms (h .made .memo)) + occurs x (froms (g .new)) =
         ap (λ (l : List Copy). occurs x (froms l)) (g .memo) ∙ ap (occurs x) (froms-append (h .made .memo) (g .new)) ∙ occurs-append x (froms (h .made .memo)) (froms (g .new)) in
         or-not a x
         (λ q. let z : occurs x (h .chain) ≡ 0 = rw q at (not-in a (h .chain) i) in
-        let t : 1 ≤ occurs x (froms (m .memo)) = rw q at (root-copied s a (h .made) m e n c) in
+        let t : 1 ≤ occurs x (froms (m .memo)) = rw q at (root-copied most s a (h .made) m e n c) in
         omega (arith, occurs-append x (h .chain) (a ∷ []), same-yes a x q))
         (λ q. omega (arith, occurs-append x (h .chain) (a ∷ []), same-no a x q, k .copied x, old))
 
-history-rest : (turns : ℕ) (s : List ℕ) (a : ℕ) (h h' : History) → historyFrom turns s a h ≡ ok h' → Held h → 2049 ≤ turns + length (h .chain)
+history-rest : (most turns : ℕ) (s : List ℕ) (a : ℕ) (h h' : History) → historyFrom most turns s a h ≡ ok h' → Held most h → most < turns + length (h .chain)
     → Rest s isCopied a (h .chain) (h' .chain)
 unfolding historyFrom
-history-rest zero s a h h' e k l = absurd (omega (arith, held-few k))
-history-rest (suc turns) s a h h' e k l =
+history-rest most zero s a h h' e k l = absurd (omega (arith, held-few k))
+history-rest most (suc turns) s a h h' e k l =
     let same : ok h ≡ ok h' → h .chain ≡ h' .chain = λ q. ap (λ (x : History). x .chain) (ok-same q) in
     eq-cases a 0 _ _ e (λ z q. rest-none s isCopied a (h .chain) (h' .chain) (same q) (inl z)) (λ n q.
     pick-cases (isIn a (h .chain)) _ _ q
     (λ i q. rest-none s isCopied a (h .chain) (h' .chain) (same q) (inr (inl (subst (In a) (same q) (is-in a (h .chain) i)))))
     (λ i q. with-ok (wholeAt s a) _ q (λ _ _ q.
     pick-cases (isCopied (kindAt s a)) _ _ q
-    (λ c q. with-ok (copyRoot s a (h .made)) _ (eq-back (linksAt s a) 0 _ _ q refused≢ok) (λ m b q.
+    (λ c q. with-ok (copyRoot most s a (h .made)) _ (eq-back (linksAt s a) 0 _ _ q refused≢ok) (λ m b q.
     rest-more s isCopied a (h .chain) (h' .chain) c
-    (history-rest turns s (firstLink s a) (history (h .chain ++ (a ∷ [])) m) h' q (held-more s a h m k i n c b) (rw length-append (omega (arith, l))))))
+    (history-rest most turns s (firstLink s a) (history (h .chain ++ (a ∷ [])) m) h' q (held-more most s a h m k i n c b) (rw length-append (omega (arith, l))))))
     (λ c q. rest-none s isCopied a (h .chain) (h' .chain) (same q) (inr (inr c))))))
 
-pub history-followed : (s : List ℕ) (a : ℕ) (m : Copies) (h : History) → historyOf s a m ≡ ok h → length (m .memo) ≤ 2048 → Followed s isCopied a (h .chain)
+pub history-followed : (most : ℕ) (s : List ℕ) (a : ℕ) (m : Copies) (h : History) → historyOf most s a m ≡ ok h → length (m .memo) ≤ most → Followed s isCopied a (h .chain)
 unfolding historyOf occurs
-history-followed s a m h e f =
-    let r = history-rest (mostCopies + 1) s a (history [] m) h e (record { copied = λ x. omega arith; few = f }) (omega arith) in
+history-followed most s a m h e f =
+    let r = history-rest most (most + 1) s a (history [] m) h e (record { copied = λ x. omega arith; few = f }) (omega arith) in
     rest-all s isCopied a (h .chain) r
 
 -- ---- the attachment chain
@@ -195,16 +183,11 @@ attached-in a (t ∷ ts) e =
     (λ q _. subst (λ (x : ℕ). In a (x ∷ attachedFrom ts)) (sym (eqb-true (t .from) a q)) here)
     (λ _ q. there (attached-in a ts q))
 
-attached-append : (ts us : List Attachment) → attachedFrom (ts ++ us) ≡ attachedFrom ts ++ attachedFrom us
-unfolding attachedFrom
-attached-append [] us = refl
-attached-append (t ∷ ts) us = ap (λ (l : List ℕ). t .from ∷ l) (attached-append ts us)
-
-attachments-rest : (turns : ℕ) (s : List ℕ) (a : ℕ) (t t' : Attached) → attachmentsFrom turns s a t ≡ ok t' → length (t .attachments) ≤ 64
+attachments-rest : (most turns : ℕ) (s : List ℕ) (a : ℕ) (t t' : Attached) → attachmentsFrom most turns s a t ≡ ok t' → length (t .attachments) ≤ 64
     → 66 ≤ turns + length (t .attachments) → Rest s isAT a (attachedFrom (t .attachments)) (attachedFrom (t' .attachments))
 unfolding attachmentsFrom attach attachedFrom
-attachments-rest zero s a t t' e f l = absurd (omega arith)
-attachments-rest (suc turns) s a t t' e f l =
+attachments-rest most zero s a t t' e f l = absurd (omega arith)
+attachments-rest most (suc turns) s a t t' e f l =
     let from : Attached → List ℕ = λ u. attachedFrom (u .attachments) in
     let same : ok t ≡ ok t' → from t ≡ from t' = λ q. ap from (ok-same q) in
     eq-cases a 0 _ _ e (λ z q. rest-none s isAT a (from t) (from t') (same q) (inl z)) (λ n q.
@@ -214,14 +197,14 @@ attachments-rest (suc turns) s a t t' e f l =
     eq-cases (kindAt s a) kindAT _ _ q
     (λ c q. with-ok (attachmentIn s a) _ q (λ _ _ q.
     let b = lt-first _ _ _ _ q refused≢ok in
-    with-ok (copyLinks (copyRoot s) s (linksAt s a - 1) (a + 32) (t .made)) _ (b .1) (λ m _ q.
+    with-ok (copyLinks (copyRoot most s) s (linksAt s a - 1) (a + 32) (t .made)) _ (b .1) (λ m _ q.
     rest-more s isAT a (from t) (from t') (eq-eqb (kindAt s a) kindAT c)
-    (subst (λ (l : List ℕ). Rest s isAT (firstLink s a) l (from t')) (attached-append (t .attachments) _)
-    (attachments-rest turns s (firstLink s a) _ t' q (rw length-append (omega (arith, b .0))) (rw length-append (omega (arith, l))))))))
+    (subst (λ (l : List ℕ). Rest s isAT (firstLink s a) l (from t')) (attached-more (t .attachments) _)
+    (attachments-rest most turns s (firstLink s a) _ t' q (rw length-append (omega (arith, b .0))) (rw length-append (omega (arith, l))))))))
     (λ c q. rest-none s isAT a (from t) (from t') (same q) (inr (inr (ne-eqb (kindAt s a) kindAT c)))))))
 
-pub attachments-followed : (s : List ℕ) (a : ℕ) (m : Copies) (t : Attached) → attachmentsOf s a m ≡ ok t → Followed s isAT a (attachedFrom (t .attachments))
+pub attachments-followed : (most : ℕ) (s : List ℕ) (a : ℕ) (m : Copies) (t : Attached) → attachmentsOf most s a m ≡ ok t → Followed s isAT a (attachedFrom (t .attachments))
 unfolding attachmentsOf attachedFrom
-attachments-followed s a m t e =
-    let r = attachments-rest (mostAttachments + 2) s a (record { attachments = []; made = m }) t e (omega arith) (omega arith) in
+attachments-followed most s a m t e =
+    let r = attachments-rest most (mostAttachments + 2) s a (record { attachments = []; made = m }) t e (omega arith) (omega arith) in
     rest-all s isAT a (attachedFrom (t .attachments)) r

@@ -4,7 +4,7 @@ use mathlib.Core.List.{List, [], _∷_}
 use Rattle.base.specs.Checked.{Checked, ok, andThen}
 use Rattle.mdf.specs.Block.{linkAt}
 use Rattle.plan.specs.Columns.{Column}
-use Rattle.plan.specs.Copies.{copies, copyRoot, historyOf, columnCopies, attachmentsOf}
+use Rattle.plan.specs.Copies.{copies, mostCopies, copyRoot, historyOf, columnCopies, attachmentsOf}
 use Rattle.plan.specs.Layout.{Sizes, Places, blocksEnd, signalEnd, sizesOf, withPlaces, structureEnd, Layout, pastCopies, fhPlace}
 
 -- "Then per column its blocks, 24 + payload apart, and its SD": each at the next multiple of 8
@@ -19,10 +19,10 @@ formerEnd d (z ∷ zs) = formerEnd (signalEnd (z .signal) (blocksEnd z d)) zs
 
 unfoldable pub formerLayout : List ℕ → ℕ → ℕ → List Column → Checked Layout
 formerLayout s size n cs =
-    andThen (copyRoot s (linkAt s 64 5) (copies [] 168)) (λ m0.
-    andThen (historyOf s (linkAt s 64 1) m0) (λ h.
-    andThen (columnCopies s cs (copies (h .made .memo) (fhPlace (h .made) n + 56))) (λ m2.
-    andThen (attachmentsOf s (linkAt s 64 3) (copies (m2 .memo) (formerEnd (structureEnd s size (pastCopies m2) cs) (sizesOf s size cs)))) (λ t.
+    andThen (copyRoot mostCopies s (linkAt s 64 5) (copies [] 168)) (λ m0.
+    andThen (historyOf mostCopies s (linkAt s 64 1) m0) (λ h.
+    andThen (columnCopies mostCopies s cs (copies (h .made .memo) (fhPlace (h .made) n + 56))) (λ m2.
+    andThen (attachmentsOf mostCopies s (linkAt s 64 3) (copies (m2 .memo) (formerEnd (structureEnd s size (pastCopies m2) cs) (sizesOf s size cs)))) (λ t.
     ok (record {
       comment = m0;
       past = h;

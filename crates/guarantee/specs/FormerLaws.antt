@@ -7,7 +7,7 @@ use native.Mathlib.Omega.{arith}
 use Rattle.base.specs.Checked.{Checked, ok, refused, andThen}
 use Rattle.mdf.specs.Block.{linkAt}
 use Rattle.plan.specs.Columns.{Column}
-use Rattle.plan.specs.Copies.{copies, copyRoot, historyOf, columnCopies}
+use Rattle.plan.specs.Copies.{copies, mostCopies, copyRoot, historyOf, columnCopies}
 use Rattle.plan.specs.Geometry.{align8, alignTo}
 use Rattle.plan.specs.Rules.{builtIn}
 use Rattle.plan.specs.Layout.{
@@ -103,9 +103,9 @@ same-then (refused n p) f g h = refl
 pub unit-8 : (s : List ℕ) (size n : ℕ) (cs : List Column) → layout builtIn s size n cs ≡ formerLayout s size n cs
 unfolding layout formerLayout pastCopies
 unit-8 s size n cs =
-    same-then (copyRoot s (linkAt s 64 5) (copies [] 168)) _ _ (λ m0.
-    same-then (historyOf s (linkAt s 64 1) m0) _ _ (λ h.
-    same-then (columnCopies s cs (copies (h .made .memo) (fhPlace (h .made) n + 56))) _ _ (λ m2.
+    same-then (copyRoot mostCopies s (linkAt s 64 5) (copies [] 168)) _ _ (λ m0.
+    same-then (historyOf mostCopies s (linkAt s 64 1) m0) _ _ (λ h.
+    same-then (columnCopies mostCopies s cs (copies (h .made .memo) (fhPlace (h .made) n + 56))) _ _ (λ m2.
     let e = structures-eights s size (align8 (m2 .next)) cs (eights (m2 .next)) in
     rw (places-former (align8 (m2 .next)) (structureEnd s size (align8 (m2 .next)) cs) (sizesOf s size cs) e,
       end-former (structureEnd s size (align8 (m2 .next)) cs) (sizesOf s size cs) e))))

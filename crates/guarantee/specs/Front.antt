@@ -57,23 +57,55 @@ data-byte s i h = getD-take 32 (dataOf s 64 ++ replicate 32 0) i 0 h ∙ go (ltb
         let k : sizeAt s 64 ≤ 24 + 8 * linksAt s 64 + i = ltb-false _ _ q in
         lt-no _ _ _ _ k (past-at (sizeAt s 64 - (24 + 8 * linksAt s 64)) 32 i (drop (dataAt s 64) s) (omega arith))
 
+-- ---- HD of a file with layout l, made of s
+abbrev pub headerLinks : List ℕ → Layout → List ℕ
+headerLinks s l =
+    hdLinks (nextDG (l .placed)) (firstFH (memoOf l) (l .past .chain) (l .fh)) (nextAttachment (l .attached .attachments))
+    (newLink (memoOf l) (linkAt s 64 5))
+
+module _ (s : List ℕ) (l : Layout) (f : List ℕ) (stands : Stands f 64 (hdBlock s l .bytes)) where
+  shaped : Stands f 64 (header kindHD 104 (length (headerLinks s l)) ++ words (headerLinks s l) ++ hdData s)
+  unfolding hdBlock
+  shaped = rw (hd-shape s _ _ _ _) at stands
+
+  pub header-link : (i : ℕ) → i < 6 → getD (headerLinks s l) i 0 < 256 ^ 8 → linkAt f 64 i ≡ getD (headerLinks s l) i 0
+  unfolding hdLinks
+  header-link i h b = block-link kindHD 104 (headerLinks s l) (hdData s) shaped i h b
+
+  pub header-head : headAt f 64 ≡ record { kind = kindHD; size = 104; links = 6 }
+  unfolding headAt hdLinks
+  header-head =
+      rw (
+        block-kind kindHD 104 (headerLinks s l) (hdData s) shaped (lit< tt),
+        block-size kindHD 104 (headerLinks s l) (hdData s) shaped (lit< tt),
+        block-links kindHD 104 (headerLinks s l) (hdData s) shaped (lit< tt),
+      )
+
+  pub header-data : Stands f (dataAt f 64) (hdData s)
+  unfolding hdLinks
+  header-data = block-data kindHD 104 (headerLinks s l) (hdData s) shaped (lit< tt)
+
+  header-data-at : dataAt f 64 ≡ 136
+  unfolding hdLinks
+  header-data-at = block-data-at kindHD 104 (headerLinks s l) (hdData s) shaped (lit< tt)
+
+  -- neither channel hierarchy nor events
+  pub header-hierarchy : linkAt f 64 2 ≡ 0
+  unfolding hdLinks
+  header-hierarchy = header-link 2 (lit< tt) (lit< tt)
+
+  pub header-events : linkAt f 64 4 ≡ 0
+  unfolding hdLinks
+  header-events = header-link 4 (lit< tt) (lit< tt)
+
+-- ---- the front of a result
 module _ (x : Args) (l : Layout) (f : List ℕ) (filled : (b : Block) → In b (blocksOf x l) → Stands f (b .at) (b .bytes)) where
   hd : Stands f 64 (hdBlock (x .image) l .bytes)
   unfolding hdBlock
   hd = filled _ (in-hd x l)
 
-  abbrev pub links : List ℕ
-  links =
-      hdLinks (nextDG (l .placed)) (firstFH (memoOf l) (l .past .chain) (l .fh)) (nextAttachment (l .attached .attachments))
-      (newLink (memoOf l) (linkAt (x .image) 64 5))
-
-  shaped : Stands f 64 (header kindHD 104 (length links) ++ words links ++ hdData (x .image))
-  unfolding hdBlock
-  shaped = rw (hd-shape (x .image) _ _ _ _) at hd
-
-  pub hd-link : (i : ℕ) → i < 6 → getD links i 0 < 256 ^ 8 → linkAt f 64 i ≡ getD links i 0
-  unfolding hdLinks
-  hd-link i h b = block-link kindHD 104 links (hdData (x .image)) shaped i h b
+  pub hd-link : (i : ℕ) → i < 6 → getD (headerLinks (x .image) l) i 0 < 256 ^ 8 → linkAt f 64 i ≡ getD (headerLinks (x .image) l) i 0
+  hd-link = header-link (x .image) l f hd
 
   lent-stands : Stands f 0 (x .ident)
   unfolding blocksOf
@@ -87,25 +119,18 @@ module _ (x : Args) (l : Layout) (f : List ℕ) (filled : (b : Block) → In b (
   length-hdData = length-take-le 32 (dataOf (x .image) 64 ++ replicate 32 0) (rw (length-append, length-replicate) (omega arith))
 
   hd-byte : (i : ℕ) → i < 32 → getD f (136 + i) 0 ≡ headerByte (x .image) i
-  unfolding hdLinks
   hd-byte i h =
-      let st : Stands f (dataAt f 64) (hdData (x .image)) = block-data kindHD 104 links (hdData (x .image)) shaped (lit< tt) in
-      let at : dataAt f 64 ≡ 136 = block-data-at kindHD 104 links (hdData (x .image)) shaped (lit< tt) in
-      ap (λ (a : ℕ). getD f (a + i) 0) (sym at) ∙ byte-of (hdData (x .image)) st i (omega (arith, length-hdData)) ∙ data-byte (x .image) i h
+      ap (λ (a : ℕ). getD f (a + i) 0) (sym (header-data-at (x .image) l f hd))
+      ∙ byte-of (hdData (x .image)) (header-data (x .image) l f hd) i (omega (arith, length-hdData)) ∙ data-byte (x .image) i h
 
   pub front-due : Lent x → FrontDue x f
-  unfolding headAt hdLinks
   front-due lent =
       record {
         ident = rw (lent .identLength) at (lent-stands .is);
         mark = lent-field lent 0 (lit< tt) ∙ lent .identMark;
         version = lent-field lent 8 (lit< tt) ∙ lent .identVersion;
-        head = rw (
-          block-kind kindHD 104 links (hdData (x .image)) shaped (lit< tt),
-          block-size kindHD 104 links (hdData (x .image)) shaped (lit< tt),
-          block-links kindHD 104 links (hdData (x .image)) shaped (lit< tt),
-        );
-        hierarchy = hd-link 2 (lit< tt) (lit< tt);
-        events = hd-link 4 (lit< tt) (lit< tt);
+        head = header-head (x .image) l f hd;
+        hierarchy = header-hierarchy (x .image) l f hd;
+        events = header-events (x .image) l f hd;
         bytes = hd-byte;
       }

@@ -14,6 +14,7 @@ use Rattle.mdf.specs.Walk.{Source, walk}
 use Rattle.plan.specs.Photos.{photosIn}
 use Rattle.plan.specs.Columns.{srcGroups, Column, Signal, noSignal, signalData, omissionWords}
 use Rattle.plan.specs.Data.{signalIn}
+use Rattle.plan.specs.Copies.{mostCopies}
 use Rattle.plan.specs.Layout.{Placed, placedFrom, pastCopies, structureSize, dataEnd, payloadSize, dlOf}
 use Rattle.result.specs.Ordered.{Ordered, Close}
 use Rattle.result.specs.Payload.{columnPayloads, signalBytes}
@@ -246,6 +247,6 @@ guaranteed x out list d bytes e =
       masters = k .masters;
       namedBefore = k .planned .before;
       distinct = k .distinct;
-      historyEnds = history-followed (x .image) _ _ _ (o x d k .past) (few-comment x d k);
-      attachmentsEnd = attachments-followed (x .image) _ _ _ (o x d k .attached);
+      historyEnds = history-followed mostCopies (x .image) _ _ _ (o x d k .past) (few-comment x d k);
+      attachmentsEnd = attachments-followed mostCopies (x .image) _ _ _ (o x d k .attached);
     }

@@ -7,7 +7,7 @@ use channels::block_count;
 use channels::channel_bytes;
 use channels::keeps_inval;
 use channels::width_of;
-use placing::columns::word;
+use copier::columns::word;
 use planning::sizes::signal_size;
 ghost use mathlib.Core.Path.{_≡_};
 ghost use Prim.Native.Nat.{_+_, _*_, _≤_, _<_};

@@ -83,14 +83,14 @@ module _ (u : ℕ) (i : IsUnit u) where
       payloads-near kind a (align8 (a + (24 * columnBlocks s size c + payloadSize s c))) (columnPayloads s size c)
       (rw (column-count s size c, column-bytes s size c r) (eight-within (a + (24 * columnBlocks s size c + payloadSize s c))))
 
-  signal-near : (s : List ℕ) (g : Signal) (a : ℕ) → signalIn s g ≡ fine → Near u a (sdBlocks s g a) (signalEnd (signalSizes g) a)
+  pub signal-near : (s : List ℕ) (g : Signal) (a : ℕ) → signalIn s g ≡ fine → Near u a (sdBlocks s g a) (signalEnd (signalSizes g) a)
   unfolding Near
   signal-near s noSignal a e = to-past u a some-unit
   signal-near s (signalData fs) a e =
       let l : length (blockOf kindSD (joined s fs)) ≡ 24 + sizeOf fs = length-framed kindSD (joined s fs) ∙ rw (joined-length s fs e) in
       (to-past u a some-unit, rw l (eight-within (a + (24 + sizeOf fs))))
 
-  first-within : (z : Sizes) (d : ℕ) → firstAt u z d ≤ alignTo u d
+  pub first-within : (z : Sizes) (d : ℕ) → firstAt u z d ≤ alignTo u d
   unfolding firstAt
   first-within z d = go (eq-cases (z .blocks) 0 d (alignTo u d) refl)
     where
@@ -98,7 +98,7 @@ module _ (u : ℕ) (i : IsUnit u) where
       go (inl q) = omega (arith, q .1, to-past u d some-unit)
       go (inr q) = omega (arith, q .1)
 
-  signal-within : (g : Option ℕ) (d : ℕ) → signalAt u g d ≤ alignTo u d
+  pub signal-within : (g : Option ℕ) (d : ℕ) → signalAt u g d ≤ alignTo u d
   signal-within none d = to-past u d some-unit
   signal-within (some n) d = le-refl _
 

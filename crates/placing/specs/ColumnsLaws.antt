@@ -24,8 +24,8 @@ use Rattle.plan.specs.Layout as layout
 use Rattle.result.specs.Guarantee.{here, there}
 use Rattle.planning.specs.Sizes.{signalSize}
 use Rattle.planning.specs.SizesLaws.{sizes-stand}
-use Rattle.placing.specs.Roots.{roots, roots-of}
-use Rattle.placing.specs.AttachingLaws.{getD-before}
+use Rattle.copier.specs.Roots.{roots, roots-of, rootsAt, copiesOf}
+use Rattle.copier.specs.AttachingLaws.{getD-before}
 use Rattle.placing.specs.InWords.{
   widthAt,
   blocksAt,
@@ -42,8 +42,6 @@ use Rattle.placing.specs.InWords.{
   structuresIn,
   dataIn,
   placedIn,
-  rootsAt,
-  copiesOf,
   Within,
   AllWithin,
   Referring,
@@ -244,12 +242,13 @@ module _ (ph : Bool) (s : List ℕ) (size : ℕ) (w f : List ℕ) where
       (ap (λ (l : List ℕ). a ∷ firstAt u z d ∷ placesAt u 0 d z .sd ∷ l)
       (placed-of o (m + sizeOfSignal (c .signalOf)) (p + 8) (a + structureSize s size c) (pastData u z d) cs (stand-rest w f m p c cs h) (rest-referring g)))
 
-  pub copies-of : (m p : ℕ) (cs : List Column) (x : Copies) → Columns w f m p cs → copiesOf s w p (length cs) x ≡ columnCopies s cs x
+  pub copies-of : (most m p : ℕ) (cs : List Column) (x : Copies) → Columns w f m p cs
+      → copiesOf most s w p (length cs) x ≡ columnCopies most s cs x
   unfolding copiesOf columnCopies
-  copies-of m p [] x h = refl
-  copies-of m p (c ∷ cs) x h =
-      ap (λ (l : List ℕ). andThen (copyRoots s l x) (λ y. copiesOf s w (p + 8) (length cs) y)) (roots-at (stand-reads w f m p c cs h) s ∙ roots-of s c)
-      ∙ then-same (copyRoots s (columnLinks s c) x) _ _ (λ y. copies-of (m + sizeOfSignal (c .signalOf)) (p + 8) cs y (stand-rest w f m p c cs h))
+  copies-of most m p [] x h = refl
+  copies-of most m p (c ∷ cs) x h =
+      ap (λ (l : List ℕ). andThen (copyRoots most s l x) (λ y. copiesOf most s w (p + 8) (length cs) y)) (roots-at (stand-reads w f m p c cs h) s ∙ roots-of s c)
+      ∙ then-same (copyRoots most s (columnLinks s c) x) _ _ (λ y. copies-of most (m + sizeOfSignal (c .signalOf)) (p + 8) cs y (stand-rest w f m p c cs h))
 
   -- bounds of columns are bounds of their words
   pub all-within : (m p : ℕ) (cs : List Column) → Columns w f m p cs → AllBounded s size cs → Referring ph s cs

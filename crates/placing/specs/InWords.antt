@@ -5,7 +5,6 @@ use mathlib.Core.Path.{_≡_}
 use mathlib.Core.Bool.{Bool}
 use lib.ListN.{length, getD}
 use Rattle.base.specs.Choice.{ifEq}
-use Rattle.base.specs.Checked.{Checked, ok, andThen}
 use Rattle.work_words.specs.Words.{fragmentWords}
 use Rattle.mdf.specs.Records.{sizeOf}
 use Rattle.plan.specs.Channel.{width}
@@ -13,11 +12,9 @@ use Rattle.plan.specs.Photos.{photosOf}
 use Rattle.plan.specs.Columns.{Column, Signal, noSignal, signalData}
 use Rattle.work_words.specs.PlanWords.{columnsWords, signalFragments}
 use Rattle.plan.specs.Geometry.{align8, alignTo, blockCount}
-use Rattle.plan.specs.Copies.{Copies, copyRoots}
 use Rattle.plan.specs.Layout.{dlSize, columnBlocks, payloadSize}
 use Rattle.result.specs.Guarantee.{In}
 use Rattle.planning.specs.Sizes.{signalSize}
-use Rattle.placing.specs.Roots.{roots}
 
 -- ---- one column
 
@@ -84,14 +81,6 @@ placedIn u ph s size w f p zero a d = []
 placedIn u ph s size w f p (suc n) a d =
     (a ∷ firstIn u s size w p d ∷ sdIn u s size w p d ∷ [])
     ++ placedIn u ph s size w f (p + 8) n (a + structureAt ph s size w p) (pastIn u s size w f p d)
-
--- the blocks that columns refer to
-unfoldable pub rootsAt : List ℕ → List ℕ → ℕ → List ℕ
-rootsAt s w p = roots s (getD w (p + 2) 0) (getD w (p + 1) 0) (getD w p 0)
-
-unfoldable pub copiesOf : List ℕ → List ℕ → ℕ → ℕ → Copies → Checked Copies
-copiesOf s w p zero m = ok m
-copiesOf s w p (suc n) m = andThen (copyRoots s (rootsAt s w p) m) (λ m'. copiesOf s w (p + 8) n m')
 
 -- ---- bounds: no sum of layout passes 64 bits
 pub record Within (ph : Bool) (s : List ℕ) (size : ℕ) (w f : List ℕ) (p : ℕ) : Type 0 where

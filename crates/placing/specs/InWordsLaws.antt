@@ -18,18 +18,10 @@ use Rattle.plan.specs.Photos.{photosOf}
 use Rattle.plan.specs.Geometry.{align8, alignTo, blockCount}
 use Rattle.plan.specs.Channel.{width}
 use Rattle.plan.specs.Layout.{dlSize}
-use Rattle.plan.specs.Copies.{Copies, copyRoots}
 use Rattle.payload_laws.specs.UnitLaws.{to-near}
 use Rattle.planning.specs.Sizes.{signalSize}
 use Rattle.planning.specs.SizesLaws.{signal-whole}
-use Rattle.placing.specs.declared.memo.Copying.{Copying}
-use Rattle.placing.specs.declared.copier.Got.{Got}
-use Rattle.placing.specs.declared.copier.Got.the-variants as got
-use Rattle.placing.specs.Standing.{standing, Room}
-use Rattle.placing.specs.StandingLaws.{align-near}
-use Rattle.placing.specs.Roots.{roots}
-use Rattle.placing.specs.Got.{Copied, AfterGot}
-use Rattle.placing.specs.TurnLaws.{Held, held-begin, held-next, copied-at, copied-refused}
+use Rattle.copier.specs.StandingLaws.{align-near}
 use Rattle.placing.specs.InWords.{
   widthAt,
   blocksAt,
@@ -46,16 +38,10 @@ use Rattle.placing.specs.InWords.{
   structuresIn,
   dataIn,
   placedIn,
-  rootsAt,
-  copiesOf,
   Within,
   AllWithin,
   AllFew,
 }
-
--- ---- a word
-pub past-end : (w : List ℕ) (i : ℕ) → length w ≤ i → 0 ≡ getD w i 0
-past-end w i h = sym (List·getD-eq-default w 0 h)
 
 -- ---- one column, by the answers of the code
 pub cg-yes : (m : ℕ) → m ≡ 0 → 104 ≡ cgBytes m
@@ -386,48 +372,3 @@ data-near u ph s size w f p (suc n) d l h b =
       past-near u ph s size w f p d l h c,
       data-near u ph s size w f (p + 8) n (pastIn u s size w f p d) l h r,
     )
-
--- ---- copies for columns: what is left of them
-copying-none : (s w : List ℕ) (p n : ℕ) (m : Copies) → n ≡ 0 → copiesOf s w p n m ≡ ok m
-unfolding copiesOf
-copying-none s w p n m e = rw e
-
-copying-cons : (s w : List ℕ) (p n : ℕ) (m : Copies) → 0 < n
-    → copiesOf s w p n m ≡ andThen (copyRoots s (rootsAt s w p) m) (λ m'. copiesOf s w (p + 8) (n - 1) m')
-unfolding copiesOf
-copying-cons s w p zero m h = absurd (omega arith)
-copying-cons s w p (suc n) m h = rw sub-one
-
-pub record CopyingOf (s w : List ℕ) (n₀ : ℕ) (m₀ : List ℕ) (st₀ : Copying) (m : List ℕ) (p n : ℕ) (st : Copying) : Type 0 where
-  pub at : p + 8 * n ≤ 4096
-  pub long : 8192 ≤ length m
-  pub held : Held m₀ st₀ m st
-  pub rest : copiesOf s w p n (standing m st) ≡ copiesOf s w 0 n₀ (standing m₀ st₀)
-
-pub copying-begin : (s w : List ℕ) (n : ℕ) (m : List ℕ) (st : Copying) → n ≤ 512 → 8192 ≤ length m → Room (st .used) (st .next) → CopyingOf s w n m st m 0 n st
-copying-begin s w n m st h l r = record { at = omega arith; long = l; held = held-begin m st r; rest = refl }
-
-roots-by : (s w : List ℕ) (p : ℕ) {d g c : ℕ} → d ≡ getD w (p + 2) 0 → g ≡ getD w (p + 1) 0 → c ≡ getD w p 0 → roots s d g c ≡ rootsAt s w p
-unfolding rootsAt
-roots-by s w p d g c = rw (d, g, c)
-
-module _ {s w : List ℕ} {n₀ : ℕ} {m₀ : List ℕ} {st₀ : Copying} {m : List ℕ} {p n : ℕ} {st : Copying} (u : CopyingOf s w n₀ m₀ st₀ m p n st) where
-  pub copying-end : n ≡ 0 → Copied m₀ m (got.At st) (copiesOf s w 0 n₀ (standing m₀ st₀))
-  copying-end e = record { is = sym (copying-none s w p n (standing m st) e) ∙ u .rest; past = u .held .past }
-
-  module _ (h : 0 < n) {d g c : ℕ} (i : d ≡ getD w (p + 2) 0) (j : g ≡ getD w (p + 1) 0) (k : c ≡ getD w p 0)
-      {m' : List ℕ} {r : Got} (x : Copied m m' r (copyRoots s (roots s d g c) (standing m st))) where
-    pub copying-refused : {a b : ℕ} → r ≡ got.Refused a b → Copied m₀ m' (got.Refused a b) (copiesOf s w 0 n₀ (standing m₀ st₀))
-    copying-refused {a} {b} e =
-        let v : copyRoots s (rootsAt s w p) (standing m st) ≡ refused a b = rw (roots-by s w p i j k) at (sym (copied-refused x e)) in
-        record { is = rw (copying-cons s w p n (standing m st) h, v) at (u .rest); past = tt }
-
-    pub copying-next : {t : Copying} → AfterGot r st → r ≡ got.At t → length m' ≡ length m → CopyingOf s w n₀ m₀ st₀ m' (p + 8) (n - 1) t
-    copying-next {t} f e l =
-        let v : copyRoots s (rootsAt s w p) (standing m st) ≡ ok (standing m' t) = rw (roots-by s w p i j k) at (sym (copied-at x e .0)) in
-        record {
-          at = omega (arith, u .at);
-          long = omega (arith, l, u .long);
-          held = held-next (u .held) x f e l;
-          rest = rw (copying-cons s w p n (standing m st) h, v) at (u .rest);
-        }

@@ -4,46 +4,23 @@ use mathlib.Core.List.{List, []}
 use mathlib.Core.Bool.{Bool, false}
 use mathlib.Core.Path.{_≡_}
 use lib.ListN.{length}
-use Rattle.base.specs.Checked.{Checked, ok, refused, andThen}
+use Rattle.base.specs.Checked.{Checked, ok, refused}
 use Rattle.base.specs.Blit.{blit}
 use Rattle.mdf.specs.Block.{linkAt}
 use Rattle.plan.specs.Columns.{Column}
 use Rattle.plan.specs.Geometry.{align8}
-use Rattle.plan.specs.Copies.{Copies, copies, copyRoot, history, historyOf, Attached, attachmentsOf}
-use Rattle.work_words.specs.CopyWords.{attachmentWords, attachmentsAt, historyAt, placedAt, laidCopies}
+use Rattle.plan.specs.Copies.{copies, mostCopies, Attached, attachmentsOf}
+use Rattle.work_words.specs.CopyWords.{attachmentWords, attachmentsAt, placedAt, laidCopies}
 use Rattle.plan.specs.Rules.{Rules}
 use Rattle.plan.specs.Layout.{Layout, layout}
-use Rattle.placing.specs.declared.memo.Copying.{Copying}
-use Rattle.placing.specs.declared.history.Chain.{Chain}
-use Rattle.placing.specs.declared.history.Chain.the-variants as chain
+use Rattle.copier.specs.declared.memo.Copying.{Copying}
 use Rattle.placing.specs.declared.layout.Numbers.{Numbers}
 use Rattle.placing.specs.declared.layout.Rest.{Rest}
 use Rattle.placing.specs.declared.layout.Rest.the-variants as rest
 use Rattle.placing.specs.declared.layout.Laid.{Laid}
 use Rattle.placing.specs.declared.layout.Laid.the-variants as laid
-use Rattle.placing.specs.Standing.{copiesIn, standing, Past}
-use Rattle.placing.specs.Got.{After}
-use Rattle.placing.specs.History.{chainIn}
+use Rattle.copier.specs.Standing.{copiesIn, standing, Past}
 use Rattle.placing.specs.InWords.{structuresIn, dataIn, placedIn, Columns, Referring}
-
--- ---- the HD comment and the history chain
-
--- nothing is copied, and what is placed ends at 168
-abbrev pub start : Copying
-start = record { used = 0; next = 168 }
-
-pub record FirstCopies (count : ℕ) (s m m' : List ℕ) (t : Copying) : Type 0 where
-  pub comment : Copies
-  pub isComment : copyRoot s (linkAt s 64 5) (copies [] 168) ≡ ok comment
-  pub isPast : historyOf s (linkAt s 64 1) comment ≡ ok (history (chainIn m' count) (standing m' t))
-  pub few : count ≤ 2049
-  pub after : After 0 start t
-  pub past : Past (2 * t .used) (blit historyAt (chainIn m' count) m) m'
-
-abbrev pub Begins : List ℕ → List ℕ → List ℕ → Chain → Type 0
-Begins s m m' (chain.At count t) = FirstCopies count s m m' t
-Begins s m m' (chain.Refused number place) =
-    andThen (copyRoot s (linkAt s 64 5) (copies [] 168)) (λ x. historyOf s (linkAt s 64 1) x) ≡ refused number place
 
 -- ---- places of columns, and attachments
 
@@ -53,7 +30,7 @@ metadataEndIn ph s size w n st = structuresIn ph s size w 0 n (align8 (st .next)
 
 abbrev pub attachedIn : ℕ → Bool → List ℕ → ℕ → List ℕ → List ℕ → ℕ → List ℕ → Copying → Checked Attached
 attachedIn u ph s size w f n m st =
-    attachmentsOf s (linkAt s 64 3) (copies (copiesIn m (st .used)) (dataIn u s size w f 0 n (metadataEndIn ph s size w n st)))
+    attachmentsOf mostCopies s (linkAt s 64 3) (copies (copiesIn m (st .used)) (dataIn u s size w f 0 n (metadataEndIn ph s size w n st)))
 
 pub record Rested (u : ℕ) (ph : Bool) (s : List ℕ) (size : ℕ) (w f : List ℕ) (n : ℕ) (m m' : List ℕ) (st : Copying) (count end : ℕ) (t : Copying) : Type 0 where
   pub told : Attached
@@ -63,7 +40,7 @@ pub record Rested (u : ℕ) (ph : Bool) (s : List ℕ) (size : ℕ) (w f : List 
   pub ends : end ≡ metadataEndIn ph s size w n st
   pub few : count ≤ 64
   pub more : st .used ≤ t .used
-  pub most : t .used ≤ 2048
+  pub most : t .used ≤ 2050
   pub past : Past (2 * t .used) (blit attachmentsAt (attachmentWords (told .attachments))
       (blit placedAt (placedIn u ph s size w f 0 n (align8 (st .next)) (metadataEndIn ph s size w n st)) m)) m'
 

@@ -1,5 +1,5 @@
 -- The stages of the whole layout, one law for each way of the code.
-use Prim.Native.Nat.{ℕ, _+_, _*_, _≤_}
+use Prim.Native.Nat.{ℕ, _+_, _*_, _≤_, _<_}
 use mathlib.Core.List.{List, []}
 use mathlib.Core.Bool.{Bool}
 use mathlib.Core.Path.{_≡_, refl, sym, ap, _∙_, subst}
@@ -10,32 +10,33 @@ use Rattle.base.specs.Blit.{blit}
 use Rattle.mdf.specs.Block.{linkAt}
 use Rattle.plan.specs.Columns.{Column}
 use Rattle.plan.specs.Geometry.{align8}
-use Rattle.plan.specs.Copies.{Copies, copies, copyRoot, History, history, historyOf, columnCopies, Attached, attachmentsOf}
+use Rattle.plan.specs.Copies.{Copies, copies, mostCopies, copyRoot, History, history, historyOf, columnCopies, Attached, attachmentsOf}
 use Rattle.work_words.specs.CopyWords.{copyWords, attachmentWords, attachmentsAt, historyAt, placedAt, placedWords, laidCopies}
 use Rattle.plan.specs.Layout.{Layout, layout, mdSize, pastCopies, fhPlace, structureEnd, dataEnd, placedFrom}
-use Rattle.placing.specs.declared.memo.Copying.{Copying}
-use Rattle.placing.specs.declared.copier.Got.{Got}
-use Rattle.placing.specs.declared.copier.Got.the-variants as got
-use Rattle.placing.specs.declared.history.Chain.{Chain}
-use Rattle.placing.specs.declared.history.Chain.the-variants as chain
-use Rattle.placing.specs.declared.attachments.Moved.{Moved}
-use Rattle.placing.specs.declared.attachments.Moved.the-variants as moved
+use Rattle.copier.specs.declared.memo.Copying.{Copying}
+use Rattle.copier.specs.declared.copies.Got.{Got}
+use Rattle.copier.specs.declared.copies.Got.the-variants as got
+use Rattle.copier.specs.declared.history.Chain.{Chain}
+use Rattle.copier.specs.declared.history.Chain.the-variants as chain
+use Rattle.copier.specs.declared.attachments.Moved.{Moved}
+use Rattle.copier.specs.declared.attachments.Moved.the-variants as moved
 use Rattle.placing.specs.declared.layout.Rest.{Rest}
 use Rattle.placing.specs.declared.layout.Rest.the-variants as rest
 use Rattle.placing.specs.declared.layout.Laid.the-variants as laid
-use Rattle.placing.specs.Standing.{copiesFrom, copiesIn, standing, Room, Past}
-use Rattle.placing.specs.StandingLaws.{length-copies, align-near, past-more, past-then}
-use Rattle.placing.specs.Got.{Copied, AfterGot}
-use Rattle.placing.specs.TurnLaws.{copied-at, copied-refused, after-at, after-then}
-use Rattle.placing.specs.History.{chainIn, Chained}
-use Rattle.placing.specs.HistoryLaws.{length-part}
-use Rattle.placing.specs.Attaching.{Moves}
-use Rattle.placing.specs.AttachingLaws.{past-blit, copies-blit}
+use Rattle.copier.specs.Standing.{copiesIn, standing, Room, Ready, Past}
+use Rattle.copier.specs.StandingLaws.{length-copies, align-near, past-more, past-then}
+use Rattle.copier.specs.Got.{Copied, AfterGot}
+use Rattle.copier.specs.TurnLaws.{copied-at, copied-refused, after-at}
+use Rattle.copier.specs.Roots.{copiesOf}
+use Rattle.copier.specs.History.{chainIn, start, FirstCopies, Begins}
+use Rattle.copier.specs.HistoryLaws.{length-part, past-blit}
+use Rattle.copier.specs.Attaching.{Moves}
+use Rattle.copier.specs.AttachingLaws.{copies-blit}
 use Rattle.placing.specs.WordsLaws.{all-placed}
-use Rattle.placing.specs.InWords.{structuresIn, dataIn, placedIn, copiesOf, AllWithin, Columns, Referring}
+use Rattle.placing.specs.InWords.{structuresIn, dataIn, placedIn, AllWithin, Columns, Referring}
 use Rattle.placing.specs.InWordsLaws.{all-few, structures-near, data-near}
 use Rattle.placing.specs.ColumnsLaws.{structures-of, data-of, placed-of, copies-of}
-use Rattle.placing.specs.Laying.{onUnit, start, FirstCopies, Begins, metadataEndIn, attachedIn, Rested, Rests, Numbered, LaysOut}
+use Rattle.placing.specs.Laying.{onUnit, metadataEndIn, attachedIn, Rested, Rests, Numbered, LaysOut}
 
 pub md-bytes : (n : ℕ) {r : ℕ} → r ≡ align8 (24 + n + 1) → r ≡ mdSize n
 unfolding mdSize
@@ -46,46 +47,19 @@ unfolding mdSize
 md-near n = omega (arith, align-near (24 + n + 1))
 
 -- ---- the HD comment, then the history chain
-start-standing : (m : List ℕ) → standing m start ≡ copies [] 168
-unfolding copiesFrom
-start-standing m = refl
+pub first-ready : (m : List ℕ) → 8192 ≤ length m → Ready m mostCopies start
+first-ready m h = record { words = h; limit = omega arith; few = omega arith; near = omega arith }
 
-module _ (s m : List ℕ) {a : ℕ} (i : a ≡ linkAt s 64 5) {m₁ : List ℕ} {g : Got} (c : Copied m m₁ g (copyRoot s a (standing m start))) where
-  comment-is : copyRoot s a (standing m start) ≡ copyRoot s (linkAt s 64 5) (copies [] 168)
-  comment-is = rw (i, start-standing m)
-
-  pub first-refused : {n p : ℕ} → g ≡ got.Refused n p
-      → andThen (copyRoot s (linkAt s 64 5) (copies [] 168)) (λ x. historyOf s (linkAt s 64 1) x) ≡ refused n p
-  first-refused e = rw (← comment-is, ← copied-refused c e)
-
-  module _ {t : Copying} (e : g ≡ got.At t) (f : AfterGot g start) {b : ℕ} (j : b ≡ linkAt s 64 1) where
-    pub first-chain : {m' : List ℕ} (r : Chain) → Chained m₁ m' t r (historyOf s b (standing m₁ t)) → Begins s m m' r
-    first-chain {m'} (chain.At count u) h =
-        let d = copied-at c e in
-        let l = h .laid in
-        let k = after-at f e in
-        record {
-          comment = standing m₁ t;
-          isComment = sym (d .0 ∙ comment-is);
-          isPast = rw (← j) (sym (h .is));
-          few = l .few;
-          after = after-then k (l .after);
-          past = past-then (past-more _ (omega (arith, l .after .more)) (past-blit (chainIn m' count) 4352 (omega (arith, k .most)) (d .1))) (l .past);
-        }
-    first-chain {m'} (chain.Refused n p) h = rw (← comment-is, ← d .0, ← j) (sym (h .is))
-      where
-        d : (ok (standing m₁ t) ≡ copyRoot s a (standing m start)) × Past (2 * t .used) m m₁
-        d = copied-at c e
-
-pub begins-at : (s m m' : List ℕ) (g : Chain) {count : ℕ} {t : Copying} → Begins s m m' g → g ≡ chain.At count t → FirstCopies count s m m' t
-begins-at s m m' g h e = subst (Begins s m m') e h
+pub first-md : {count : ℕ} {s m m' : List ℕ} {st : Copying} → FirstCopies mostCopies count s m m' st → {md : ℕ}
+    → (st .next < 9223372036854775808 → md ≡ align8 (st .next)) → md ≡ align8 (st .next)
+first-md o f = let k = o .after in f (omega arith)
 
 pub record FirstNear (used md x : ℕ) : Type 0 where
-  pub md-near : md ≤ 1099511627951
-  pub near : md + x + 56 ≤ 1099511632143
+  pub md-near : md ≤ 1100585369775
+  pub near : md + x + 56 ≤ 1100585373967
   pub room : Room used (md + x + 56)
 
-pub first-near : {count : ℕ} {s m m' : List ℕ} {st : Copying} → FirstCopies count s m m' st → {md : ℕ} → md ≡ align8 (st .next) → (text : ℕ)
+pub first-near : {count : ℕ} {s m m' : List ℕ} {st : Copying} → FirstCopies mostCopies count s m m' st → {md : ℕ} → md ≡ align8 (st .next) → (text : ℕ)
     → {x : ℕ} → x ≡ mdSize text → text ≤ 4096 → FirstNear (st .used) md x
 first-near {count} {s} {m} {m'} {st} o i text j h =
     let a = align-near (st .next) in
@@ -93,21 +67,26 @@ first-near {count} {s} {m} {m'} {st} o i text j h =
     let k = o .after in
     record { md-near = omega arith; near = omega arith; room = record { few = omega arith; near = omega arith } }
 
+pub columns-ready : {count : ℕ} {s m m' : List ℕ} {st : Copying} → FirstCopies mostCopies count s m m' st → length m' ≡ length m → 8192 ≤ length m
+    → {md x : ℕ} → FirstNear (st .used) md x → Ready m' mostCopies (record { used = st .used; next = md + x + 56 })
+columns-ready o e h z =
+    record { words = omega (arith, e, h); limit = omega arith; few = z .room .few; near = omega (arith, z .near) }
+
 -- ---- places of columns, then attachments
 module _ (u : ℕ) (ph : Bool) (s : List ℕ) (size : ℕ) (w f : List ℕ) (n : ℕ) (m : List ℕ) (st : Copying) {a e d l : ℕ} {m₁ : List ℕ}
     (i : a ≡ align8 (st .next)) (j : e ≡ structuresIn ph s size w 0 n a) (k : d ≡ dataIn u s size w f 0 n e)
-    (x : m₁ ≡ blit 6656 (placedIn u ph s size w f 0 n a e) m) (y : l ≡ linkAt s 64 3) (few : st .used ≤ 2048) where
-  rest-is : attachmentsOf s l (standing m₁ (record { used = st .used; next = d })) ≡ attachedIn u ph s size w f n m st
+    (x : m₁ ≡ blit 6656 (placedIn u ph s size w f 0 n a e) m) (y : l ≡ linkAt s 64 3) (few : st .used ≤ 2050) where
+  rest-is : attachmentsOf mostCopies s l (standing m₁ (record { used = st .used; next = d })) ≡ attachedIn u ph s size w f n m st
   rest-is =
       let z : copiesIn m₁ (st .used) ≡ copiesIn m (st .used) =
       ap (λ (v : List ℕ). copiesIn v (st .used)) x ∙ copies-blit (placedIn u ph s size w f 0 n a e) m (st .used) 6656 (omega arith) in
       rw (z, y, k, j, i)
 
   pub rest-moved : {m' : List ℕ} (r : Moved)
-      → Moves m₁ m' (record { used = st .used; next = d }) r (attachmentsOf s l (standing m₁ (record { used = st .used; next = d })))
+      → Moves m₁ m' (record { used = st .used; next = d }) r (attachmentsOf mostCopies s l (standing m₁ (record { used = st .used; next = d })))
       → {count : ℕ} {t : Copying} → r ≡ moved.At count t → Rests u ph s size w f n m m' st (rest.At count e t)
   rest-moved {m'} r h {count} {t} q =
-      let g = subst (λ (v : Moved). Moves m₁ m' (record { used = st .used; next = d }) v (attachmentsOf s l (standing m₁ (record { used = st .used; next = d })))) q h in
+      let g = subst (λ (v : Moved). Moves m₁ m' (record { used = st .used; next = d }) v (attachmentsOf mostCopies s l (standing m₁ (record { used = st .used; next = d })))) q h in
       let o = g .moving in
       record {
         told = o .told;
@@ -122,10 +101,10 @@ module _ (u : ℕ) (ph : Bool) (s : List ℕ) (size : ℕ) (w f : List ℕ) (n :
       }
 
   pub rest-refused : (m' : List ℕ) (r : Moved)
-      → Moves m₁ m' (record { used = st .used; next = d }) r (attachmentsOf s l (standing m₁ (record { used = st .used; next = d })))
+      → Moves m₁ m' (record { used = st .used; next = d }) r (attachmentsOf mostCopies s l (standing m₁ (record { used = st .used; next = d })))
       → {b p : ℕ} → r ≡ moved.Refused b p → Rests u ph s size w f n m m' st (rest.Refused b p)
   rest-refused m' r h q =
-      sym rest-is ∙ subst (λ (v : Moved). Moves m₁ m' (record { used = st .used; next = d }) v (attachmentsOf s l (standing m₁ (record { used = st .used; next = d })))) q h
+      sym rest-is ∙ subst (λ (v : Moved). Moves m₁ m' (record { used = st .used; next = d }) v (attachmentsOf mostCopies s l (standing m₁ (record { used = st .used; next = d })))) q h
 
 pub rests-at : (u : ℕ) (ph : Bool) (s : List ℕ) (size : ℕ) (w f : List ℕ) (n : ℕ) (m m' : List ℕ) (st : Copying) (r : Rest) {count end : ℕ} {t : Copying}
     → Rests u ph s size w f n m m' st r → r ≡ rest.At count end t → Rested u ph s size w f n m m' st count end t
@@ -147,9 +126,9 @@ then-through (ok v) f g e = rw e
 then-through {A} {B} {C} (refused n p) f g e = ap (λ (v : Checked B). andThen {B = C} v (λ _. refused 0 0)) e
 
 layout-first : (u : ℕ) (s : List ℕ) (size text : ℕ) (cs : List Column) {a b : ℕ}
-    → andThen (copyRoot s (linkAt s 64 5) (copies [] 168)) (λ x. historyOf s (linkAt s 64 1) x) ≡ refused a b → layout (onUnit u) s size text cs ≡ refused a b
+    → andThen (copyRoot mostCopies s (linkAt s 64 5) (copies [] 168)) (λ x. historyOf mostCopies s (linkAt s 64 1) x) ≡ refused a b → layout (onUnit u) s size text cs ≡ refused a b
 unfolding layout
-layout-first u s size text cs e = then-through (copyRoot s (linkAt s 64 5) (copies [] 168)) (λ x. historyOf s (linkAt s 64 1) x) _ e
+layout-first u s size text cs e = then-through (copyRoot mostCopies s (linkAt s 64 5) (copies [] 168)) (λ x. historyOf mostCopies s (linkAt s 64 1) x) _ e
 
 layoutOf : ℕ → List ℕ → ℕ → ℕ → List Column → Copies → History → Copies → Attached → Layout
 layoutOf u s size text cs m0 h m2 t =
@@ -167,28 +146,28 @@ layoutOf u s size text cs m0 h m2 t =
 
 layoutRest : ℕ → List ℕ → ℕ → ℕ → List Column → Copies → History → Copies → Checked Layout
 layoutRest u s size text cs m0 h m2 =
-    andThen (attachmentsOf s (linkAt s 64 3) (copies (m2 .memo) (dataEnd (onUnit u) s size (structureEnd s size (pastCopies m2) cs) cs)))
+    andThen (attachmentsOf mostCopies s (linkAt s 64 3) (copies (m2 .memo) (dataEnd (onUnit u) s size (structureEnd s size (pastCopies m2) cs) cs)))
     (λ t. ok (layoutOf u s size text cs m0 h m2 t))
 
-layout-next : (u : ℕ) (s : List ℕ) (size text : ℕ) (cs : List Column) {m0 : Copies} {h : History} → copyRoot s (linkAt s 64 5) (copies [] 168) ≡ ok m0
-    → historyOf s (linkAt s 64 1) m0 ≡ ok h
-    → layout (onUnit u) s size text cs ≡ andThen (columnCopies s cs (copies (h .made .memo) (fhPlace (h .made) text + 56))) (λ m2. layoutRest u s size text cs m0 h m2)
+layout-next : (u : ℕ) (s : List ℕ) (size text : ℕ) (cs : List Column) {m0 : Copies} {h : History} → copyRoot mostCopies s (linkAt s 64 5) (copies [] 168) ≡ ok m0
+    → historyOf mostCopies s (linkAt s 64 1) m0 ≡ ok h
+    → layout (onUnit u) s size text cs ≡ andThen (columnCopies mostCopies s cs (copies (h .made .memo) (fhPlace (h .made) text + 56))) (λ m2. layoutRest u s size text cs m0 h m2)
 unfolding layout layoutRest layoutOf
 layout-next u s size text cs a b = rw (a, b)
 
 module _ (u : ℕ) (ph : Bool) (s : List ℕ) (size text : ℕ) (w f : List ℕ) (n : ℕ) (m : List ℕ) where
-  pub whole-first : (m' : List ℕ) {m'' : List ℕ} (g : Chain) {a b : ℕ} → Begins s m m' g → g ≡ chain.Refused a b → LaysOut u ph s size text w f n m m'' (laid.Refused a b)
-  whole-first m' g h e = record { is = λ k cs x l r. layout-first u s size text cs (subst (Begins s m m') e h) }
+  pub whole-first : (m' : List ℕ) {m'' : List ℕ} (g : Chain) {a b : ℕ} → Begins mostCopies s m m' g → g ≡ chain.Refused a b → LaysOut u ph s size text w f n m m'' (laid.Refused a b)
+  whole-first m' g h e = record { is = λ k cs x l r. layout-first u s size text cs (subst (Begins mostCopies s m m') e h) }
 
-  module _ {count : ℕ} {m₁ : List ℕ} {st : Copying} (o : FirstCopies count s m m₁ st) {md x : ℕ} (i : md ≡ align8 (st .next)) (j : x ≡ mdSize text)
-      {m₂ : List ℕ} {g : Got} (c : Copied m₁ m₂ g (copiesOf s w 0 n (standing m₁ (record { used = st .used; next = md + x + 56 })))) where
+  module _ {count : ℕ} {m₁ : List ℕ} {st : Copying} (o : FirstCopies mostCopies count s m m₁ st) {md x : ℕ} (i : md ≡ align8 (st .next)) (j : x ≡ mdSize text)
+      {m₂ : List ℕ} {g : Got} (c : Copied m₁ m₂ g (copiesOf mostCopies s w 0 n (standing m₁ (record { used = st .used; next = md + x + 56 })))) where
     module _ (k : ℕ) (cs : List Column) (z : Columns w f k 0 cs) (l : length cs ≡ n) where
-      columns-is : copiesOf s w 0 n (standing m₁ (record { used = st .used; next = md + x + 56 }))
-          ≡ columnCopies s cs (copies (copiesIn m₁ (st .used)) (fhPlace (standing m₁ st) text + 56))
+      columns-is : copiesOf mostCopies s w 0 n (standing m₁ (record { used = st .used; next = md + x + 56 }))
+          ≡ columnCopies mostCopies s cs (copies (copiesIn m₁ (st .used)) (fhPlace (standing m₁ st) text + 56))
       unfolding fhPlace pastCopies
-      columns-is = rw (← l, i, j) (copies-of ph s size w f k 0 cs (copies (copiesIn m₁ (st .used)) (align8 (st .next) + mdSize text + 56)) z)
+      columns-is = rw (← l, i, j) (copies-of ph s size w f mostCopies k 0 cs (copies (copiesIn m₁ (st .used)) (align8 (st .next) + mdSize text + 56)) z)
 
-      columns-next : {v : Checked Copies} → v ≡ copiesOf s w 0 n (standing m₁ (record { used = st .used; next = md + x + 56 }))
+      columns-next : {v : Checked Copies} → v ≡ copiesOf mostCopies s w 0 n (standing m₁ (record { used = st .used; next = md + x + 56 }))
           → layout (onUnit u) s size text cs ≡ andThen v (λ m2. layoutRest u s size text cs (o .comment) (history (chainIn m₁ count) (standing m₁ st)) m2)
       columns-next e =
           layout-next u s size text cs (o .isComment) (o .isPast)
@@ -204,7 +183,7 @@ module _ (u : ℕ) (ph : Bool) (s : List ℕ) (size text : ℕ) (w f : List ℕ)
 
       rest-of : (k : ℕ) (cs : List Column) → Columns w f k 0 cs → length cs ≡ n → Referring ph s cs
           → attachedIn u ph s size w f n m₂ t
-          ≡ attachmentsOf s (linkAt s 64 3) (copies (copiesIn m₂ (t .used)) (dataEnd (onUnit u) s size (structureEnd s size (pastCopies (standing m₂ t)) cs) cs))
+          ≡ attachmentsOf mostCopies s (linkAt s 64 3) (copies (copiesIn m₂ (t .used)) (dataEnd (onUnit u) s size (structureEnd s size (pastCopies (standing m₂ t)) cs) cs))
       rest-of k cs z l rf =
           let d : dataIn u s size w f 0 n (metadataEndIn ph s size w n t) ≡ dataEnd (onUnit u) s size (structureEnd s size (pastCopies (standing m₂ t)) cs) cs =
           ap (dataIn u s size w f 0 n) (ends-is k cs z l rf) ∙ rw (← l) (data-of ph s size w f (onUnit u) k 0 (structureEnd s size (pastCopies (standing m₂ t)) cs) cs z) in
@@ -228,7 +207,7 @@ module _ (u : ℕ) (ph : Bool) (s : List ℕ) (size text : ℕ) (w f : List ℕ)
             let p : Past (2 * t .used) (blit historyAt (chainIn m₁ count) m) m₂ =
             past-then (past-more _ (omega (arith, y .more)) (o .past)) (copied-at c e .1) in
             past-then
-            (past-blit (attachmentWords (q .told .attachments)) 4096 (omega (arith, q .most))
+            (past-blit (attachmentWords (q .told .attachments)) 4100 (omega (arith, q .most))
             (past-blit (placedIn u ph s size w f 0 n (align8 (t .next)) (metadataEndIn ph s size w n t)) 6656 (omega (arith, q .most))
             (past-more _ (omega (arith, q .more)) p)))
             (q .past)

@@ -10,8 +10,8 @@ use Rattle.base.specs.Blit.{blit}
 use Rattle.base.specs.BlitLaws.{blit-is, blit-comm, length-blit}
 use Rattle.plan.specs.Copies.{Attachment}
 use Rattle.work_words.specs.CopyWords.{copyWords, attachmentWords, attachmentsAt, historyAt, placedAt}
-use Rattle.placing.specs.Standing.{copiesFrom, copiesIn, Past}
-use Rattle.placing.specs.AttachingLaws.{length-words}
+use Rattle.copier.specs.Standing.{copiesFrom, copiesIn, Past}
+use Rattle.copier.specs.AttachingLaws.{length-words}
 
 -- the words of copies read from words are those words
 words-copies : (w : List ℕ) (p k : ℕ) → p + 2 * k ≤ length w → copyWords (copiesFrom w p k) ≡ take (2 * k) (drop p w)
@@ -35,7 +35,7 @@ copies-laid w w' k l h p =
     sym (e ∙ rw (words-copies w' 0 k (omega arith), ← (p .kept)) (take-append-drop (2 * k) w'))
 
 -- the words of `laidCopies`, in any order
-pub all-laid : (w w' : List ℕ) (k : ℕ) (chain : List ℕ) (ts : List Attachment) → length w' ≡ length w → 4096 ≤ length w → k ≤ 2048 → length ts ≤ 64
+pub all-laid : (w w' : List ℕ) (k : ℕ) (chain : List ℕ) (ts : List Attachment) → length w' ≡ length w → 4100 ≤ length w → k ≤ 2050 → length ts ≤ 64
     → Past (2 * k) (blit attachmentsAt (attachmentWords ts) (blit historyAt chain w)) w'
     → w' ≡ blit historyAt chain (blit attachmentsAt (attachmentWords ts) (blit 0 (copyWords (copiesIn w' k)) w))
 all-laid w w' k chain ts l h u t p =
@@ -44,12 +44,12 @@ all-laid w w' k chain ts l h u t p =
     let x = length-blit attachmentsAt (attachmentWords ts) (blit historyAt chain w) in
     let y = length-blit historyAt chain w in
     copies-laid (blit attachmentsAt (attachmentWords ts) (blit historyAt chain w)) w' k (omega arith) (omega arith) p
-    ∙ blit-comm (copyWords (copiesIn w' k)) 0 4096 (attachmentWords ts) (blit historyAt chain w) (omega arith)
+    ∙ blit-comm (copyWords (copiesIn w' k)) 0 4100 (attachmentWords ts) (blit historyAt chain w) (omega arith)
     ∙ ap (blit attachmentsAt (attachmentWords ts)) (blit-comm (copyWords (copiesIn w' k)) 0 4352 chain w (omega arith))
-    ∙ blit-comm (attachmentWords ts) 4096 4352 chain (blit 0 (copyWords (copiesIn w' k)) w) (omega arith)
+    ∙ blit-comm (attachmentWords ts) 4100 4352 chain (blit 0 (copyWords (copiesIn w' k)) w) (omega arith)
 
 -- with the places of columns
-pub all-placed : (w w' : List ℕ) (k : ℕ) (chain : List ℕ) (ts : List Attachment) (ps : List ℕ) → length w' ≡ length w → 4096 ≤ length w → k ≤ 2048
+pub all-placed : (w w' : List ℕ) (k : ℕ) (chain : List ℕ) (ts : List Attachment) (ps : List ℕ) → length w' ≡ length w → 4100 ≤ length w → k ≤ 2050
     → length ts ≤ 64 → length chain ≤ 2304
     → Past (2 * k) (blit attachmentsAt (attachmentWords ts) (blit placedAt ps (blit historyAt chain w))) w'
     → w' ≡ blit placedAt ps (blit historyAt chain (blit attachmentsAt (attachmentWords ts) (blit 0 (copyWords (copiesIn w' k)) w)))
@@ -61,5 +61,5 @@ all-placed w w' k chain ts ps l h u t c p =
     rw (blit-comm chain 4352 6656 ps w (omega arith)) p in
     all-laid (blit placedAt ps w) w' k chain ts (omega arith) (omega arith) u t q
     ∙ ap (λ (v : List ℕ). blit historyAt chain (blit attachmentsAt (attachmentWords ts) v)) (blit-comm (copyWords (copiesIn w' k)) 0 6656 ps w (omega arith))
-    ∙ ap (blit historyAt chain) (blit-comm (attachmentWords ts) 4096 6656 ps (blit 0 (copyWords (copiesIn w' k)) w) (omega arith))
+    ∙ ap (blit historyAt chain) (blit-comm (attachmentWords ts) 4100 6656 ps (blit 0 (copyWords (copiesIn w' k)) w) (omega arith))
     ∙ blit-comm chain 4352 6656 ps (blit attachmentsAt (attachmentWords ts) (blit 0 (copyWords (copiesIn w' k)) w)) (omega arith)

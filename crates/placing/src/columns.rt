@@ -1,35 +1,19 @@
-// The columns, out of the words in which planning keeps them: sizes, places and copies.
-use crate::copier::Got;
-use crate::memo::Copying;
-use crate::memo::aligned;
-use crate::roots::column_roots;
+// The columns, out of the words in which planning keeps them: sizes and places.
 use channels::block_count;
 use channels::width_of;
+use copier::columns::word;
+use copier::memo::aligned;
 use photos::photos_of;
 use planning::sizes::signal_size;
 ghost use mathlib.Core.Path.{_≡_};
 ghost use mathlib.Core.List.{[], _∷_};
 ghost use Prim.Native.Nat.{_+_, _≤_};
-ghost use lib.ListN.{length, getD};
+ghost use lib.ListN.{length};
 ghost use Rattle.base.specs.Blit.{blit};
 ghost use Rattle.plan.specs.Layout.{dlSize};
 ghost use Rattle.plan.specs.Geometry.{alignTo};
-ghost use Rattle.placing.specs.Standing.{standing, Room};
-ghost use Rattle.placing.specs.Got.{Copied, AfterGot, IndexedGot};
-ghost use Rattle.placing.specs.Index.{Indexed};
 ghost use Rattle.placing.specs.InWords.{blocksAt, payloadAt, cgBytes, structureAt, firstIn, blocksEndAt, sdPast, signalAt, signalEndAt};
-ghost use Rattle.placing.specs.InWords.{structuresIn, dataIn, placedIn, copiesOf, AllWithin, AllFew};
-
-// Word i, 0 past the end.
-pub fn word(w: &[u64], i: u64) -> u64
-    ensures { λ r. ⌜ r ≡ getD (now (w .entry)) i 0 ⌝ }
-{
-    let k = i as usize;
-    if k < w.len() {
-        return w[k];
-    }
-    0
-}
+ghost use Rattle.placing.specs.InWords.{structuresIn, dataIn, placedIn, AllWithin, AllFew};
 
 // Bytes of a CG, by the word of its master.
 pub fn cg_bytes(master: u64) -> u64
@@ -129,7 +113,14 @@ fn signal_end(fragments: &[u64], columns: &[u64], p: u64, d: u64) -> u64
 }
 
 // Past the DG, CG, CN and DL of n columns, which begin at a.
-pub(crate) fn structure_end(image: &[u8], photos: bool, size: u64, columns: &[u64], n: u64, a: u64) -> u64
+pub(crate) fn structure_end(
+    image: &[u8],
+    photos: bool,
+    size: u64,
+    columns: &[u64],
+    n: u64,
+    a: u64,
+) -> u64
     requires { ⌜ (n ≤ 512) × (a ≤ 1125899906842624) × AllFew photos (now image) size (now columns) 0 n ⌝ }
     ensures { λ r. ⌜ r ≡ structuresIn photos (now (image .entry)) size (now (columns .entry)) 0 n a ⌝ }
 {
@@ -189,41 +180,4 @@ pub(crate) fn place_columns(
         left -= 1;
     }
     past
-}
-
-// The blocks that n columns refer to, and all that they link to, in order.
-pub(crate) fn copy_columns(
-    image: &[u8],
-    columns: &[u64],
-    n: u64,
-    memo: &mut [u64],
-    index: &mut [u16; 4096],
-    state: Copying,
-) -> Got
-    requires { ⌜ (n ≤ 512) × (8192 ≤ length (now memo)) × Room (state .used) (state .next) × Indexed (now memo) (state .used) (now index) ⌝ }
-    ensures { λ r. ⌜ Copied (now (memo .entry)) (now (memo .exit)) r
-        (copiesOf (now (image .entry)) (now (columns .entry)) 0 n (standing (now (memo .entry)) state)) ⌝ }
-    ensures after { λ r. ⌜ AfterGot r state ⌝ }
-    ensures indexed { λ r. ⌜ IndexedGot r (now (memo .exit)) (now (index .exit)) ⌝ }
-{
-    let mut p: u64 = 0;
-    let mut left = n;
-    let mut st = state;
-    while 0 < left {
-        let dg = word(columns, p + 2);
-        let cg = word(columns, p + 1);
-        let cn = word(columns, p);
-        let got = column_roots(image, memo, index, dg, cg, cn, st);
-        match got {
-            Got::At(t) => {
-                st = t;
-            }
-            Got::Refused { number, place } => {
-                return Got::Refused { number, place };
-            }
-        }
-        p += 8;
-        left -= 1;
-    }
-    Got::At(st)
 }

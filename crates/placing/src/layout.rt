@@ -1,24 +1,21 @@
 // The whole layout, while measuring: copies, the new MD and FH, columns, attachments.
-use crate::attachments::Moved;
-use crate::attachments::attachments;
-use crate::columns::copy_columns;
 use crate::columns::place_columns;
 use crate::columns::structure_end;
-use crate::copier::Got;
-use crate::copier::copy_root;
-use crate::history::Chain;
-use crate::history::history_chain;
-use crate::memo::Copying;
-use crate::memo::aligned;
 use blocks::block::link_at;
+use copier::attachments::Moved;
+use copier::attachments::attachments;
+use copier::columns::copy_columns;
+use copier::copies::Got;
+use copier::history::Chain;
+use copier::history::first_copies;
+use copier::memo::Copying;
+use copier::memo::aligned;
 ghost use mathlib.Core.Path.{_≡_};
 ghost use Prim.Native.Nat.{_≤_};
 ghost use lib.ListN.{length};
 ghost use Rattle.plan.specs.Layout.{mdSize};
 ghost use Rattle.placing.specs.InWords.{AllWithin};
-ghost use Rattle.placing.specs.Laying.{Begins, Rests, LaysOut};
-ghost use Rattle.placing.specs.History.{IndexedChain};
-ghost use Rattle.placing.specs.Index.{Indexed};
+ghost use Rattle.placing.specs.Laying.{Rests, LaysOut};
 
 // What is known of a layout besides its words: how many copies there are after the history chain, the blocks of that chain, the places of
 // the new MD and FH, how many copies there are after the columns' metadata and in all, the attachments, the ends of metadata and file.
@@ -61,29 +58,6 @@ fn md_bytes(n: u64) -> u64
     aligned(24 + n + 1)
 }
 
-// The HD comment, then the history chain.
-fn first_copies(image: &[u8], memo: &mut [u64], index: &mut [u16; 4096]) -> Chain
-    requires { ⌜ (8192 ≤ length (now memo)) × Indexed (now memo) 0 (now index) ⌝ }
-    ensures begins { λ r. ⌜ Begins (now (image .entry)) (now (memo .entry)) (now (memo .exit)) r ⌝ }
-    ensures indexed { λ r. ⌜ IndexedChain r (now (memo .exit)) (now (index .exit)) ⌝ }
-{
-    let got = copy_root(
-        image,
-        memo,
-        index,
-        link_at(image, 64, 5),
-        Copying { used: 0, next: 168 },
-    );
-    match got {
-        Got::At(t) => {
-            return history_chain(image, memo, index, link_at(image, 64, 1), t);
-        }
-        Got::Refused { number, place } => {
-            return Chain::Refused { number, place };
-        }
-    }
-}
-
 // After the columns' metadata: places of columns, then attachments.
 fn place_rest(
     image: &[u8],
@@ -94,22 +68,32 @@ fn place_rest(
     columns: &[u64],
     n: u64,
     memo: &mut [u64],
-    index: &mut [u16; 4096],
     state: Copying,
 ) -> Rest
-    requires { ⌜ (n ≤ 512) × (8192 ≤ length (now memo)) × (length (now image) ≤ 4294967296) × (state .used ≤ 2048)
-        × (state .next ≤ 562949953421312) × AllWithin photos (now image) size (now columns) (now fragments) 0 n × (8 ≤ unit) × (unit ≤ 4096)
-        × Indexed (now memo) (state .used) (now index) ⌝ }
+    requires { ⌜ (n ≤ 512) × (8192 ≤ length (now memo)) × (length (now image) ≤ 4294967296) × (state .used ≤ 2050)
+        × (state .next ≤ 562949953421312) × AllWithin photos (now image) size (now columns) (now fragments) 0 n
+        × (8 ≤ unit) × (unit ≤ 4096) ⌝ }
     ensures { λ r. ⌜ Rests unit photos (now (image .entry)) size (now (columns .entry)) (now (fragments .entry)) n (now (memo .entry)) (now (memo .exit)) state r ⌝ }
 {
     let a = aligned(state.next);
     let end = structure_end(image, photos, size, columns, n, a);
-    let data = place_columns(image, unit, photos, size, fragments, columns, n, memo, a, end);
+    let data = place_columns(
+        image,
+        unit,
+        photos,
+        size,
+        fragments,
+        columns,
+        n,
+        memo,
+        a,
+        end,
+    );
     let moved = attachments(
         image,
         memo,
-        index,
         link_at(image, 64, 3),
+        2048,
         Copying {
             used: state.used,
             next: data,
@@ -138,11 +122,11 @@ pub(crate) fn lay_out(
     memo: &mut [u64],
 ) -> Laid
     requires { ⌜ (n ≤ 512) × (8192 ≤ length (now memo)) × (length (now image) ≤ 4294967296) × (text ≤ 4096)
-        × AllWithin photos (now image) size (now columns) (now fragments) 0 n × (8 ≤ unit) × (unit ≤ 4096) ⌝ }
+        × AllWithin photos (now image) size (now columns) (now fragments) 0 n
+        × (8 ≤ unit) × (unit ≤ 4096) ⌝ }
     ensures { λ r. ⌜ LaysOut unit photos (now (image .entry)) size text (now (columns .entry)) (now (fragments .entry)) n (now (memo .entry)) (now (memo .exit)) r ⌝ }
 {
-    let mut index = [0u16; 4096];
-    let begun = first_copies(image, memo, &mut index);
+    let begun = first_copies(image, memo, 2048);
     match begun {
         Chain::At { count, state } => {
             let md = aligned(state.next);
@@ -152,7 +136,7 @@ pub(crate) fn lay_out(
                 columns,
                 n,
                 memo,
-                &mut index,
+                2048,
                 Copying {
                     used: state.used,
                     next: fh + 56,
@@ -169,7 +153,6 @@ pub(crate) fn lay_out(
                         columns,
                         n,
                         memo,
-                        &mut index,
                         t,
                     );
                     match rest {

@@ -61,7 +61,7 @@ unfoldable pub copyLinks : (ℕ → Copies → Checked Copies) → List ℕ → 
 copyLinks step s zero p m = ok m
 copyLinks step s (suc links) p m = andThen (step (leAt 8 s p) m) (λ m'. copyLinks step s links (p + 8) m')
 
--- "2,048 copied blocks": of those begun, the ones on the way down counted
+-- "2,048 copied blocks": of those begun, the ones on the way down counted. The definitions take the limit, since document 02, request 13, allows 2,050
 abbrev pub mostCopies : ℕ
 mostCopies = 2048
 
@@ -72,11 +72,11 @@ onCopy (some a) m new = ok m
 
 -- the block at a and all that it links to, with the blocks on the way down to it: "Depth starts at 0; depth 65 is refused before the block is read,
 -- if its address is nonzero and not already copied." The depth left falls from 65
-unfoldable pub copyAt : ℕ → List ℕ → List ℕ → ℕ → Copies → Checked Copies
-copyAt zero s way a m = ifEq a 0 (ok m) (onCopy (copyOf a (m .memo)) m (refused 16 a))
-copyAt (suc left) s way a m =
-    let links = copyLinks (copyAt left s (a ∷ way)) s (linksAt s a - lostLinks s a) (a + 24 + 8 * lostLinks s a) m in
-    let limited = ifLt (length (m .memo) + length way) mostCopies (andThen links (λ m'. ok (withCopy a (sizeAt s a) m'))) (refused 19 a) in
+unfoldable pub copyAt : ℕ → ℕ → List ℕ → List ℕ → ℕ → Copies → Checked Copies
+copyAt most zero s way a m = ifEq a 0 (ok m) (onCopy (copyOf a (m .memo)) m (refused 16 a))
+copyAt most (suc left) s way a m =
+    let links = copyLinks (copyAt most left s (a ∷ way)) s (linksAt s a - lostLinks s a) (a + 24 + 8 * lostLinks s a) m in
+    let limited = ifLt (length (m .memo) + length way) most (andThen links (λ m'. ok (withCopy a (sizeAt s a) m'))) (refused 19 a) in
     let read = andThen (wholeAt s a) (λ _. pick (isCopied (kindAt s a)) limited (ok m)) in
     let new = pick (isIn a way) (refused 16 a) read in
     ifEq a 0 (ok m) (onCopy (copyOf a (m .memo)) m new)
@@ -86,13 +86,13 @@ abbrev pub depth : ℕ
 depth = 65
 
 -- "Depth starts at 0": a block that a link leads to, from outside of any copied block
-unfoldable pub copyRoot : List ℕ → ℕ → Copies → Checked Copies
-copyRoot s a m = copyAt depth s [] a m
+unfoldable pub copyRoot : ℕ → List ℕ → ℕ → Copies → Checked Copies
+copyRoot most s a m = copyAt most depth s [] a m
 
 -- bookkeeping: several links, in order
-unfoldable pub copyRoots : List ℕ → List ℕ → Copies → Checked Copies
-copyRoots s [] m = ok m
-copyRoots s (a ∷ as') m = andThen (copyRoot s a m) (λ m'. copyRoots s as' m')
+unfoldable pub copyRoots : ℕ → List ℕ → List ℕ → Copies → Checked Copies
+copyRoots most s [] m = ok m
+copyRoots most s (a ∷ as') m = andThen (copyRoot most s a m) (λ m'. copyRoots most s as' m')
 
 -- ---- history: "History and attachment chains that return to an earlier block end quietly, also a history chain at a kind not copied"
 
@@ -106,17 +106,17 @@ abbrev pub history : List ℕ → Copies → History
 history l m = record { chain = l; made = m }
 
 -- "17: a history block of a copied kind without links"
-unfoldable pub historyFrom : ℕ → List ℕ → ℕ → History → Checked History
-historyFrom zero s a h = ok h
-historyFrom (suc turns) s a h =
-    let more = andThen (copyRoot s a (h .made)) (λ m. historyFrom turns s (firstLink s a) (history (h .chain ++ (a ∷ [])) m)) in
+unfoldable pub historyFrom : ℕ → ℕ → List ℕ → ℕ → History → Checked History
+historyFrom most zero s a h = ok h
+historyFrom most (suc turns) s a h =
+    let more = andThen (copyRoot most s a (h .made)) (λ m. historyFrom most turns s (firstLink s a) (history (h .chain ++ (a ∷ [])) m)) in
     let linked = ifEq (linksAt s a) 0 (refused 17 a) more in
     let unseen = andThen (wholeAt s a) (λ _. pick (isCopied (kindAt s a)) linked (ok h)) in
     ifEq a 0 (ok h) (pick (isIn a (h .chain)) (ok h) unseen)
 
 -- "history chain": the whole of it; each block of it is copied once, so there are at most as many as copies
-unfoldable pub historyOf : List ℕ → ℕ → Copies → Checked History
-historyOf s a m = historyFrom (mostCopies + 1) s a (history [] m)
+unfoldable pub historyOf : ℕ → List ℕ → ℕ → Copies → Checked History
+historyOf most s a m = historyFrom most (most + 1) s a (history [] m)
 
 -- ---- what a column refers to: "per column the copies of CG links 3, 4, 6, CN links 3, 4, 5, 7, 8, the DG comment"
 abbrev pub columnLinks : List ℕ → Column → List ℕ
@@ -126,9 +126,9 @@ columnLinks s c =
     ∷ linkAt s (c .group .dataGroup .at) 3 ∷ []
 
 -- "per column", column by column
-unfoldable pub columnCopies : List ℕ → List Column → Copies → Checked Copies
-columnCopies s [] m = ok m
-columnCopies s (c ∷ cs) m = andThen (copyRoots s (columnLinks s c) m) (λ m'. columnCopies s cs m')
+unfoldable pub columnCopies : ℕ → List ℕ → List Column → Copies → Checked Copies
+columnCopies most s [] m = ok m
+columnCopies most s (c ∷ cs) m = andThen (copyRoots most s (columnLinks s c) m) (λ m'. columnCopies most s cs m')
 
 -- ---- attachments: "attachments, each after the blocks newly copied for it"; at most 64
 
@@ -157,16 +157,16 @@ attach a size before m t =
     }
 
 -- "attachments (header, 18, whole range, 19, links)"; "an attachment chain at a kind other than AT" ends quietly. More turns than attachments
-unfoldable pub attachmentsFrom : ℕ → List ℕ → ℕ → Attached → Checked Attached
-attachmentsFrom zero s a t = ok t
-attachmentsFrom (suc turns) s a t =
-    let copied = copyLinks (copyRoot s) s (linksAt s a - 1) (a + 32) (t .made) in
-    let more = andThen copied (λ m. attachmentsFrom turns s (firstLink s a) (attach a (sizeAt s a) (t .made) m t)) in
+unfoldable pub attachmentsFrom : ℕ → ℕ → List ℕ → ℕ → Attached → Checked Attached
+attachmentsFrom most zero s a t = ok t
+attachmentsFrom most (suc turns) s a t =
+    let copied = copyLinks (copyRoot most s) s (linksAt s a - 1) (a + 32) (t .made) in
+    let more = andThen copied (λ m. attachmentsFrom most turns s (firstLink s a) (attach a (sizeAt s a) (t .made) m t)) in
     let limited = ifLt (length (t .attachments)) mostAttachments more (refused 19 a) in
     let checked = andThen (attachmentIn s a) (λ _. limited) in
     let unseen = andThen (headerIn s a) (λ _. ifEq (kindAt s a) kindAT checked (ok t)) in
     ifEq a 0 (ok t) (pick (isAttached a (t .attachments)) (ok t) unseen)
 
 -- the attachment chain that HD link 4 leads to, with what is placed before it
-unfoldable pub attachmentsOf : List ℕ → ℕ → Copies → Checked Attached
-attachmentsOf s a m = attachmentsFrom (mostAttachments + 2) s a (record { attachments = []; made = m })
+unfoldable pub attachmentsOf : ℕ → List ℕ → ℕ → Copies → Checked Attached
+attachmentsOf most s a m = attachmentsFrom most (mostAttachments + 2) s a (record { attachments = []; made = m })

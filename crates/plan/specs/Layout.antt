@@ -13,7 +13,7 @@ use Rattle.plan.specs.Channel.{width}
 use Rattle.plan.specs.Columns.{Column, Signal, noSignal, signalData}
 use Rattle.plan.specs.Geometry.{align8, alignTo, blockCount}
 use Rattle.plan.specs.Rules.{Rules}
-use Rattle.plan.specs.Copies.{Copies, copies, copyRoot, History, historyOf, columnCopies, Attached, attachmentsOf}
+use Rattle.plan.specs.Copies.{Copies, copies, mostCopies, copyRoot, History, historyOf, columnCopies, Attached, attachmentsOf}
 
 -- ---- one column
 
@@ -195,10 +195,10 @@ fhPlace m n = pastCopies m + mdSize n
 -- "metadata; attachments": the places, and the refusals in document 01's order; n bytes of history text
 unfoldable pub layout : Rules → List ℕ → ℕ → ℕ → List Column → Checked Layout
 layout o s size n cs =
-    andThen (copyRoot s (linkAt s 64 5) (copies [] 168)) (λ m0.
-    andThen (historyOf s (linkAt s 64 1) m0) (λ h.
-    andThen (columnCopies s cs (copies (h .made .memo) (fhPlace (h .made) n + 56))) (λ m2.
-    andThen (attachmentsOf s (linkAt s 64 3) (copies (m2 .memo) (dataEnd o s size (structureEnd s size (pastCopies m2) cs) cs))) (λ t.
+    andThen (copyRoot mostCopies s (linkAt s 64 5) (copies [] 168)) (λ m0.
+    andThen (historyOf mostCopies s (linkAt s 64 1) m0) (λ h.
+    andThen (columnCopies mostCopies s cs (copies (h .made .memo) (fhPlace (h .made) n + 56))) (λ m2.
+    andThen (attachmentsOf mostCopies s (linkAt s 64 3) (copies (m2 .memo) (dataEnd o s size (structureEnd s size (pastCopies m2) cs) cs))) (λ t.
     ok (record {
       comment = m0;
       past = h;

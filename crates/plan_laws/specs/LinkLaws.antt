@@ -9,7 +9,7 @@ use Rattle.base.specs.Blit.{part}
 use Rattle.base.specs.Checked.{Checked, ok}
 use Rattle.mdf.specs.Block.{HD, linkAt, blockAt}
 use Rattle.mdf.specs.Name.{nameAt}
-use Rattle.mdf.specs.Chain.{Fragment, Chain.records, Found, found, stopped, limits, chain}
+use Rattle.mdf.specs.Chain.{Fragment, Chain.records, Found, found, stopped, Limits, limits, chain}
 use Rattle.mdf.specs.Walk.{Item, dg, cg, cn, Source, source, Level, levelDG, levelCG, levelCN, visit, entered, level, turns, belowCN, belowCG, idSizeIn, withFound, belowDG, walkOf, walk}
 use Rattle.mdf.specs.Group.{Group, DataGroup, addresses, channelsOf, groupsOf, upTo, dataGroupsOf, dataGroups}
 use Rattle.result.specs.Member.{In, here, there}
@@ -43,7 +43,7 @@ unfoldable dataGroupItems : ℕ → List DataGroup → List Item
 dataGroupItems n [] = []
 dataGroupItems n (d ∷ ds) = dg (d .at) n ∷ (groupItems (d .groups) ++ dataGroupItems (n + length (d .fragments)) ds)
 
-unfoldable allFragments : List DataGroup → List Fragment
+unfoldable pub allFragments : List DataGroup → List Fragment
 allFragments [] = []
 allFragments (d ∷ ds) = d .fragments ++ allFragments ds
 
@@ -61,12 +61,18 @@ record Groups (s : List ℕ) (a : ℕ) (st st' : Source) : Type 0 where
   chained : Chained s a (addresses groups)
   channels : (g : Group) → In g groups → Chained s (linkAt s (g .at) 1) (g .channels)
 
-record DataGroups (s : List ℕ) (a : ℕ) (st st' : Source) : Type 0 where
+-- the links of a DG, whatever the limits of the walk
+pub record LinkedOf (l : Limits) (s : List ℕ) (d : DataGroup) : Type 0 where
+  pub groups : Chained s (linkAt s (d .at) 1) (addresses (d .groups))
+  pub channels : (g : Group) → In g (d .groups) → Chained s (linkAt s (g .at) 1) (g .channels)
+  pub fragments : (n : ℕ) × (chain records l s n (linkAt s (d .at) 2) ≡ found (d .fragments))
+
+record DataGroups (l : Limits) (s : List ℕ) (a : ℕ) (st st' : Source) : Type 0 where
   dataGroups : List DataGroup
   items : st' .items ≡ st .items ++ dataGroupItems (length (st .fragments)) dataGroups
   fragments : st' .fragments ≡ st .fragments ++ allFragments dataGroups
   chained : Chained s a (dataGroupPlaces dataGroups)
-  linked : (d : DataGroup) → In d dataGroups → Linked s d
+  linked : (d : DataGroup) → In d dataGroups → LinkedOf l s d
 
 -- an item, what is below it, what follows
 then-items : (i c g : List Item) (x : Item) → ((i ++ (x ∷ [])) ++ c) ++ g ≡ i ++ (x ∷ (c ++ g))
@@ -116,11 +122,11 @@ module _ (s : List ℕ) where
             channels = each g (r .groups) (c .chained) (r .channels);
           })
 
-  data-groups-met : (a : ℕ) (st st' : Source) → level levelDG (belowDG limits s) turns s a st ≡ ok st' → DataGroups s a st st'
+  data-groups-met : (l : Limits) (a : ℕ) (st st' : Source) → level levelDG (belowDG l s) turns s a st ≡ ok st' → DataGroups l s a st st'
   unfolding belowDG entered dataGroupItems allFragments dataGroupPlaces Chained
-  data-groups-met = level-chain (DataGroups s) levelDG (belowDG limits s) s end step turns
+  data-groups-met l = level-chain (DataGroups l s) levelDG (belowDG l s) s end step turns
     where
-      end : (a : ℕ) (st : Source) → a ≡ 0 → DataGroups s a st st
+      end : (a : ℕ) (st : Source) → a ≡ 0 → DataGroups l s a st st
       end a st z =
           record {
             dataGroups = [];
@@ -130,13 +136,13 @@ module _ (s : List ℕ) where
             linked = λ d i. absurd (in-none i);
           }
 
-      each : (d : DataGroup) (ds : List DataGroup) → Linked s d → ((e : DataGroup) → In e ds → Linked s e) → (e : DataGroup) → In e (d ∷ ds) → Linked s e
+      each : (d : DataGroup) (ds : List DataGroup) → LinkedOf l s d → ((e : DataGroup) → In e ds → LinkedOf l s e) → (e : DataGroup) → In e (d ∷ ds) → LinkedOf l s e
       each d ds c f e here = c
       each d ds c f e (there i) = f e i
 
       -- the fragments of the data chain, then the groups, then the other DG
-      found-step : (a : ℕ) (st v u st' : Source) (o : Found) → (a ≡ 0 → ⊥) → chain records limits s (length (st .fragments)) (linkAt s a 2) ≡ o
-          → withFound o (entered levelDG a st) ≡ ok v → Groups s (linkAt s a 1) v u → DataGroups s (linkAt s a 0) u st' → DataGroups s a st st'
+      found-step : (a : ℕ) (st v u st' : Source) (o : Found) → (a ≡ 0 → ⊥) → chain records l s (length (st .fragments)) (linkAt s a 2) ≡ o
+          → withFound o (entered levelDG a st) ≡ ok v → Groups s (linkAt s a 1) v u → DataGroups l s (linkAt s a 0) u st' → DataGroups l s a st st'
       found-step a st v u st' (stopped k p fs) n c e g r = absurd (refused≢ok e)
       found-step a st v u st' (found fs) n c e g r =
           let w : source (st .items ++ (dg a (length (st .fragments)) ∷ [])) (st .fragments ++ fs) ≡ v = ok-same e in
@@ -148,18 +154,18 @@ module _ (s : List ℕ) where
           record {
             dataGroups = d ∷ r .dataGroups;
             items = r .items ∙ ap (λ (m : ℕ). u .items ++ dataGroupItems m (r .dataGroups)) k
-                ∙ ap (λ (l : List Item). l ++ dataGroupItems (length (st .fragments) + length fs) (r .dataGroups)) i
+                ∙ ap (λ (m : List Item). m ++ dataGroupItems (length (st .fragments) + length fs) (r .dataGroups)) i
                 ∙ then-items (st .items) (groupItems (g .groups)) (dataGroupItems (length (st .fragments) + length fs) (r .dataGroups)) (dg a (length (st .fragments)));
-            fragments = r .fragments ∙ ap (λ (l : List Fragment). l ++ allFragments (r .dataGroups)) f ∙ append-assoc (st .fragments) fs (allFragments (r .dataGroups));
+            fragments = r .fragments ∙ ap (λ (m : List Fragment). m ++ allFragments (r .dataGroups)) f ∙ append-assoc (st .fragments) fs (allFragments (r .dataGroups));
             chained = (refl, n, r .chained);
             linked = each d (r .dataGroups) (record { groups = g .chained; channels = g .channels; fragments = (length (st .fragments), c) }) (r .linked);
           }
 
-      step : (a : ℕ) (st u st' : Source) → (a ≡ 0 → ⊥) → belowDG limits s a (entered levelDG a st) ≡ ok u → DataGroups s (linkAt s a 0) u st' → DataGroups s a st st'
+      step : (a : ℕ) (st u st' : Source) → (a ≡ 0 → ⊥) → belowDG l s a (entered levelDG a st) ≡ ok u → DataGroups l s (linkAt s a 0) u st' → DataGroups l s a st st'
       step a st u st' n b r =
-          with-ok (withFound (chain records limits s (length (st .fragments)) (linkAt s a 2)) (entered levelDG a st)) _ b (λ v f q.
+          with-ok (withFound (chain records l s (length (st .fragments)) (linkAt s a 2)) (entered levelDG a st)) _ b (λ v f q.
           with-ok (idSizeIn s a) _ q (λ _ _ q.
-          found-step a st v u st' (chain records limits s (length (st .fragments)) (linkAt s a 2)) n refl f (groups-met (linkAt s a 1) v u q) r))
+          found-step a st v u st' (chain records l s (length (st .fragments)) (linkAt s a 2)) n refl f (groups-met (linkAt s a 1) v u q) r))
 
 -- ---- `dataGroups` gives back what was met
 
@@ -258,15 +264,34 @@ data-groups-back (d ∷ ds) pre =
     rw (p, g, r)
 
 -- ---- the whole walk
+pub record WalkedOf (l : Limits) (s : List ℕ) (ds : List DataGroup) : Type 0 where
+  pub chained : Chained s (linkAt s 64 0) (dataGroupPlaces ds)
+  pub linked : (d : DataGroup) → In d ds → LinkedOf l s d
+
+module _ (l : Limits) (s : List ℕ) (st : Source) (e : walkOf l s ≡ ok st) where
+  met : DataGroups l s (linkAt s 64 0) (source [] []) st
+  unfolding walkOf
+  met = with-ok (blockAt HD s 64) _ e (λ _ _ q. data-groups-met s l (linkAt s 64 0) (source [] []) st q)
+
+  found-back : dataGroups st ≡ met .dataGroups
+  unfolding dataGroups
+  found-back =
+      ap (λ (fs : List Fragment). dataGroupsOf fs (st .items)) (met .fragments) ∙ ap (dataGroupsOf (allFragments (met .dataGroups))) (met .items)
+      ∙ data-groups-back (met .dataGroups) []
+
+  pub walkOf-linked : WalkedOf l s (dataGroups st)
+  walkOf-linked = subst (WalkedOf l s) (sym found-back) (record { chained = met .chained; linked = met .linked })
+
+  -- the fragments are those of all DG
+  pub walkOf-fragments : st .fragments ≡ allFragments (dataGroups st)
+  walkOf-fragments = met .fragments ∙ ap allFragments (sym found-back)
+
+-- a recording's
 pub record Walked (s : List ℕ) (ds : List DataGroup) : Type 0 where
   pub chained : Chained s (linkAt s 64 0) (dataGroupPlaces ds)
   pub linked : (d : DataGroup) → In d ds → Linked s d
 
 pub walk-linked : (s : List ℕ) (st : Source) → walk s ≡ ok st → Walked s (dataGroups st)
-unfolding walkOf dataGroups
 walk-linked s st e =
-    with-ok (blockAt HD s 64) _ e (λ _ _ q.
-    let r = data-groups-met s (linkAt s 64 0) (source [] []) st q in
-    let d : dataGroupsOf (st .fragments) (st .items) ≡ r .dataGroups =
-    ap (λ (l : List Fragment). dataGroupsOf l (st .items)) (r .fragments) ∙ ap (dataGroupsOf (allFragments (r .dataGroups))) (r .items) ∙ data-groups-back (r .dataGroups) [] in
-    subst (Walked s) (sym d) (record { chained = r .chained; linked = r .linked }))
+    let w = walkOf-linked limits s st e in
+    record { chained = w .chained; linked = λ d i. let k = w .linked d i in record { groups = k .groups; channels = k .channels; fragments = k .fragments } }

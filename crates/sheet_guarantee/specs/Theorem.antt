@@ -80,7 +80,7 @@ above f a (suc n) (b ∷ cs) c st e =
     let h = above f (suc (b .cn)) n cs c (st .2) e in
     omega (arith, st .0, st .1 .cgAbove, st .1 .cnAbove)
 
-number-at : (f : List ℕ) (a k n : ℕ) (cs : List FileColumn) (c : FileColumn) → AllStand f a cs → fileColumnAt n cs ≡ some c
+pub number-at : (f : List ℕ) (a k n : ℕ) (cs : List FileColumn) (c : FileColumn) → AllStand f a cs → fileColumnAt n cs ≡ some c
     → numberAt (c .cg) k cs ≡ some (k + n)
 unfolding AllStand fileColumnAt numberAt
 number-at f a k n [] c st e = absurd (nothing e)

@@ -52,20 +52,20 @@ module _ (s w : List ℕ) (n a k : ℕ) {m : Option ℕ} (i : numberAt a k (colu
 
 -- ---- the master
 module _ (s : List ℕ) (all : List FileColumn) (g : ℕ) {link : ℕ} (l : link ≡ remoteLink s g) where
-  pub master-none : {at : ℕ} {d e : List ℕ} → link ≡ 0 → Piece at (leftIn 10 (ascii "-")) 10 d e → Piece at (masterIn (masterOf s all g)) 10 d e
+  pub master-none : link ≡ 0 → none ≡ masterOf s all g
   unfolding masterOf
-  master-none z p = let o : none ≡ masterOf s all g = eq-yes _ _ _ _ (sym l ∙ z) refl in piece-as p (ap masterIn o)
+  master-none z = eq-yes _ _ _ _ (sym l ∙ z) refl
 
-  module _ (z : link ≡ 0 → ⊥) (r : Found) (f : foundAs r ≡ numberAt link 0 all) where
-    sought : foundAs r ≡ masterOf s all g
-    unfolding masterOf
-    sought = eq-no _ _ _ _ (λ x. z (l ∙ x)) (f ∙ rw l)
+  pub master-sought : {m : Option ℕ} → (link ≡ 0 → ⊥) → m ≡ numberAt link 0 all → m ≡ masterOf s all g
+  unfolding masterOf
+  master-sought z f = eq-no _ _ _ _ (λ x. z (l ∙ x)) (f ∙ rw l)
 
-    pub master-nothing : {at : ℕ} {d e : List ℕ} → r ≡ Nothing → Piece at (leftIn 10 (ascii "-")) 10 d e → Piece at (masterIn (masterOf s all g)) 10 d e
-    master-nothing q p = let o : none ≡ masterOf s all g = rw q at sought in piece-as p (ap masterIn o)
+module _ (s : List ℕ) (all : List FileColumn) (g : ℕ) {r : Found} (f : foundAs r ≡ masterOf s all g) {at : ℕ} {d e : List ℕ} where
+  pub master-nothing : r ≡ Nothing → Piece at (leftIn 10 (ascii "-")) 10 d e → Piece at (masterIn (masterOf s all g)) 10 d e
+  master-nothing q p = let o : none ≡ masterOf s all g = rw q at f in piece-as p (ap masterIn o)
 
-    pub master-column : {at k : ℕ} {d e : List ℕ} → r ≡ Column k → Piece at (rightIn 10 k) 10 d e → Piece at (masterIn (masterOf s all g)) 10 d e
-    master-column {k = k} q p = let o : some k ≡ masterOf s all g = rw q at sought in piece-as p (ap masterIn o)
+  pub master-column : {k : ℕ} → r ≡ Column k → Piece at (rightIn 10 k) 10 d e → Piece at (masterIn (masterOf s all g)) 10 d e
+  master-column {k} q p = let o : some k ≡ masterOf s all g = rw q at f in piece-as p (ap masterIn o)
 
 -- ---- the kind
 module _ (s : List ℕ) (c : ℕ) where

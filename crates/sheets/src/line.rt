@@ -37,18 +37,27 @@ fn number_at(source: &[u64; 4096], n: u64, a: u64) -> Found
     Found::Nothing
 }
 
-// The master's column of the group at g in 10 characters.
+// The master's column of the group at g, among n columns.
+pub fn master_of(image: &[u8], source: &[u64; 4096], n: u64, g: u64) -> Found
+    ensures { λ r. ⌜ (n ≤ 512 → foundAs r ≡ masterOf (now (image .entry)) (columnsOf (now (image .entry)) (now (source .entry)) n 0) g) ⌝ }
+{
+    let link = remote_link(image, g);
+    if link == 0 {
+        return Found::Nothing;
+    }
+    if 512 < n {
+        return Found::Nothing;
+    }
+    number_at(source, n, link)
+}
+
+// In 10 characters.
 fn put_master(lines: &mut [u8], at: usize, image: &[u8], source: &[u64; 4096], n: u64, g: u64)
     requires { ⌜ (at ≤ 65536) × (n ≤ 512) ⌝ }
     ensures { λ _. ⌜ Piece at (masterIn (masterOf (now (image .entry)) (columnsOf (now (image .entry)) (now (source .entry)) n 0) g)) 10
         (now (lines .entry)) (now (lines .exit)) ⌝ }
 {
-    let link = remote_link(image, g);
-    if link == 0 {
-        put_dash(lines, at, 10);
-        return;
-    }
-    let found = number_at(source, n, link);
+    let found = master_of(image, source, n, g);
     match found {
         Found::Nothing => put_dash(lines, at, 10),
         Found::Column { number } => put_right(lines, at, 10, number),

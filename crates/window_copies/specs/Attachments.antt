@@ -5,7 +5,7 @@ use mathlib.Core.Path.{_≡_}
 use lib.ListN.{getD}
 use Rattle.plan.specs.Copies.{Attachment}
 use Rattle.work_words.specs.CopyWords.{attachmentsAt}
-use Rattle.placing.specs.Standing.{copiesFrom}
+use Rattle.copier.specs.Standing.{copiesFrom}
 use Rattle.result.specs.Fill.{nextAttachment}
 
 abbrev pub attachment : List ℕ → ℕ → ℕ → Attachment
@@ -22,4 +22,4 @@ attachmentsIn w k n = attachmentsFrom w attachmentsAt k n
 
 -- r is the place of attachment number i of n, 0 past the last
 pub record NextPlace (w : List ℕ) (i n r : ℕ) : Type 0 where
-  pub is : (k : ℕ) → r ≡ nextAttachment (attachmentsFrom w (4096 + 3 * i) k (n - i))
+  pub is : (k : ℕ) → r ≡ nextAttachment (attachmentsFrom w (4100 + 3 * i) k (n - i))

@@ -27,8 +27,8 @@ unfolding attachmentsFrom
 next-of w p k zero e = e ∙ sym (lt-no 0 0 (getD w (p + 1) 0) 0 (omega arith) refl)
 next-of w p k (suc n) e = e ∙ sym (lt-yes 0 (suc n) (getD w (p + 1) 0) 0 (omega arith) refl)
 
-pub next-some : (w : List ℕ) (i n : ℕ) {r : ℕ} → i < n → r ≡ getD w (4096 + 3 * i + 1) 0 → NextPlace w i n r
-next-some w i n h e = record { is = λ k. next-of w (4096 + 3 * i) k (n - i) (lt-yes 0 (n - i) _ _ (omega arith) e) }
+pub next-some : (w : List ℕ) (i n : ℕ) {r : ℕ} → i < n → r ≡ getD w (4100 + 3 * i + 1) 0 → NextPlace w i n r
+next-some w i n h e = record { is = λ k. next-of w (4100 + 3 * i) k (n - i) (lt-yes 0 (n - i) _ _ (omega arith) e) }
 
 pub next-none : (w : List ℕ) (i n : ℕ) → n ≤ i → NextPlace w i n 0
-next-none w i n h = record { is = λ k. next-of w (4096 + 3 * i) k (n - i) (lt-no 0 (n - i) _ _ (omega arith) refl) }
+next-none w i n h = record { is = λ k. next-of w (4100 + 3 * i) k (n - i) (lt-no 0 (n - i) _ _ (omega arith) refl) }

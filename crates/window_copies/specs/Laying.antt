@@ -6,7 +6,7 @@ use mathlib.Core.Path.{_≡_}
 use lib.ListN.{length}
 use Rattle.mdf.specs.Block.{sizeAt}
 use Rattle.plan.specs.Copies.{Copy}
-use Rattle.placing.specs.Standing.{copiesFrom}
+use Rattle.copier.specs.Standing.{copiesFrom}
 use Rattle.result.specs.Fill.{copiedBlocks}
 use Rattle.copies_laws.specs.AnswerLaws.{Whole}
 use Rattle.stores.specs.Over.{over}

@@ -5,7 +5,7 @@ use mathlib.Core.List.{List, [], _∷_}
 use mathlib.Core.Path.{_≡_}
 use lib.ListN.{length}
 use Rattle.plan.specs.Copies.{Attachment}
-use Rattle.placing.specs.Standing.{copiesIn}
+use Rattle.copier.specs.Standing.{copiesIn}
 use Rattle.result.specs.Fill.{attachmentBlocks}
 use Rattle.copies_laws.specs.AttachLaws.{Moved, ownCopies}
 use Rattle.windows.specs.Windowed.{overAll}
@@ -20,6 +20,6 @@ AllMoved s (t ∷ ts) = Wholes s (t .own) × Moved s (t .from) × AllMoved s ts
 -- the attachments number i up to count, the first one's copies from copy number k on, laid over w, give g
 module _ (s words chain : List ℕ) (used fh a count : ℕ) (g : List ℕ) (i k : ℕ) (w : List ℕ) where
   pub record LayingAt : Type 0 where
-    pub few : k + length (ownCopies (attachmentsFrom words (4096 + 3 * i) k (count - i))) ≤ used
-    pub moved : AllMoved s (attachmentsFrom words (4096 + 3 * i) k (count - i))
-    pub rest : overAll a (attachmentBlocks s chain (copiesIn words used) fh (attachmentsFrom words (4096 + 3 * i) k (count - i))) w ≡ g
+    pub few : k + length (ownCopies (attachmentsFrom words (4100 + 3 * i) k (count - i))) ≤ used
+    pub moved : AllMoved s (attachmentsFrom words (4100 + 3 * i) k (count - i))
+    pub rest : overAll a (attachmentBlocks s chain (copiesIn words used) fh (attachmentsFrom words (4100 + 3 * i) k (count - i))) w ≡ g

@@ -8,8 +8,8 @@ use lib.ListN.{length, getD, length-append}
 use Rattle.base.specs.Blit.{part}
 use Rattle.plan.specs.Copies.{Copy, Attachment}
 use Rattle.work_words.specs.CopyWords.{attachmentsAt}
-use Rattle.placing.specs.Standing.{copiesFrom, copiesIn}
-use Rattle.placing.specs.StandingLaws.{length-copies}
+use Rattle.copier.specs.Standing.{copiesFrom, copiesIn}
+use Rattle.copier.specs.StandingLaws.{length-copies}
 use Rattle.result.specs.Fill.{block, copiedBlocks, nextAttachment, atBytes, attachmentBlocks}
 use Rattle.copies_laws.specs.AttachLaws.{Moved, LaidAt, ownCopies}
 use Rattle.copies_laws.specs.LengthLaws.{length-at}
@@ -39,8 +39,8 @@ pub at-begin : (s words chain : List ℕ) (used fh a first count : ℕ) (w : Lis
     → LayingAt s words chain used fh a count (overAll a (attachmentBlocks s chain (copiesIn words used) fh (attachmentsIn words first count)) w) 0 first w
 at-begin s words chain used fh a first count w h k =
     let e : count - 0 ≡ count = omega arith in
-    let f : 4096 + 3 * 0 ≡ 4096 = omega arith in
-    let q : attachmentsIn words first count ≡ attachmentsFrom words (4096 + 3 * 0) first (count - 0) = rw (e, f) in
+    let f : 4100 + 3 * 0 ≡ 4100 = omega arith in
+    let q : attachmentsIn words first count ≡ attachmentsFrom words (4100 + 3 * 0) first (count - 0) = rw (e, f) in
     record {
       few = subst (λ (ts : List Attachment). first + length (ownCopies ts) ≤ used) q h;
       moved = subst (λ (ts : List Attachment). AllMoved s ts) q k;
@@ -55,41 +55,41 @@ unfolding attachmentBlocks overAll
 over-three a s chain m fh t ts w = over-two a (copiedBlocks s chain m fh (t .own)) _ w
 
 module _ {s words chain : List ℕ} {used fh a count : ℕ} {g : List ℕ} {i k : ℕ} {w : List ℕ} (t : LayingAt s words chain used fh a count g i k w) where
-  next-is : i < count → attachmentsFrom words (4096 + 3 * i) k (count - i)
-      ≡ attachment words (4096 + 3 * i) k ∷ attachmentsFrom words (4096 + 3 * (i + 1)) (k + getD words (4096 + 3 * i + 2) 0) (count - (i + 1))
+  next-is : i < count → attachmentsFrom words (4100 + 3 * i) k (count - i)
+      ≡ attachment words (4100 + 3 * i) k ∷ attachmentsFrom words (4100 + 3 * (i + 1)) (k + getD words (4100 + 3 * i + 2) 0) (count - (i + 1))
   next-is h =
-      let e : 4096 + 3 * (i + 1) ≡ 4096 + 3 * i + 3 = omega arith in
+      let e : 4100 + 3 * (i + 1) ≡ 4100 + 3 * i + 3 = omega arith in
       let f : count - (i + 1) ≡ count - i - 1 = omega arith in
-      rw (e, f) (attachments-cons words (4096 + 3 * i) k (count - i) (omega arith))
+      rw (e, f) (attachments-cons words (4100 + 3 * i) k (count - i) (omega arith))
 
-  next-few : i < count → k + getD words (4096 + 3 * i + 2) 0
-      + length (ownCopies (attachmentsFrom words (4096 + 3 * (i + 1)) (k + getD words (4096 + 3 * i + 2) 0) (count - (i + 1)))) ≤ used
+  next-few : i < count → k + getD words (4100 + 3 * i + 2) 0
+      + length (ownCopies (attachmentsFrom words (4100 + 3 * (i + 1)) (k + getD words (4100 + 3 * i + 2) 0) (count - (i + 1)))) ≤ used
   unfolding ownCopies
   next-few h =
       let e = subst (λ (ts : List Attachment). k + length (ownCopies ts) ≤ used) (next-is h) (t .few) in
-      let f = length-copies words (2 * k) (getD words (4096 + 3 * i + 2) 0) in
+      let f = length-copies words (2 * k) (getD words (4100 + 3 * i + 2) 0) in
       omega (arith, simp length-append at e, f)
 
   -- its own copies are there
-  pub next-end : i < count → k + getD words (4096 + 3 * i + 2) 0 ≤ used
+  pub next-end : i < count → k + getD words (4100 + 3 * i + 2) 0 ≤ used
   next-end h = omega (arith, next-few h)
 
-  next-moved : i < count → Wholes s (copiesFrom words (2 * k) (getD words (4096 + 3 * i + 2) 0)) × Moved s (getD words (4096 + 3 * i) 0)
-      × AllMoved s (attachmentsFrom words (4096 + 3 * (i + 1)) (k + getD words (4096 + 3 * i + 2) 0) (count - (i + 1)))
+  next-moved : i < count → Wholes s (copiesFrom words (2 * k) (getD words (4100 + 3 * i + 2) 0)) × Moved s (getD words (4100 + 3 * i) 0)
+      × AllMoved s (attachmentsFrom words (4100 + 3 * (i + 1)) (k + getD words (4100 + 3 * i + 2) 0) (count - (i + 1)))
   unfolding AllMoved
   next-moved h = subst (λ (ts : List Attachment). AllMoved s ts) (next-is h) (t .moved)
 
-  pub at-turn : {e next : ℕ} {v : List ℕ} → i < count → e ≡ k + getD words (4096 + 3 * i + 2) 0 → NextPlace words (i + 1) count next
-      → (k ≤ e → e ≤ used → Wholes s (part k (e - k) (copiesIn words used)) → Moved s (getD words (4096 + 3 * i) 0)
-      → v ≡ over a (getD words (4096 + 3 * i + 1) 0) (atBytes s (copiesIn words used) (getD words (4096 + 3 * i) 0) next)
+  pub at-turn : {e next : ℕ} {v : List ℕ} → i < count → e ≡ k + getD words (4100 + 3 * i + 2) 0 → NextPlace words (i + 1) count next
+      → (k ≤ e → e ≤ used → Wholes s (part k (e - k) (copiesIn words used)) → Moved s (getD words (4100 + 3 * i) 0)
+      → v ≡ over a (getD words (4100 + 3 * i + 1) 0) (atBytes s (copiesIn words used) (getD words (4100 + 3 * i) 0) next)
       (overAll a (copiedBlocks s chain (copiesIn words used) fh (part k (e - k) (copiesIn words used))) w))
       → LayingAt s words chain used fh a count g (i + 1) e v
   at-turn {e} {next} {v} h q p u =
       let m : List Copy = copiesIn words used in
-      let x : ℕ = getD words (4096 + 3 * i) 0 in
-      let y : ℕ = getD words (4096 + 3 * i + 1) 0 in
-      let c : ℕ = getD words (4096 + 3 * i + 2) 0 in
-      let ts : List Attachment = attachmentsFrom words (4096 + 3 * (i + 1)) (k + c) (count - (i + 1)) in
+      let x : ℕ = getD words (4100 + 3 * i) 0 in
+      let y : ℕ = getD words (4100 + 3 * i + 1) 0 in
+      let c : ℕ = getD words (4100 + 3 * i + 2) 0 in
+      let ts : List Attachment = attachmentsFrom words (4100 + 3 * (i + 1)) (k + c) (count - (i + 1)) in
       let n : e - k ≡ c = omega arith in
       let z = next-moved h in
       let cs : part k (e - k) m ≡ copiesFrom words (2 * k) c =
@@ -100,11 +100,11 @@ module _ {s words chain : List ℕ} {used fh a count : ℕ} {g : List ℕ} {i k 
       ∙ ap (λ (l : List Copy). over a y (atBytes s m x next) (overAll a (copiedBlocks s chain m fh l) w)) cs
       ∙ ap (λ (r : ℕ). over a y (atBytes s m x r) (overAll a (copiedBlocks s chain m fh (copiesFrom words (2 * k) c)) w)) (p .is (k + c)) in
       let r = subst (λ (l : List Attachment). overAll a (attachmentBlocks s chain m fh l) w ≡ g) (next-is h) (t .rest) in
-      let three = ap (overAll a (attachmentBlocks s chain m fh ts)) two ∙ sym (over-three a s chain m fh (attachment words (4096 + 3 * i) k) ts w) ∙ r in
+      let three = ap (overAll a (attachmentBlocks s chain m fh ts)) two ∙ sym (over-three a s chain m fh (attachment words (4100 + 3 * i) k) ts w) ∙ r in
       rw q (record { few = next-few h; moved = z .2; rest = three })
 
   pub at-end : count ≤ i → w ≡ g
   unfolding attachmentBlocks overAll
   at-end h =
       subst (λ (ts : List Attachment). overAll a (attachmentBlocks s chain (copiesIn words used) fh ts) w ≡ g)
-      (attachments-none words (4096 + 3 * i) k (count - i) (omega arith)) (t .rest)
+      (attachments-none words (4100 + 3 * i) k (count - i) (omega arith)) (t .rest)

@@ -12,7 +12,7 @@ use lib.ListN.{length, getD, take, drop}
 use Rattle.base.specs.Blit.{part}
 use Rattle.mdf.specs.Block.{sizeAt}
 use Rattle.plan.specs.Copies.{Copy}
-use Rattle.placing.specs.Standing.{copy, copiesFrom, copiesIn}
+use Rattle.copier.specs.Standing.{copy, copiesFrom, copiesIn}
 use Rattle.result.specs.Fill.{copiedBytes, copiedBlocks}
 use Rattle.copies_laws.specs.AnswerLaws.{Whole}
 use Rattle.copies_laws.specs.Laid.{Laid}

@@ -2,13 +2,13 @@
 use crate::copies::lay_copies;
 use crate::copies::lies;
 use crate::lay_at;
-use placing::memo::index_copies;
+use copier::memo::index_copies;
 ghost use mathlib.Core.Path.{_≡_};
 ghost use Prim.Native.Nat.{_+_, _-_, _≤_};
 ghost use lib.ListN.{length};
 ghost use Rattle.base.specs.Blit.{part};
 ghost use Rattle.work_words.specs.CopyWords.{historyAt};
-ghost use Rattle.placing.specs.Standing.{copiesIn};
+ghost use Rattle.copier.specs.Standing.{copiesIn};
 ghost use Rattle.result.specs.Fill.{atBytes, copiedBlocks, attachmentBlocks};
 ghost use Rattle.copies_laws.specs.AttachLaws.{Moved, ownCopies};
 ghost use Rattle.stores.specs.Over.{over};
@@ -39,11 +39,11 @@ fn lay_moved(
 
 // The place of attachment number i of count, 0 past the last.
 fn next_place(memo: &[u64], i: u64, count: u64) -> u64
-    requires { ⌜ (count ≤ 64) × (4288 ≤ length (now memo)) ⌝ }
+    requires { ⌜ (count ≤ 64) × (4292 ≤ length (now memo)) ⌝ }
     ensures { λ r. ⌜ NextPlace (now (memo .entry)) i count r ⌝ }
 {
     if i < count {
-        return memo[(4096 + 3 * i) as usize + 1];
+        return memo[(4100 + 3 * i) as usize + 1];
     }
     0
 }
@@ -63,7 +63,7 @@ fn lay_attachment(
     from: u64,
     next: u64,
 )
-    ensures { λ _. ⌜ (own ≤ end → end ≤ used → end ≤ 2048 → 4096 ≤ length (now (memo .entry))
+    ensures { λ _. ⌜ (own ≤ end → end ≤ used → end ≤ 2050 → 4100 ≤ length (now (memo .entry))
         → Wholes (now (image .entry)) (part own (end - own) (copiesIn (now (memo .entry)) used)) → Moved (now (image .entry)) from
         → now (w .exit) ≡ over a at (atBytes (now (image .entry)) (copiesIn (now (memo .entry)) used) from next)
         (overAll a (copiedBlocks (now (image .entry)) (part historyAt chain (now (memo .entry))) (copiesIn (now (memo .entry)) used) fh
@@ -85,26 +85,26 @@ pub fn lay_attachments(
     first: u64,
     count: u64,
 )
-    ensures { λ _. ⌜ (first + length (ownCopies (attachmentsIn (now (memo .entry)) first count)) ≤ used → used ≤ 2048 → count ≤ 64
-        → 4288 ≤ length (now (memo .entry)) → AllMoved (now (image .entry)) (attachmentsIn (now (memo .entry)) first count)
+    ensures { λ _. ⌜ (first + length (ownCopies (attachmentsIn (now (memo .entry)) first count)) ≤ used → used ≤ 2050 → count ≤ 64
+        → 4292 ≤ length (now (memo .entry)) → AllMoved (now (image .entry)) (attachmentsIn (now (memo .entry)) first count)
         → now (w .exit) ≡ overAll a (attachmentBlocks (now (image .entry)) (part historyAt chain (now (memo .entry))) (copiesIn (now (memo .entry)) used) fh
         (attachmentsIn (now (memo .entry)) first count)) (now (w .entry))) ⌝ }
 {
-    if 2048 < first {
+    if 2050 < first {
         return;
     }
     if 64 < count {
         return;
     }
-    if memo.len() < 4288 {
+    if memo.len() < 4292 {
         return;
     }
     let mut i: u64 = 0;
     let mut own = first;
     while i < count {
-        let j = (4096 + 3 * i) as usize;
+        let j = (4100 + 3 * i) as usize;
         let made = memo[j + 2];
-        if 2048 - own < made {
+        if 2050 - own < made {
             return;
         }
         let end = own + made;

@@ -2,7 +2,7 @@
 use crate::lay_copied;
 use blocks::block::size_at;
 use copying::history::index_chain;
-use placing::memo::index_copies;
+use copier::memo::index_copies;
 ghost use mathlib.Core.Path.{_≡_};
 ghost use mathlib.Core.Bool.{true, false};
 ghost use mathlib.Core.List.{List};
@@ -10,8 +10,8 @@ ghost use Prim.Native.Nat.{ℕ, _-_, _≤_};
 ghost use lib.ListN.{length};
 ghost use Rattle.base.specs.Blit.{part};
 ghost use Rattle.work_words.specs.CopyWords.{historyAt};
-ghost use Rattle.placing.specs.Standing.{copiesIn};
-ghost use Rattle.placing.specs.Index.{Indexes};
+ghost use Rattle.copier.specs.Standing.{copiesIn};
+ghost use Rattle.copier.specs.Index.{Indexes};
 ghost use Rattle.copying.specs.ChainIndex.{ChainIndexes};
 ghost use Rattle.result.specs.Fill.{copiedBytes, copiedBlocks};
 ghost use Rattle.copies_laws.specs.AnswerLaws.{Whole};
@@ -54,7 +54,7 @@ fn lay_copy(
 
 // The first of the copies number from up to to that has a byte in the window of n bytes from a on; to where none has.
 pub(crate) fn first_in(image: &[u8], memo: &[u64], a: u64, n: u64, from: u64, to: u64) -> u64
-    requires { ⌜ (to ≤ 2048) × (4096 ≤ length (now memo)) ⌝ }
+    requires { ⌜ (to ≤ 2050) × (4100 ≤ length (now memo)) ⌝ }
     ensures { λ r. ⌜ Passed (now (image .entry)) (now (memo .entry)) a n to from r ⌝ }
 {
     let mut i = from;
@@ -82,7 +82,7 @@ pub(crate) fn lay_copies_by(
     from: u64,
     to: u64,
 )
-    requires { ⌜ (to ≤ 2048) × (4096 ≤ length (now memo)) ⌝ }
+    requires { ⌜ (to ≤ 2050) × (4100 ≤ length (now memo)) ⌝ }
     ensures { λ _. ⌜ ((g : List ℕ) → Indexes (now (memo .entry)) used (now (index .entry)) → ChainIndexes (now (memo .entry)) chain (now (chained .entry))
         → Laying (now (image .entry)) (now (memo .entry)) (part historyAt chain (now (memo .entry))) (copiesIn (now (memo .entry)) used) fh a to g
         from (now (w .entry)) → now (w .exit) ≡ g) ⌝ }
@@ -109,15 +109,15 @@ pub fn lay_copies(
     from: u64,
     to: u64,
 )
-    ensures { λ _. ⌜ (from ≤ to → to ≤ used → to ≤ 2048 → 4096 ≤ length (now (memo .entry))
+    ensures { λ _. ⌜ (from ≤ to → to ≤ used → to ≤ 2050 → 4100 ≤ length (now (memo .entry))
         → Wholes (now (image .entry)) (part from (to - from) (copiesIn (now (memo .entry)) used))
         → now (w .exit) ≡ overAll a (copiedBlocks (now (image .entry)) (part historyAt chain (now (memo .entry))) (copiesIn (now (memo .entry)) used) fh
         (part from (to - from) (copiesIn (now (memo .entry)) used))) (now (w .entry))) ⌝ }
 {
-    if 2048 < to {
+    if 2050 < to {
         return;
     }
-    if memo.len() < 4096 {
+    if memo.len() < 4100 {
         return;
     }
     let first = first_in(image, memo, a, w.len() as u64, from, to);

@@ -6,7 +6,7 @@ use lib.ListN.{length, getD, take}
 use Rattle.base.specs.Blit.{part}
 use Rattle.base.specs.Choice.{ifEq}
 use Rattle.mdf.specs.Block.{linkAt}
-use Rattle.placing.specs.Standing.{copiesIn}
+use Rattle.copier.specs.Standing.{copiesIn}
 use Rattle.placing.specs.declared.layout.Numbers.{Numbers}
 use Rattle.work_words.specs.CopyWords.{historyAt}
 use Rattle.result.specs.Fill.{Block, block, newLink, hdBytes, copiedBlocks}
@@ -26,7 +26,7 @@ StandsAs x h v f w m = Stands x (h .items) (h .pieces) (h .columns) (h .omission
 
 -- bookkeeping: the place of the first attachment that the words m have, of so many
 abbrev pub firstAt : List ℕ → ℕ → ℕ
-firstAt m count = ifEq count 0 0 (getD m 4097 0)
+firstAt m count = ifEq count 0 0 (getD m 4101 0)
 
 -- bookkeeping: the identification and the HD by the words, of n columns
 abbrev pub frontIn : List ℕ → List ℕ → List ℕ → ℕ → Numbers → List Block
@@ -48,7 +48,7 @@ historyIn s m z = copiedBlocks s (part historyAt (z .chain) m) (copiesIn m (z .c
 -- they are laid over a window that begins at a
 abbrev pub LaysHistory : List ℕ → List ℕ → Numbers → ℕ → List ℕ → List ℕ → Type 0
 LaysHistory s m z a u last =
-    z .history ≤ z .copies → z .history ≤ 2048 → 4096 ≤ length m → Wholes s (part 0 (z .history - 0) (copiesIn m (z .copies)))
+    z .history ≤ z .copies → z .history ≤ 2050 → 4100 ≤ length m → Wholes s (part 0 (z .history - 0) (copiesIn m (z .copies)))
     → Ordered 168 (historyIn s m z) (z .md) → last ≡ overAll a (historyIn s m z) u
 
 -- all blocks before the data are

@@ -25,7 +25,7 @@ use Rattle.copies_laws.specs.LengthLaws.{length-hd, length-md, length-fh}
 use Rattle.copies_laws.specs.OrderLaws.{ordered-cons, ordered-append, ordered-to}
 use Rattle.copies_laws.specs.LayoutLaws.{history-ordered, columns-ordered, structures-ordered, columns-placed}
 use Rattle.guarantee.specs.Theorem as theorem
-use Rattle.placing.specs.Standing.{copiesIn}
+use Rattle.copier.specs.Standing.{copiesIn}
 use Rattle.placing.specs.declared.layout.Numbers.{Numbers}
 use Rattle.stores.specs.Over.{over}
 use Rattle.stores.specs.OverLaws.{over-before, blit-hides}
@@ -40,13 +40,14 @@ use Rattle.window_copies.specs.LayingAt.{AllMoved}
 use Rattle.window_copies.specs.LayingAtLaws.{laid-moved}
 use Rattle.copies_laws.specs.AttachLaws.{ownCopies}
 use Rattle.writing.specs.Answer.{fileFor}
-use Rattle.writing.specs.Wrote.{endOf}
-use Rattle.writing.specs.WroteLaws.{ordered-first, ordered-back}
+use Rattle.write_copies.specs.Wrote.{endOf}
+use Rattle.write_copies.specs.WroteLaws.{ordered-first, ordered-back}
 use Rattle.writing.specs.Data.{dataFrom, DataReady}
 use Rattle.writing.specs.PlacedIn.{placedIn}
 use Rattle.writing.specs.Structure.{onTable, Near, StructureReady}
 use Rattle.writing.specs.StructureLaws.{near-ready}
-use Rattle.writing.specs.LaidWordsLaws.{copies-order, history-room, columns-room, attachments-room, attachments-few}
+use Rattle.write_copies.specs.LaidWordsLaws.{copies-order, attachments-few}
+use Rattle.writing.specs.LaidWordsLaws.{worded, history-room, columns-room, attachments-room}
 use Rattle.window_columns.specs.Columns.{SignalsIn}
 use Rattle.writing.specs.FileLaws as file
 use Rattle.window_file.specs.declared.Held.{Held}
@@ -75,7 +76,7 @@ over-five a bs cs ds es fs u {u₁} {u₂} p q r t v =
 first-place : (m : List ℕ) (n : ℕ) → NextPlace m 0 n (firstAt m n)
 unfolding ifEq
 first-place m zero = next-none m 0 0 (omega arith)
-first-place m (suc n) = next-some m 0 (suc n) (omega arith) (sym (eq-no (suc n) 0 0 (getD m 4097 0) (λ e. omega (arith, e)) refl))
+first-place m (suc n) = next-some m 0 (suc n) (omega arith) (sym (eq-no (suc n) 0 0 (getD m 4101 0) (λ e. omega (arith, e)) refl))
 
 part-whole : (l : List ℕ) → part 0 (length l) l ≡ l
 unfolding part
@@ -109,8 +110,8 @@ module _ {x : Args} {h : Held} {v f w m : List ℕ} (st : StandsAs x h v f w m) 
   pub ident-length : length (x .ident) ≡ 64
   ident-length = file.known st .steps .lent .identLength
 
-  orders : (z .history ≤ z .metadata) × (z .metadata ≤ z .copies) × (z .copies ≤ 2048) × (z .chain ≤ 2049) × (z .attachments ≤ 64)
-  orders = copies-order (file.laid st) (file.counted st)
+  orders : (z .history ≤ z .metadata) × (z .metadata ≤ z .copies) × (z .copies ≤ 2050) × (z .chain ≤ 2051) × (z .attachments ≤ 64)
+  orders = copies-order (worded (file.laid st)) (file.counted st)
 
   pub front-same : frontIn s (x .ident) m (h .columns) z ≡ file.partFront st
   front-same = file.front-is st refl refl (first-place m (z .attachments)) refl
@@ -121,7 +122,7 @@ module _ {x : Args} {h : Held} {v f w m : List ℕ} (st : StandsAs x h v f w m) 
       (subst (λ (e : ℕ). Ordered 168 (file.partHistory st) e) (sym (st .by .numbered .md))
       (history-ordered (file.laid st) (file.l st .past .chain) (memoOf (file.l st)) (file.l st .fh)))
 
-  pub history-asks : (z .history ≤ z .copies) × (z .history ≤ 2048) × (4096 ≤ length m) × Wholes s (part 0 (z .history - 0) (copiesIn m (z .copies)))
+  pub history-asks : (z .history ≤ z .copies) × (z .history ≤ 2050) × (4100 ≤ length m) × Wholes s (part 0 (z .history - 0) (copiesIn m (z .copies)))
       × Ordered 168 (historyIn s m z) (z .md)
   history-asks = (
     omega (arith, orders .0, orders .1),
@@ -132,7 +133,7 @@ module _ {x : Args} {h : Held} {v f w m : List ℕ} (st : StandsAs x h v f w m) 
     history-in-order,
   )
 
-  pub columns-asks : (z .history ≤ z .metadata) × (z .metadata ≤ z .copies) × (z .metadata ≤ 2048) × (4096 ≤ length m)
+  pub columns-asks : (z .history ≤ z .metadata) × (z .metadata ≤ z .copies) × (z .metadata ≤ 2050) × (4100 ≤ length m)
       × Wholes s (part (z .history) (z .metadata - z .history) (copiesIn m (z .copies)))
   columns-asks = (
     orders .0,
@@ -216,10 +217,10 @@ module _ {x : Args} {h : Held} {v f w m : List ℕ} (st : StandsAs x h v f w m) 
   size-below = let e = theorem.file-below x (file.d st) (file.known st) in omega (arith, e)
 
   -- ---- attachments
-  pub attached-asks : (z .metadata + length (ownCopies (attachmentsIn m (z .metadata) (z .attachments))) ≤ z .copies) × (z .copies ≤ 2048) × (z .attachments ≤ 64)
-      × (4288 ≤ length m) × AllMoved s (attachmentsIn m (z .metadata) (z .attachments))
+  pub attached-asks : (z .metadata + length (ownCopies (attachmentsIn m (z .metadata) (z .attachments))) ≤ z .copies) × (z .copies ≤ 2050) × (z .attachments ≤ 64)
+      × (4292 ≤ length m) × AllMoved s (attachmentsIn m (z .metadata) (z .attachments))
   attached-asks = (
-    attachments-few (file.laid st) (file.counted st) (st .d) m (st .by .longD) (st .by .numbered .words),
+    attachments-few (worded (file.laid st)) (file.counted st) (st .d) m (st .by .longD) (st .by .numbered .words),
     orders .2,
     orders .4,
     omega (arith, file.long st),

@@ -40,7 +40,7 @@ fn first_attachment(memo: &[u64], count: u64) -> u64
     if count == 0 {
         return 0;
     }
-    word(memo, 4097)
+    word(memo, 4101)
 }
 
 // The identification and the HD, of n columns.

@@ -10,11 +10,11 @@ use Rattle.window_copies.specs.Attachments.{attachmentsFrom, attachmentsIn}
 
 -- ---- the search: so many attachments from word p on are left
 pub record Seeking (w : List ℕ) (metadata n a p left : ℕ) : Type 0 where
-  pub at : p + 3 * left ≡ 4096 + 3 * n
+  pub at : p + 3 * left ≡ 4100 + 3 * n
   pub first : ℕ
   pub rest : movedTo a (attachmentsFrom w p first left) ≡ movedTo a (attachmentsIn w metadata n)
 
-pub seek-begin : (w : List ℕ) (metadata n a : ℕ) → Seeking w metadata n a 4096 n
+pub seek-begin : (w : List ℕ) (metadata n a : ℕ) → Seeking w metadata n a 4100 n
 seek-begin w metadata n a = record { at = refl; first = metadata; rest = refl }
 
 module _ {w : List ℕ} {metadata n a p left : ℕ} (u : Seeking w metadata n a p left) where
@@ -35,7 +35,7 @@ module _ {w : List ℕ} {metadata n a p left : ℕ} (u : Seeking w metadata n a 
   unfolding attachmentsFrom movedTo
   seek-next h d = go left h (u .at) (u .rest)
     where
-      go : (left : ℕ) → 0 < left → p + 3 * left ≡ 4096 + 3 * n → movedTo a (attachmentsFrom w p (u .first) left) ≡ movedTo a (attachmentsIn w metadata n)
+      go : (left : ℕ) → 0 < left → p + 3 * left ≡ 4100 + 3 * n → movedTo a (attachmentsFrom w p (u .first) left) ≡ movedTo a (attachmentsIn w metadata n)
           → Seeking w metadata n a (p + 3) (left - 1)
       go zero h x q = absurd (omega arith)
       go (suc k) h x q =

@@ -17,7 +17,7 @@ fn sought(memo: &[u64], metadata: u64, attached: u64, a: u64) -> u64
     requires { ⌜ (attached ≤ 64) × (8192 ≤ length (now memo)) ⌝ }
     ensures { λ r. ⌜ r ≡ movedTo a (attachmentsIn (now (memo .entry)) metadata attached) ⌝ }
 {
-    let mut p: usize = 4096;
+    let mut p: usize = 4100;
     let mut left = attached;
     while 0 < left {
         if memo[p] == a {

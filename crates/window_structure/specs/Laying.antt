@@ -8,7 +8,7 @@ use lib.ListN.{getD}
 use Rattle.plan.specs.Rules.{Rules}
 use Rattle.plan.specs.Copies.{Copy, Attachment}
 use Rattle.work_words.specs.CopyWords.{placedAt}
-use Rattle.placing.specs.Standing.{copiesIn}
+use Rattle.copier.specs.Standing.{copiesIn}
 use Rattle.result.specs.Fill.{Block, structureBlocks}
 use Rattle.result.specs.Ordered.{Ordered}
 use Rattle.windows.specs.Windowed.{overAll}

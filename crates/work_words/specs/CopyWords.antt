@@ -18,7 +18,7 @@ attachmentWords (t ∷ ts) = t .from ∷ t .to ∷ length (t .own) ∷ attachmen
 
 -- copies from 0 on; attachments from here on
 abbrev pub attachmentsAt : ℕ
-attachmentsAt = 4096
+attachmentsAt = 4100
 
 -- the history chain
 abbrev pub historyAt : ℕ

@@ -28,8 +28,8 @@ use Rattle.data_blocks.specs.Blocks.{framedAll, blocksFor, BlocksReady, WritesB
 use Rattle.offsets.specs.Offsets.{KeepsNone}
 use Rattle.writing.specs.declared.own.Own.{Own}
 use Rattle.writing.specs.declared.data.Entry.{Entry}
-use Rattle.writing.specs.Wrote.{endOf, Wrote}
-use Rattle.writing.specs.WroteLaws.{ordered-end, ordered-back, ordered-first, wrote-none, wrote-block, wrote-append}
+use Rattle.write_copies.specs.Wrote.{endOf, Wrote}
+use Rattle.write_copies.specs.WroteLaws.{ordered-end, ordered-back, ordered-first, wrote-none, wrote-block, wrote-append}
 use Rattle.writing.specs.Own.{OwnOf, ownWords, ownGroups, groupsAt, wordsAt}
 use Rattle.writing.specs.Data.{entryIn, entryColumn, entryRecords, entryCount, entryPayloads, entryKind, entryBytes, entryBlocks, signalWords}
 use Rattle.writing.specs.Data.{entrySignal, dataFrom, EntryReady, DataReady, Kept}

@@ -11,7 +11,7 @@ use Rattle.base.specs.BlitLaws.{length-blit}
 use Rattle.base.specs.Choice.{ifEq}
 use Rattle.base.specs.ChoiceLaws.{eq-yes, eq-no}
 use Rattle.base.specs.Checked.{Checked}
-use Rattle.mdf.specs.Block.{linkAt, sizeAt}
+use Rattle.mdf.specs.Block.{linkAt}
 use Rattle.mdf.specs.Chain.{Fragment}
 use Rattle.mdf.specs.Walk.{Source}
 use Rattle.mdf.specs.Group.{dataGroups}
@@ -32,12 +32,12 @@ use Rattle.writing.specs.Answer.{fileFor}
 use Rattle.plan.specs.Copies.{Copy, Attachment}
 use Rattle.work_words.specs.CopyWords.{historyAt, laidCopies}
 use Rattle.plan.specs.Layout.{Layout, Placed, pastCopies}
-use Rattle.placing.specs.Standing.{copiesIn}
+use Rattle.copier.specs.Standing.{copiesIn}
 use Rattle.result.specs.Fill.{Block, block, newLink, copiedBlocks, mdBytes, fhBytes, hdBytes, nextDG, structureBlocks, dataBlocks, nextAttachment, attachmentBlocks}
 use Rattle.result.specs.Ordered.{Ordered}
 use Rattle.result.specs.Result.{Args, Decided, decided, memoOf, firstFH, hdBlock, blocksOf, flat, fileOf, rulesOf}
 use Rattle.copies_laws.specs.Laid.{Laid}
-use Rattle.copies_laws.specs.LengthLaws.{length-copied, length-at, length-hd}
+use Rattle.copies_laws.specs.LengthLaws.{length-hd}
 use Rattle.copies_laws.specs.AttachLaws.{LaidAt, ownCopies}
 use Rattle.copies_laws.specs.LayoutLaws.{LaidOut, columns-placed}
 use Rattle.plan_laws.specs.Known.{Known, decided-known}
@@ -48,46 +48,15 @@ use Rattle.writing.specs.PlacedInLaws.{length-placed, next-in, structure
 use Rattle.writing.specs.Structure.{onTable, StructureReady}
 use Rattle.writing.specs.StructureLaws.{by-table}
 use Rattle.window_copies.specs.Attachments.{attachmentsIn, NextPlace}
-use Rattle.writing.specs.LaidWordsLaws.{Numbers, copies-order, history-room, columns-room, attachments-room, attachments-few, history-blocks, columns-blocks, attachments-blocks, copies-read, chain-read, attachments-read}
-use Rattle.writing.specs.Wrote.{endOf, Wrote}
-use Rattle.writing.specs.WroteLaws.{ordered-end, ordered-first}
-use Rattle.writing.specs.Begun.{Begun}
-use Rattle.writing.specs.BegunLaws.{begun-none, begun-room, begun-next, begun-end, begun-all}
+use Rattle.write_copies.specs.LaidWords.{Numbers}
+use Rattle.write_copies.specs.LaidWordsLaws.{copies-order, attachments-few, history-blocks, columns-blocks, attachments-blocks, copies-read, chain-read, attachments-read}
+use Rattle.write_copies.specs.RoomLaws.{laid-ordered, laidAt-ordered}
+use Rattle.writing.specs.LaidWordsLaws.{worded, history-room, columns-room, attachments-room}
+use Rattle.write_copies.specs.Wrote.{endOf, Wrote}
+use Rattle.write_copies.specs.WroteLaws.{ordered-end, ordered-first}
+use Rattle.write_copies.specs.Begun.{Begun}
+use Rattle.write_copies.specs.BegunLaws.{begun-none, begun-room, begun-next, begun-all}
 use Rattle.writing.specs.Finish.{Stands}
-
--- ---- copies and attachments stand where their blocks are in order
-pub laid-ordered : (s : List ℕ) (a b d e : ℕ) (cs : List Copy) (chain : List ℕ) (memo : List Copy) (fh : ℕ) → Laid s a cs e
-    → Ordered b (copiedBlocks s chain memo fh cs) d → Laid s b cs d
-unfolding Laid Ordered copiedBlocks
-laid-ordered s a b d e [] chain memo fh l q = q
-laid-ordered s a b d e (c ∷ cs) chain memo fh l q = (
-  q .0,
-  l .1,
-  laid-ordered s (c .to + sizeAt s (c .from)) (c .to + sizeAt s (c .from)) d e cs chain memo fh (l .2)
-      (subst (λ (k : ℕ). Ordered (c .to + k) (copiedBlocks s chain memo fh cs) d) (length-copied s chain memo fh (c .from) (l .1)) (q .1)),
-)
-
--- own copies in front of a block
-own-ordered : (s : List ℕ) (a b d e : ℕ) (cs : List Copy) (chain : List ℕ) (memo : List Copy) (fh : ℕ) (x : Block) (xs : List Block) → Laid s a cs e
-    → Ordered b (copiedBlocks s chain memo fh cs ++ (x ∷ xs)) d → Laid s b cs (x .at) × Ordered (x .at + length (x .bytes)) xs d
-unfolding Laid Ordered copiedBlocks
-own-ordered s a b d e [] chain memo fh x xs l q = (q .0, q .1)
-own-ordered s a b d e (c ∷ cs) chain memo fh x xs l q =
-    let r = own-ordered s (c .to + sizeAt s (c .from)) (c .to + sizeAt s (c .from)) d e cs chain memo fh x xs (l .2)
-    (subst (λ (k : ℕ). Ordered (c .to + k) (copiedBlocks s chain memo fh cs ++ (x ∷ xs)) d) (length-copied s chain memo fh (c .from) (l .1)) (q .1)) in
-    ((q .0, l .1, r .0), r .1)
-
-pub laidAt-ordered : (s : List ℕ) (a b d e : ℕ) (ts : List Attachment) (chain : List ℕ) (memo : List Copy) (fh : ℕ) → LaidAt s a ts e
-    → Ordered b (attachmentBlocks s chain memo fh ts) d → LaidAt s b ts d
-unfolding LaidAt Ordered attachmentBlocks
-laidAt-ordered s a b d e [] chain memo fh l q = q
-laidAt-ordered s a b d e (t ∷ ts) chain memo fh l q =
-    let r = own-ordered s a b d (t .to) (t .own) chain memo fh _ _ (l .0) q in (
-      r .0,
-      l .1,
-      laidAt-ordered s (t .to + sizeAt s (t .from)) (t .to + sizeAt s (t .from)) d e ts chain memo fh (l .2)
-          (subst (λ (k : ℕ). Ordered (t .to + k) (attachmentBlocks s chain memo fh ts) d) (length-at s memo (t .from) (nextAttachment ts) (l .1)) (r .1)),
-    )
 
 -- ---- the first links of the HD
 pub first-column : (ph : Bool) (s columns memo : List ℕ) (n : ℕ) → ifEq n 0 0 (getD memo 6656 0) ≡ nextDG (placedIn ph s columns memo 0 n)
@@ -103,7 +72,7 @@ first-history m w (suc k) fh h = rw (drop-cons w 4352 0 (omega arith)) (sym (eq-
 
 pub first-attachment : (w : List ℕ) (k count r : ℕ) → NextPlace w 0 count r → r ≡ nextAttachment (attachmentsIn w k count)
 first-attachment w k count r h =
-    let e : 4096 + 3 * 0 ≡ 4096 = omega arith in
+    let e : 4100 + 3 * 0 ≡ 4100 = omega arith in
     let f : count - 0 ≡ count = omega arith in
     h .is k ∙ rw (e, f)
 
@@ -201,15 +170,15 @@ module _ {x : Args} {items pieces columns omitted : ℕ} {n : numbers.Numbers} {
   long = let h = st .by .longD in let e : length m ≡ length (st .d) = ap length (st .by .numbered .words) ∙ rw (length-blit, length-blit, length-blit, length-blit) in omega (arith, h, e)
 
   pub memo-is : copiesIn m (n .copies) ≡ memoOf l
-  memo-is = ap (λ (k : ℕ). copiesIn m k) (counted .all) ∙ copies-read laid (st .d) m (st .by .longD) (st .by .numbered .words)
+  memo-is = ap (λ (k : ℕ). copiesIn m k) (counted .all) ∙ copies-read (worded laid) (st .d) m (st .by .longD) (st .by .numbered .words)
 
   chain-is : part historyAt (n .chain) m ≡ l .past .chain
-  chain-is = ap (λ (k : ℕ). part historyAt k m) (counted .blocks) ∙ chain-read laid (st .d) m (st .by .longD) (st .by .numbered .words)
+  chain-is = ap (λ (k : ℕ). part historyAt k m) (counted .blocks) ∙ chain-read (worded laid) (st .d) m (st .by .longD) (st .by .numbered .words)
 
   moved-is : attachmentsIn m (n .metadata) (n .attachments) ≡ l .attached .attachments
   moved-is =
       ap (λ (k : ℕ). attachmentsIn m k (n .attachments)) (counted .next) ∙ ap (λ (k : ℕ). attachmentsIn m (length (l .metadata .memo)) k) (counted .moved)
-      ∙ attachments-read laid (st .d) m (st .by .longD) (st .by .numbered .words)
+      ∙ attachments-read (worded laid) (st .d) m (st .by .longD) (st .by .numbered .words)
 
   referred : (c : Column) → In c (d .planned .columns) → c .photos ≡ photosOf (x .photos) s (c .channel)
   referred c i = known .planned .sourced c i .refers
@@ -218,7 +187,7 @@ module _ {x : Args} {items pieces columns omitted : ℕ} {n : numbers.Numbers} {
   number-placed = st .by .columns ∙ sym (ap length (columns-placed laid)) ∙ length-placed (l .placed)
 
   pub few-attachments : (n .attachments ≤ 64) × (8192 ≤ length m)
-  few-attachments = let q = copies-order laid counted in (q .4, long)
+  few-attachments = let q = copies-order (worded laid) counted in (q .4, long)
 
   -- the HD's links
   pub front-is : {dg fh first comment : ℕ} → dg ≡ ifEq columns 0 0 (getD m 6656 0) → fh ≡ ifEq (n .chain) 0 (n .fh) (newLink (copiesIn m (n .copies)) (getD m 4352 0))
@@ -241,17 +210,17 @@ module _ {x : Args} {items pieces columns omitted : ℕ} {n : numbers.Numbers} {
   -- ---- each part's blocks
   pub history-same : copiedBlocks s (part historyAt (n .chain) m) (copiesIn m (n .copies)) (n .fh) (part 0 (n .history - 0) (copiesIn m (n .copies))) ≡ partHistory
   history-same =
-      history-blocks laid counted (st .d) m (st .by .longD) (st .by .numbered .words) (n .fh)
+      history-blocks (worded laid) counted (st .d) m (st .by .longD) (st .by .numbered .words) s (n .fh)
       ∙ ap (λ (k : ℕ). copiedBlocks s (l .past .chain) (memoOf l) k (l .past .made .memo)) (st .by .numbered .fh)
 
   pub columns-same : copiedBlocks s (part historyAt (n .chain) m) (copiesIn m (n .copies)) (n .fh) (part (n .history) (n .metadata - n .history) (copiesIn m (n .copies))) ≡ partColumns
   columns-same =
-      columns-blocks laid counted (st .d) m (st .by .longD) (st .by .numbered .words) (n .fh)
+      columns-blocks (worded laid) counted (st .d) m (st .by .longD) (st .by .numbered .words) s (n .fh)
       ∙ ap (λ (k : ℕ). copiedBlocks s (l .past .chain) (memoOf l) k (drop (length (l .past .made .memo)) (l .metadata .memo))) (st .by .numbered .fh)
 
   pub attached-same : attachmentBlocks s (part historyAt (n .chain) m) (copiesIn m (n .copies)) (n .fh) (attachmentsIn m (n .metadata) (n .attachments)) ≡ partAttached
   attached-same =
-      attachments-blocks laid counted (st .d) m (st .by .longD) (st .by .numbered .words) (n .fh)
+      attachments-blocks (worded laid) counted (st .d) m (st .by .longD) (st .by .numbered .words) s (n .fh)
       ∙ ap (λ (k : ℕ). attachmentBlocks s (l .past .chain) (memoOf l) k (l .attached .attachments)) (st .by .numbered .fh)
 
   pub new-same : block (n .md) (mdBytes (x .text)) ∷ block (n .fh) (fhBytes (n .md) (x .time)) ∷ [] ≡ partNew
@@ -340,11 +309,11 @@ module _ {x : Args} {items pieces columns omitted : ℕ} {n : numbers.Numbers} {
 
   -- ---- each part's room and what was written, where the file is begun
   module _ (ys : List Block) {before : List Block} {a : ℕ} {out last : List ℕ} where
-    pub history-asks : Begun before (partHistory ++ ys) (l .fileSize) a out last
-        → (0 ≤ n .history) × (n .history ≤ n .copies) × (n .copies ≤ 2048) × (8192 ≤ length m)
+    history-asks : Begun before (partHistory ++ ys) (l .fileSize) a out last
+        → (0 ≤ n .history) × (n .history ≤ n .copies) × (n .copies ≤ 2050) × (8192 ≤ length m)
         × Laid s a (part 0 (n .history - 0) (copiesIn m (n .copies))) (length last)
     history-asks b =
-        let q = copies-order laid counted in
+        let q = copies-order (worded laid) counted in
         let r : Ordered a (copiedBlocks s (part historyAt (n .chain) m) (copiesIn m (n .copies)) (n .fh) (part 0 (n .history - 0) (copiesIn m (n .copies)))) (length last) =
         subst (λ (bs : List Block). Ordered a bs (length last)) (sym history-same) (begun-room partHistory ys b) in (
           omega arith,
@@ -355,15 +324,19 @@ module _ {x : Args} {items pieces columns omitted : ℕ} {n : numbers.Numbers} {
         )
 
     pub history-done : Begun before (partHistory ++ ys) (l .fileSize) a out last → {r : ℕ} {next : List ℕ}
-        → Wrote a (copiedBlocks s (part historyAt (n .chain) m) (copiesIn m (n .copies)) (n .fh) (part 0 (n .history - 0) (copiesIn m (n .copies)))) r last next
+        → (0 ≤ n .history → n .history ≤ n .copies → n .copies ≤ 2050 → 8192 ≤ length m
+        → Laid s a (part 0 (n .history - 0) (copiesIn m (n .copies))) (length last)
+        → Wrote a (copiedBlocks s (part historyAt (n .chain) m) (copiesIn m (n .copies)) (n .fh) (part 0 (n .history - 0) (copiesIn m (n .copies)))) r last next)
         → Begun (before ++ partHistory) ys (l .fileSize) r out next
-    history-done b {r} {next} z = begun-next partHistory ys b (subst (λ (bs : List Block). Wrote a bs r last next) history-same z)
+    history-done b {r} {next} z =
+        let q = history-asks b in
+        begun-next partHistory ys b (subst (λ (bs : List Block). Wrote a bs r last next) history-same (z (q .0) (q .1) (q .2) (q .3) (q .4)))
 
-    pub columns-asks : Begun before (partColumns ++ ys) (l .fileSize) a out last
-        → (n .history ≤ n .metadata) × (n .metadata ≤ n .copies) × (n .copies ≤ 2048) × (8192 ≤ length m)
+    columns-asks : Begun before (partColumns ++ ys) (l .fileSize) a out last
+        → (n .history ≤ n .metadata) × (n .metadata ≤ n .copies) × (n .copies ≤ 2050) × (8192 ≤ length m)
         × Laid s a (part (n .history) (n .metadata - n .history) (copiesIn m (n .copies))) (length last)
     columns-asks b =
-        let q = copies-order laid counted in
+        let q = copies-order (worded laid) counted in
         let r : Ordered a (copiedBlocks s (part historyAt (n .chain) m) (copiesIn m (n .copies)) (n .fh) (part (n .history) (n .metadata - n .history) (copiesIn m (n .copies)))) (length last) =
         subst (λ (bs : List Block). Ordered a bs (length last)) (sym columns-same) (begun-room partColumns ys b) in (
           q .0,
@@ -375,9 +348,13 @@ module _ {x : Args} {items pieces columns omitted : ℕ} {n : numbers.Numbers} {
         )
 
     pub columns-done : Begun before (partColumns ++ ys) (l .fileSize) a out last → {r : ℕ} {next : List ℕ}
-        → Wrote a (copiedBlocks s (part historyAt (n .chain) m) (copiesIn m (n .copies)) (n .fh) (part (n .history) (n .metadata - n .history) (copiesIn m (n .copies)))) r last next
+        → (n .history ≤ n .metadata → n .metadata ≤ n .copies → n .copies ≤ 2050 → 8192 ≤ length m
+        → Laid s a (part (n .history) (n .metadata - n .history) (copiesIn m (n .copies))) (length last)
+        → Wrote a (copiedBlocks s (part historyAt (n .chain) m) (copiesIn m (n .copies)) (n .fh) (part (n .history) (n .metadata - n .history) (copiesIn m (n .copies)))) r last next)
         → Begun (before ++ partColumns) ys (l .fileSize) r out next
-    columns-done b {r} {next} z = begun-next partColumns ys b (subst (λ (bs : List Block). Wrote a bs r last next) columns-same z)
+    columns-done b {r} {next} z =
+        let q = columns-asks b in
+        begun-next partColumns ys b (subst (λ (bs : List Block). Wrote a bs r last next) columns-same (z (q .0) (q .1) (q .2) (q .3) (q .4)))
 
     pub new-asks : Begun before (partNew ++ ys) (l .fileSize) a out last
         → Ordered a (block (n .md) (mdBytes (x .text)) ∷ block (n .fh) (fhBytes (n .md) (x .time)) ∷ []) (length last)
@@ -409,14 +386,14 @@ module _ {x : Args} {items pieces columns omitted : ℕ} {n : numbers.Numbers} {
     ended : Begun before partAttached (l .fileSize) a out last → Begun before (partAttached ++ []) (l .fileSize) a out last
     ended b = subst (λ (bs : List Block). Begun before bs (l .fileSize) a out last) (sym (append-nil partAttached)) b
 
-    pub attached-asks : Begun before partAttached (l .fileSize) a out last
-        → (n .metadata + length (ownCopies (attachmentsIn m (n .metadata) (n .attachments))) ≤ n .copies) × (n .copies ≤ 2048) × (n .attachments ≤ 64) × (8192 ≤ length m)
+    attached-asks : Begun before partAttached (l .fileSize) a out last
+        → (n .metadata + length (ownCopies (attachmentsIn m (n .metadata) (n .attachments))) ≤ n .copies) × (n .copies ≤ 2050) × (n .attachments ≤ 64) × (8192 ≤ length m)
         × LaidAt s a (attachmentsIn m (n .metadata) (n .attachments)) (length last)
     attached-asks b =
-        let q = copies-order laid counted in
+        let q = copies-order (worded laid) counted in
         let r : Ordered a (attachmentBlocks s (part historyAt (n .chain) m) (copiesIn m (n .copies)) (n .fh) (attachmentsIn m (n .metadata) (n .attachments))) (length last) =
         subst (λ (bs : List Block). Ordered a bs (length last)) (sym attached-same) (begun-room partAttached [] (ended b)) in (
-          attachments-few laid counted (st .d) m (st .by .longD) (st .by .numbered .words),
+          attachments-few (worded laid) counted (st .d) m (st .by .longD) (st .by .numbered .words),
           q .2,
           q .4,
           long,
@@ -425,9 +402,13 @@ module _ {x : Args} {items pieces columns omitted : ℕ} {n : numbers.Numbers} {
         )
 
     pub attached-done : Begun before partAttached (l .fileSize) a out last → {r : ℕ} {next : List ℕ}
-        → Wrote a (attachmentBlocks s (part historyAt (n .chain) m) (copiesIn m (n .copies)) (n .fh) (attachmentsIn m (n .metadata) (n .attachments))) r last next
+        → (n .metadata + length (ownCopies (attachmentsIn m (n .metadata) (n .attachments))) ≤ n .copies → n .copies ≤ 2050 → n .attachments ≤ 64 → 8192 ≤ length m
+        → LaidAt s a (attachmentsIn m (n .metadata) (n .attachments)) (length last)
+        → Wrote a (attachmentBlocks s (part historyAt (n .chain) m) (copiesIn m (n .copies)) (n .fh) (attachmentsIn m (n .metadata) (n .attachments))) r last next)
         → Begun (before ++ partAttached) [] (l .fileSize) r out next
-    attached-done b {r} {next} z = begun-next partAttached [] (ended b) (subst (λ (bs : List Block). Wrote a bs r last next) attached-same z)
+    attached-done b {r} {next} z =
+        let q = attached-asks b in
+        begun-next partAttached [] (ended b) (subst (λ (bs : List Block). Wrote a bs r last next) attached-same (z (q .0) (q .1) (q .2) (q .3) (q .4)))
 
   -- ---- the first part and the end
   abbrev pub afterFront : List Block
@@ -459,9 +440,6 @@ module _ {x : Args} {items pieces columns omitted : ℕ} {n : numbers.Numbers} {
 
   written-all : written ≡ blocksOf x l
   written-all = simp append-assoc (sym whole)
-
-  pub end-room : {a : ℕ} {out last : List ℕ} → Begun written [] (l .fileSize) a out last → (a ≤ n .«file_size») × (n .«file_size» ≤ length last)
-  end-room b = let e = begun-end b in let k = st .by .numbered .fileSize in (omega (arith, e .0, k), omega (arith, e .1, k))
 
   pub file-done : {a : ℕ} {out last final : List ℕ} → Begun written [] (l .fileSize) a out last → final ≡ blit a (replicate (n .«file_size» - a) 0) last
       → final ≡ blit 0 (fileFor x (decided x)) out

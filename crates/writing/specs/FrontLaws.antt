@@ -13,8 +13,8 @@ use Rattle.plan.specs.Layout.{mdSize}
 use Rattle.result.specs.Fill.{block, hdBytes, mdBytes, fhBytes}
 use Rattle.result.specs.Ordered.{Ordered}
 use Rattle.copies_laws.specs.LengthLaws.{length-md, length-fh, length-hd}
-use Rattle.writing.specs.Wrote.{Wrote}
-use Rattle.writing.specs.WroteLaws.{wrote-block, wrote-append}
+use Rattle.write_copies.specs.Wrote.{Wrote}
+use Rattle.write_copies.specs.WroteLaws.{wrote-block, wrote-append}
 use Rattle.writing.specs.StructureLaws.{wrote-at, past-one}
 
 -- ---- the identification and the HD

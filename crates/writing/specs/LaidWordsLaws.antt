@@ -1,290 +1,49 @@
--- Words laid out by placing, read back: the copies, the history chain and the attachments of a layout.
-use Prim.Native.Nat.{ℕ, zero, suc, _+_, _-_, _*_, _≤_, _<_}
-use mathlib.Core.List.{List, [], _∷_, _++_, append-assoc}
-use mathlib.Core.Path.{_≡_, refl, sym, ap, subst, _∙_}
-use native.Mathlib.Nat.{sub-zero}
+-- The words of an accepted layout: they hold it, and there is room for its copies and attachments.
+use Prim.Native.Nat.{ℕ, _+_, _-_, _≤_}
+use mathlib.Core.List.{List}
+use mathlib.Core.Path.{_≡_}
 use native.Mathlib.Omega.{arith}
-use lib.ListN.{length, getD, take, drop, length-append, length-drop}
-use lib.Seq.{drop-cons, take-append-seam, drop-append-seam, drop-append-le}
-use Rattle.base.specs.Checked.{ok}
-use Rattle.base.specs.Blit.{part, blit}
-use Rattle.base.specs.BlitLaws.{length-blit, part-blit, part-blit-before}
-use Rattle.mdf.specs.Block.{kindAt, linksAt, firstLink, wholeAt}
-use Rattle.mdf.specs.Chain.{isIn}
+use lib.ListN.{length}
+use Rattle.base.specs.Blit.{part}
 use Rattle.plan.specs.Columns.{Column}
-use Rattle.plan.specs.Copies.{Copy, Copies, isCopied, copyRoot, mostCopies, History, history, historyFrom, historyOf, Attachment}
-use Rattle.work_words.specs.CopyWords.{copyWords, attachmentWords, attachmentsAt, historyAt, placedAt, placedWords, laidCopies}
+use Rattle.plan.specs.Copies.{mostCopies}
 use Rattle.plan.specs.Rules.{Rules}
 use Rattle.plan.specs.Layout.{Layout, pastCopies, dataEnd}
-use Rattle.placing.specs.Standing.{copiesFrom, copiesIn}
-use Rattle.placing.specs.AttachingLaws.{length-words}
-use Rattle.copies_laws.specs.AnswerLaws.{refused≢ok, ok-same, then-ok, by-eq, by-pick, eq-back}
-use Rattle.copies_laws.specs.Laid.{Laid, laid-to, align-past}
-use Rattle.result.specs.Fill.{copiedBlocks, attachmentBlocks}
-use Rattle.result.specs.Result.{memoOf}
-use Rattle.copies_laws.specs.AttachLaws.{ownCopies, LaidAt}
+use Rattle.work_words.specs.CopyWords.{laidCopies}
+use Rattle.copier.specs.Standing.{copiesIn}
+use Rattle.copies_laws.specs.Laid.{Laid, align-past}
+use Rattle.copies_laws.specs.AttachLaws.{LaidAt}
 use Rattle.copies_laws.specs.LayoutLaws.{LaidOut, history-laid, columns-laid, columns-after-history, attachments-laid, few-in-all}
-use Rattle.window_copies.specs.LayingLaws.{copies-take, copies-drop}
-use Rattle.window_copies.specs.Attachments.{attachmentsFrom, attachmentsIn}
+use Rattle.window_copies.specs.Attachments.{attachmentsIn}
+use Rattle.write_copies.specs.LaidWords.{Worded, Numbers}
+use Rattle.write_copies.specs.LaidWordsLaws as words
 
--- ---- words one by one
-part-cons : (w : List ℕ) (p q n : ℕ) → p + 1 ≡ q → p < length w → part p (suc n) w ≡ getD w p 0 ∷ part q n w
-unfolding part
-part-cons w p q n e h =
-    let z : q ≡ suc p = omega arith in
-    rw (drop-cons w p 0 h, z)
-
-cons-head : {x y : ℕ} (xs ys : List ℕ) → x ∷ xs ≡ y ∷ ys → x ≡ y
-cons-head xs ys e = ap (λ (l : List ℕ). getD l 0 0) e
-
-cons-tail : {x y : ℕ} {xs ys : List ℕ} → x ∷ xs ≡ y ∷ ys → xs ≡ ys
-cons-tail e = ap (λ (l : List ℕ). drop 1 l) e
-
--- copies whose words stand from p on
-copies-of : (cs : List Copy) (w : List ℕ) (p : ℕ) → p + 2 * length cs ≤ length w → part p (2 * length cs) w ≡ copyWords cs
-    → copiesFrom w p (length cs) ≡ cs
-unfolding copiesFrom copyWords
-copies-of [] w p h e = refl
-copies-of (c ∷ cs) w p h e =
-    let n : ℕ = 2 * length cs in
-    let z : 2 * suc (length cs) ≡ suc (suc n) = omega arith in
-    let two : part p (2 * suc (length cs)) w ≡ getD w p 0 ∷ getD w (p + 1) 0 ∷ part (p + 2) n w =
-    rw z (part-cons w p (p + 1) (suc n) refl (omega arith)
-    ∙ ap (λ (l : List ℕ). getD w p 0 ∷ l) (part-cons w (p + 1) (p + 2) n (omega arith) (omega arith))) in
-    let q : getD w p 0 ∷ getD w (p + 1) 0 ∷ part (p + 2) n w ≡ c .from ∷ c .to ∷ copyWords cs = sym two ∙ e in
-    let a : getD w p 0 ≡ c .from = cons-head _ _ q in
-    let b : getD w (p + 1) 0 ≡ c .to = cons-head _ _ (cons-tail q) in
-    let r : part (p + 2) n w ≡ copyWords cs = cons-tail (cons-tail q) in
-    rw (a, b, copies-of cs w (p + 2) (omega arith) r)
-
--- attachments whose words stand from p on, with their copies from number k on
-attachments-of : (ts : List Attachment) (w : List ℕ) (p k : ℕ) → p + 3 * length ts ≤ length w → part p (3 * length ts) w ≡ attachmentWords ts
-    → copiesFrom w (2 * k) (length (ownCopies ts)) ≡ ownCopies ts → attachmentsFrom w p k (length ts) ≡ ts
-unfolding attachmentsFrom attachmentWords ownCopies
-attachments-of [] w p k h e o = refl
-attachments-of (t ∷ ts) w p k h e o =
-    let n : ℕ = 3 * length ts in
-    let z : 3 * suc (length ts) ≡ suc (suc (suc n)) = omega arith in
-    let three : part p (3 * suc (length ts)) w ≡ getD w p 0 ∷ getD w (p + 1) 0 ∷ getD w (p + 2) 0 ∷ part (p + 3) n w =
-    rw z (part-cons w p (p + 1) (suc (suc n)) refl (omega arith)
-    ∙ ap (λ (l : List ℕ). getD w p 0 ∷ l) (part-cons w (p + 1) (p + 2) (suc n) (omega arith) (omega arith))
-    ∙ ap (λ (l : List ℕ). getD w p 0 ∷ getD w (p + 1) 0 ∷ l) (part-cons w (p + 2) (p + 3) n (omega arith) (omega arith))) in
-    let q : getD w p 0 ∷ getD w (p + 1) 0 ∷ getD w (p + 2) 0 ∷ part (p + 3) n w ≡ t .from ∷ t .to ∷ length (t .own) ∷ attachmentWords ts = sym three ∙ e in
-    let a : getD w p 0 ≡ t .from = cons-head _ _ q in
-    let b : getD w (p + 1) 0 ≡ t .to = cons-head _ _ (cons-tail q) in
-    let c : getD w (p + 2) 0 ≡ length (t .own) = cons-head _ _ (cons-tail (cons-tail q)) in
-    let r : part (p + 3) n w ≡ attachmentWords ts = cons-tail (cons-tail (cons-tail q)) in
-    let m : ℕ = length (ownCopies ts) in
-    let all : copiesFrom w (2 * k) (length (t .own) + m) ≡ t .own ++ ownCopies ts =
-    sym (ap (copiesFrom w (2 * k)) (length-append (t .own) (ownCopies ts))) ∙ o in
-    let own : copiesFrom w (2 * k) (length (t .own)) ≡ t .own =
-    sym (copies-take w (2 * k) (length (t .own)) m) ∙ ap (take (length (t .own))) all ∙ take-append-seam (t .own) (ownCopies ts) in
-    let y : 2 * (k + length (t .own)) ≡ 2 * k + 2 * length (t .own) = omega arith in
-    let rest : copiesFrom w (2 * (k + length (t .own))) m ≡ ownCopies ts =
-    rw y (sym (copies-drop w (2 * k) (length (t .own)) m) ∙ ap (drop (length (t .own))) all ∙ drop-append-seam (t .own) (ownCopies ts)) in
-    rw (a, b, c, own, attachments-of ts w (p + 3) (k + length (t .own)) (omega arith) r rest)
-
--- ---- the history chain has at most as many blocks as turns
-history-few : (turns : ℕ) (s : List ℕ) (a : ℕ) (h h' : History) → historyFrom turns s a h ≡ ok h' → length (h' .chain) ≤ length (h .chain) + turns
-unfolding historyFrom
-history-few zero s a h h' e =
-    let q : length (h .chain) ≡ length (h' .chain) = ap (λ (x : History). length (x .chain)) (ok-same e) in
-    omega arith
-history-few (suc turns) s a h h' e =
-    let same : ok h ≡ ok h' → length (h' .chain) ≤ length (h .chain) + suc turns = λ q.
-    let z : length (h .chain) ≡ length (h' .chain) = ap (λ (x : History). length (x .chain)) (ok-same q) in
-    omega arith in
-    by-eq a 0 _ _ e same (λ q. by-pick (isIn a (h .chain)) _ _ q same (λ r.
-    let w = then-ok (wholeAt s a) _ r in
-    by-pick (isCopied (kindAt s a)) _ _ (w .2) (λ t.
-    let k = eq-back (linksAt s a) 0 _ _ t refused≢ok in
-    let m = then-ok (copyRoot s a (h .made)) _ k in
-    let i = history-few turns s (firstLink s a) _ h' (m .2) in
-    omega (arith, simp length-append at i))
-    same))
-
-chain-few : (s : List ℕ) (a : ℕ) (m : Copies) (h : History) → historyOf s a m ≡ ok h → length (h .chain) ≤ 2049
-unfolding historyOf
-chain-few s a m h e = omega (arith, history-few (mostCopies + 1) s a (history [] m) h e)
-
-length-copyWords : (cs : List Copy) → length (copyWords cs) ≡ 2 * length cs
-unfolding copyWords
-length-copyWords [] = refl
-length-copyWords (c ∷ cs) = let e = length-copyWords cs in omega arith
-
--- ---- the words of an accepted layout
 module _ {r : Rules} {s : List ℕ} {size n : ℕ} {cs : List Column} {l : Layout} (o : LaidOut r s size n cs l) where
-  pub few-history : length (l .past .chain) ≤ 2049
-  few-history = chain-few s _ (l .comment) (l .past) (o .past)
-
-  module _ (w w' : List ℕ) (long : 8192 ≤ length w) (e : w' ≡ laidCopies l w) where
-    first : List ℕ
-    first = blit 0 (copyWords (l .attached .made .memo)) w
-
-    second : List ℕ
-    second = blit attachmentsAt (attachmentWords (l .attached .attachments)) first
-
-    pub copies-read : copiesIn w' (length (l .attached .made .memo)) ≡ l .attached .made .memo
-    unfolding laidCopies first second
-    copies-read =
-        let m : List Copy = l .attached .made .memo in
-        let k : length (copyWords m) ≡ 2 * length m = length-copyWords m in
-        let few = few-in-all o in
-        let r : part 0 (length (copyWords m)) w' ≡ copyWords m =
-        ap (part 0 (length (copyWords m))) e
-        ∙ part-blit-before (placedWords (l .placed)) placedAt 0 _ (blit historyAt (l .past .chain) second) (omega arith)
-        ∙ part-blit-before (l .past .chain) historyAt 0 _ second (omega arith)
-        ∙ part-blit-before (attachmentWords (l .attached .attachments)) attachmentsAt 0 _ first (omega arith)
-        ∙ part-blit 0 (copyWords m) w (omega arith) in
-        let x : length w' ≡ length w =
-        ap length e ∙ length-blit placedAt (placedWords (l .placed)) (blit historyAt (l .past .chain) second)
-        ∙ length-blit historyAt (l .past .chain) second ∙ length-blit attachmentsAt (attachmentWords (l .attached .attachments)) first
-        ∙ length-blit 0 (copyWords m) w in
-        copies-of m w' 0 (omega arith) (rw k at r)
-
-    pub chain-read : part historyAt (length (l .past .chain)) w' ≡ l .past .chain
-    unfolding laidCopies first second
-    chain-read =
-        let x : length second ≡ length w =
-        length-blit attachmentsAt (attachmentWords (l .attached .attachments)) first ∙ length-blit 0 (copyWords (l .attached .made .memo)) w in
-        ap (part historyAt (length (l .past .chain))) e
-        ∙ part-blit-before (placedWords (l .placed)) placedAt historyAt _ (blit historyAt (l .past .chain) second) (omega (arith, few-history))
-        ∙ part-blit historyAt (l .past .chain) second (omega (arith, few-history))
-
-    -- the copies of the attachments follow those of the metadata
-    own-read : copiesFrom w' (2 * length (l .metadata .memo)) (length (ownCopies (l .attached .attachments))) ≡ ownCopies (l .attached .attachments)
-    own-read =
-        let t = attachments-laid o in
-        let m : List Copy = l .metadata .memo in
-        let own : List Copy = ownCopies (l .attached .attachments) in
-        let c : copiesFrom w' 0 (length m + length own) ≡ m ++ own =
-        ap (copiesFrom w' 0) (sym (ap length (t .memo) ∙ length-append m own)) ∙ copies-read ∙ t .memo in
-        let y : 0 + 2 * length m ≡ 2 * length m = omega arith in
-        sym (ap (λ (p : ℕ). copiesFrom w' p (length own)) y) ∙ sym (copies-drop w' 0 (length m) (length own))
-        ∙ ap (drop (length m)) c ∙ drop-append-seam m own
-
-    pub attachments-read : attachmentsIn w' (length (l .metadata .memo)) (length (l .attached .attachments)) ≡ l .attached .attachments
-    unfolding laidCopies first second
-    attachments-read =
-        let ts : List Attachment = l .attached .attachments in
-        let most : length ts ≤ 64 = attachments-laid o .most in
-        let k : length (attachmentWords ts) ≡ 3 * length ts = length-words ts in
-        let x : length first ≡ length w = length-blit 0 (copyWords (l .attached .made .memo)) w in
-        let x' : length w' ≡ length w =
-        ap length e ∙ length-blit placedAt (placedWords (l .placed)) (blit historyAt (l .past .chain) second)
-        ∙ length-blit historyAt (l .past .chain) second ∙ length-blit attachmentsAt (attachmentWords (l .attached .attachments)) first ∙ x in
-        let r : part attachmentsAt (length (attachmentWords ts)) w' ≡ attachmentWords ts =
-        ap (part attachmentsAt (length (attachmentWords ts))) e
-        ∙ part-blit-before (placedWords (l .placed)) placedAt attachmentsAt _ (blit historyAt (l .past .chain) second) (omega arith)
-        ∙ part-blit-before (l .past .chain) historyAt attachmentsAt _ second (omega arith)
-        ∙ part-blit attachmentsAt (attachmentWords ts) first (omega arith) in
-        attachments-of ts w' attachmentsAt (length (l .metadata .memo)) (omega arith) (rw k at r) own-read
-
-    -- those of the history chain and its HD comment stand first, then those of the columns
-    pub history-copies : part 0 (length (l .past .made .memo)) (copiesIn w' (length (l .attached .made .memo))) ≡ l .past .made .memo
-    unfolding part
-    history-copies =
-        let t = attachments-laid o in
-        let g = columns-after-history o in
-        let m : List Copy = l .past .made .memo in
-        let all : l .attached .made .memo ≡ m ++ (g .new ++ ownCopies (l .attached .attachments)) =
-        t .memo ∙ ap (λ (x : List Copy). x ++ ownCopies (l .attached .attachments)) (g .memo)
-        ∙ append-assoc m (g .new) (ownCopies (l .attached .attachments)) in
-        ap (take (length m)) (copies-read ∙ all) ∙ take-append-seam m (g .new ++ ownCopies (l .attached .attachments))
-
-    pub columns-copies : part (length (l .past .made .memo)) (length (l .metadata .memo) - length (l .past .made .memo))
-        (copiesIn w' (length (l .attached .made .memo))) ≡ drop (length (l .past .made .memo)) (l .metadata .memo)
-    unfolding part
-    columns-copies =
-        let t = attachments-laid o in
-        let g = columns-after-history o in
-        let m : List Copy = l .past .made .memo in
-        let own : List Copy = ownCopies (l .attached .attachments) in
-        let k : length m ≤ length (l .metadata .memo) = omega (arith, ap length (g .memo) ∙ length-append m (g .new)) in
-        let d : drop (length m) (l .metadata .memo ++ own) ≡ drop (length m) (l .metadata .memo) ++ own = drop-append-le (length m) (l .metadata .memo) own k in
-        let c : length (drop (length m) (l .metadata .memo)) ≡ length (l .metadata .memo) - length m = length-drop (length m) (l .metadata .memo) in
-        ap (λ (x : List Copy). take (length (l .metadata .memo) - length m) (drop (length m) x)) (copies-read ∙ t .memo)
-        ∙ ap (take (length (l .metadata .memo) - length m)) d
-        ∙ rw (← c) (take-append-seam (drop (length m) (l .metadata .memo)) own)
-
--- ---- what the words give to those that write
-laidAt-to : (s : List ℕ) (a d e : ℕ) (ts : List Attachment) → LaidAt s a ts d → d ≤ e → LaidAt s a ts e
-unfolding LaidAt
-laidAt-to s a d e [] l h = omega arith
-laidAt-to s a d e (t ∷ ts) l h = (l .0, l .1, laidAt-to s _ d e ts (l .2) h)
-
--- the numbers of all copies, of those of the HD comment and the history, of those and the columns', of the chain's blocks and of the attachments
-pub record Numbers (l : Layout) (used past metadata chain count : ℕ) : Type 0 where
-  pub all : used ≡ length (l .attached .made .memo)
-  pub first : past ≡ length (l .past .made .memo)
-  pub next : metadata ≡ length (l .metadata .memo)
-  pub blocks : chain ≡ length (l .past .chain)
-  pub moved : count ≡ length (l .attached .attachments)
-
-module _ {r : Rules} {s : List ℕ} {size n : ℕ} {cs : List Column} {l : Layout} (o : LaidOut r s size n cs l) {used past metadata chain count : ℕ}
-    (c : Numbers l used past metadata chain count) where
-  pub copies-order : (past ≤ metadata) × (metadata ≤ used) × (used ≤ 2048) × (chain ≤ 2049) × (count ≤ 64)
-  copies-order =
+  pub worded : Worded l
+  worded =
       let t = attachments-laid o in
       let g = columns-after-history o in
-      let x = ap length (g .memo) ∙ length-append (l .past .made .memo) (g .new) in
-      let y = ap length (t .memo) ∙ length-append (l .metadata .memo) (ownCopies (l .attached .attachments)) in (
-        omega (arith, c .first, c .next, x),
-        omega (arith, c .next, c .all, y),
-        omega (arith, c .all, few-in-all o),
-        omega (arith, c .blocks, few-history o),
-        omega (arith, c .moved, t .most),
-      )
+      record {
+        few = omega (arith, few-in-all o);
+        chained = omega (arith, words.chain-few mostCopies s _ (l .comment) (l .past) (o .past));
+        most = t .most;
+        new = g .new;
+        columns = g .memo;
+        all = t .memo;
+      }
 
-  module _ (w w' : List ℕ) (long : 8192 ≤ length w) (e : w' ≡ laidCopies l w) where
-    chain-is : part historyAt chain w' ≡ l .past .chain
-    chain-is = rw (c .blocks) (chain-read o w w' long e)
-
-    all-is : copiesIn w' used ≡ l .attached .made .memo
-    all-is = rw (c .all) (copies-read o w w' long e)
-
-    first-is : part 0 (past - 0) (copiesIn w' used) ≡ l .past .made .memo
-    first-is = rw (sub-zero, c .first, c .all) (history-copies o w w' long e)
-
-    next-is : part past (metadata - past) (copiesIn w' used) ≡ drop (length (l .past .made .memo)) (l .metadata .memo)
-    next-is = rw (c .first, c .next, c .all) (columns-copies o w w' long e)
-
-    moved-is : attachmentsIn w' metadata count ≡ l .attached .attachments
-    moved-is = rw (c .next, c .moved) (attachments-read o w w' long e)
-
+  module _ {used past metadata chain count : ℕ} (c : Numbers l used past metadata chain count)
+      (w w' : List ℕ) (long : 8192 ≤ length w) (e : w' ≡ laidCopies l w) where
     -- there is room for each copy and attachment, up to where the next blocks begin
     pub history-room : (f : ℕ) → l .md ≤ f → Laid s 168 (part 0 (past - 0) (copiesIn w' used)) f
     history-room f h =
-        subst (λ (m : List Copy). Laid s 168 m f) (sym first-is)
-        (laid-to s 168 _ f (l .past .made .memo) (history-laid o) (omega (arith, align-past (l .past .made .next), o .md)))
+        words.history-room worded c w w' long e s 168 _ f (history-laid o) (omega (arith, align-past (l .past .made .next), o .md))
 
     pub columns-room : (f : ℕ) → pastCopies (l .metadata) ≤ f → Laid s (l .fh + 56) (part past (metadata - past) (copiesIn w' used)) f
     unfolding pastCopies
     columns-room f h =
-        subst (λ (m : List Copy). Laid s (l .fh + 56) m f) (sym next-is)
-        (laid-to s (l .fh + 56) _ f (drop (length (l .past .made .memo)) (l .metadata .memo)) (columns-laid o) (omega (arith, align-past (l .metadata .next))))
+        words.columns-room worded c w w' long e s (l .fh + 56) _ f (columns-laid o) (omega (arith, align-past (l .metadata .next)))
 
     pub attachments-room : (f : ℕ) → l .fileSize ≤ f → LaidAt s (dataEnd r s size (l .metadataEnd) cs) (attachmentsIn w' metadata count) f
     attachments-room f h =
-        subst (λ (ts : List Attachment). LaidAt s (dataEnd r s size (l .metadataEnd) cs) ts f) (sym moved-is)
-        (laidAt-to s _ _ f (l .attached .attachments) (attachments-laid o .laid) (omega (arith, o .fileSize)))
-
-    pub attachments-few : metadata + length (ownCopies (attachmentsIn w' metadata count)) ≤ used
-    attachments-few =
-        let t = attachments-laid o in
-        let y = ap length (t .memo) ∙ length-append (l .metadata .memo) (ownCopies (l .attached .attachments)) in
-        rw moved-is (omega (arith, c .next, c .all, y))
-
-    -- the blocks are those of the result
-    module _ (fh : ℕ) where
-      pub history-blocks : copiedBlocks s (part historyAt chain w') (copiesIn w' used) fh (part 0 (past - 0) (copiesIn w' used))
-          ≡ copiedBlocks s (l .past .chain) (memoOf l) fh (l .past .made .memo)
-      history-blocks = rw (first-is, chain-is, all-is)
-
-      pub columns-blocks : copiedBlocks s (part historyAt chain w') (copiesIn w' used) fh (part past (metadata - past) (copiesIn w' used))
-          ≡ copiedBlocks s (l .past .chain) (memoOf l) fh (drop (length (l .past .made .memo)) (l .metadata .memo))
-      columns-blocks = rw (next-is, chain-is, all-is)
-
-      pub attachments-blocks : attachmentBlocks s (part historyAt chain w') (copiesIn w' used) fh (attachmentsIn w' metadata count)
-          ≡ attachmentBlocks s (l .past .chain) (memoOf l) fh (l .attached .attachments)
-      attachments-blocks = rw (moved-is, chain-is, all-is)
+        words.attachments-room worded c w w' long e s _ _ f (attachments-laid o .laid) (omega (arith, o .fileSize))

@@ -1,16 +1,10 @@
 pub mod SignalLaws
 pub mod FragmentsLaws
-pub mod Wrote
-pub mod WroteLaws
 pub mod PlacedIn
 pub mod Structure
 pub mod StructureLaws
-pub mod LedLaws
 pub mod PlacedInLaws
 pub mod FrontLaws
-pub mod CopiesLaws
-pub mod Attachments
-pub mod AttachmentsLaws
 pub mod LaidWordsLaws
 pub mod Omissions
 pub mod OmissionsLaws
@@ -19,8 +13,6 @@ pub mod SumLaws
 pub mod Counted
 pub mod CountedLaws
 pub mod ReportLaws
-pub mod Begun
-pub mod BegunLaws
 pub mod Answer
 pub mod Finish
 pub mod FinishLaws

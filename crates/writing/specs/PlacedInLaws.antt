@@ -1,18 +1,16 @@
 -- The columns in words are those that were planned and placed, but for what their blocks do not show.
 use Prim.Native.Nat.{ℕ, zero, suc, _+_, _*_, _≤_, _<_}
-use mathlib.Core.List.{List, [], _∷_, _++_}
+use mathlib.Core.List.{List, [], _∷_}
 use mathlib.Core.Bool.{Bool, true, false}
 use mathlib.Core.Option.{Option, none, some}
 use mathlib.Core.Path.{_≡_, refl, ap, _∙_}
 use native.Mathlib.Nat.{add-zero, zero-add}
 use native.Mathlib.Numerals.{add-one}
 use native.Mathlib.Omega.{arith}
-use lib.ListN.{length, getD, set, length-set, length-append}
-use lib.Seq.{getD-set-same, getD-set-other, getD-append-add}
-use Rattle.base.specs.Blit.{blit}
+use lib.ListN.{length, getD}
 use Rattle.base.specs.BlitLaws.{length-blit}
 use Rattle.plan.specs.Photos.{photosOf}
-use Rattle.plan.specs.Columns.{Column, Signal, noSignal, signalData, sizeOfSignal, Plan}
+use Rattle.plan.specs.Columns.{Column, Signal, noSignal, signalData, Plan}
 use Rattle.plan.specs.Copies.{Copy, Attachment}
 use Rattle.work_words.specs.CopyWords.{placedAt, placedWords, laidCopies}
 use Rattle.plan.specs.Layout.{columnWidth, columnBlocks, cnSize, Placed, cgOf, cnOf, Layout}
@@ -37,7 +35,9 @@ use Rattle.result.specs.Fill.{
 use Rattle.result.specs.Guarantee.{In, here, there, columnsPlaced}
 use Rattle.result.specs.Ordered.{Ordered}
 use Rattle.copies_laws.specs.LengthLaws.{InImage}
-use Rattle.placing.specs.Standing.{copiesIn}
+use Rattle.copier.specs.Standing.{copiesIn}
+use Rattle.write_copies.specs.LaidWords.{Words}
+use Rattle.write_copies.specs.PlaceWordsLaws.{blit-before, blit-among, length-columns, columns-rest, places-rest, place-words}
 use Rattle.writing.specs.PlacedIn.{timeIn, masterIn, signalIn, columnIn, placedOne, placedIn}
 use Rattle.writing.specs.Structure.{StructureReady}
 
@@ -117,21 +117,6 @@ module _ (rs : Rules) (s : List ℕ) (size : ℕ) (m : List Copy) (ats : List At
   bare-structure all (p ∷ ps) =
       rw (bare-dg p (bare-next ps), bare-group all p, bare-cn p, bare-dl p, bare-structure all ps) (bare-places p _ _ _ _)
 
--- ---- words of lists laid over others
-blit-before : (bs : List ℕ) (j i : ℕ) (l : List ℕ) → i < j → getD (blit j bs l) i 0 ≡ getD l i 0
-unfolding blit
-blit-before [] j i l h = refl
-blit-before (b ∷ bs) j i l h = blit-before bs (suc j) i (set l j b) (omega arith) ∙ getD-set-other l j i b 0 (λ e. omega arith)
-
-blit-among : (bs : List ℕ) (j k : ℕ) (l : List ℕ) → k < length bs → j + k < length l → getD (blit j bs l) (j + k) 0 ≡ getD bs k 0
-unfolding blit
-blit-among [] j k l h r = absurd (omega arith)
-blit-among (b ∷ bs) j zero l h r =
-    rw add-zero (blit-before bs (suc j) j (set l j b) (omega arith) ∙ getD-set-same l j b 0 (omega arith))
-blit-among (b ∷ bs) j (suc k) l h r =
-    let e : j + suc k ≡ suc j + k = omega arith in
-    rw e (blit-among bs (suc j) k (set l j b) (omega arith) (rw length-set (omega arith)))
-
 -- ---- the words of columns give them back
 time-back : (b : Bool) → timeIn (timeWord b) ≡ b
 unfolding timeIn
@@ -147,15 +132,6 @@ signal-back : (n : ℕ) (g : Signal) → signalIn (signalWord n g) ≡ bareSigna
 unfolding signalIn
 signal-back n noSignal = refl
 signal-back n (signalData fs) = rw add-one
-
--- words from i on are those of a list
-abbrev pub Words : List ℕ → ℕ → List ℕ → Type 0
-Words w i l = (j : ℕ) → j < length l → getD w (i + j) 0 ≡ getD l j 0
-
-words-back : (w : List ℕ) (i k : ℕ) (xs ys : List ℕ) → Words w i (xs ++ ys) → k ≡ i + length xs → Words w k ys
-words-back w i k xs ys f e j h =
-    let q : k + j ≡ i + (length xs + j) = omega arith in
-    rw q (f (length xs + j) (rw length-append (omega arith)) ∙ getD-append-add xs ys j 0)
 
 -- column number k
 module _ (ph : Bool) (s columns memo : List ℕ) (n k : ℕ) (p : Placed) (cs : List Column) (ps : List Placed) (refers : p .column .photos ≡ photosOf ph s (p .column .channel))
@@ -180,18 +156,6 @@ module _ (ph : Bool) (s columns memo : List ℕ) (n k : ℕ) (p : Placed) (cs : 
       let c : getD memo (placedAt + 3 * k + 2) 0 ≡ p .sd = g 2 (omega arith) in
       rw (column-back, a, b, c)
 
-columns-rest : (columns : List ℕ) (n k : ℕ) (c : Column) (cs : List Column) → Words columns (8 * k) (columnsWords n (c ∷ cs))
-    → Words columns (8 * (k + 1)) (columnsWords (n + sizeOfSignal (c .signalOf)) cs)
-unfolding columnsWords columnWords
-columns-rest columns n k c cs f =
-    words-back columns (8 * k) (8 * (k + 1)) (columnWords n c) (columnsWords (n + sizeOfSignal (c .signalOf)) cs) f (omega arith)
-
-places-rest : (memo : List ℕ) (k : ℕ) (p : Placed) (ps : List Placed) → Words memo (placedAt + 3 * k) (placedWords (p ∷ ps))
-    → Words memo (placedAt + 3 * (k + 1)) (placedWords ps)
-unfolding placedWords
-places-rest memo k p ps f =
-    words-back memo (placedAt + 3 * k) (placedAt + 3 * (k + 1)) (p .dg ∷ p .first ∷ p .sd ∷ []) (placedWords ps) f (omega arith)
-
 -- all columns from number k on
 pub placed-back : (ph : Bool) (s columns memo : List ℕ) (n k : ℕ) (ps : List Placed)
     → ((c : Column) → In c (columnsPlaced ps) → c .photos ≡ photosOf ph s (c .channel)) → Words columns (8 * k) (columnsWords n (columnsPlaced ps))
@@ -206,16 +170,6 @@ placed-back ph s columns memo n k (p ∷ ps) q f g =
     )
 
 -- ---- planned and placed columns
-length-columns : (n : ℕ) (cs : List Column) → length (columnsWords n cs) ≡ 8 * length cs
-unfolding columnsWords columnWords
-length-columns n [] = refl
-length-columns n (c ∷ cs) = let e = length-columns (n + sizeOfSignal (c .signalOf)) cs in omega (arith, e)
-
-length-places : (ps : List Placed) → length (placedWords ps) ≡ 3 * length ps
-unfolding placedWords
-length-places [] = refl
-length-places (p ∷ ps) = omega (arith, length-places ps)
-
 pub length-placed : (ps : List Placed) → length (columnsPlaced ps) ≡ length ps
 unfolding columnsPlaced
 length-placed [] = refl
@@ -228,13 +182,6 @@ plan-words n p w few long j h =
     let l = length-columns n (p .columns) in
     blit-before (omissionPairs (p .omissions)) omissionsAt (8 * 0 + j) _ (omega arith)
     ∙ blit-among (columnsWords n (p .columns)) (8 * 0) j w h (omega arith)
-
-place-words : (l : Layout) (w : List ℕ) → length (l .placed) ≤ 512 → 8192 ≤ length w
-    → Words (laidCopies l w) (placedAt + 3 * 0) (placedWords (l .placed))
-unfolding laidCopies
-place-words l w few long j h =
-    let k = length-places (l .placed) in
-    blit-among (placedWords (l .placed)) (placedAt + 3 * 0) j _ h (simp length-blit (omega arith))
 
 abbrev headOf : List Placed → Placed → Placed
 headOf [] q = q

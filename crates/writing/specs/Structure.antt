@@ -18,7 +18,7 @@ use Rattle.result.specs.Ordered.{Ordered}
 use Rattle.copies_laws.specs.LengthLaws.{InImage}
 use Rattle.filling.specs.Blocks.{dgFrom, cgFrom, cnFront, cnDataFrom, dlFrom}
 use Rattle.filling.specs.FillLaws.{hasMaster}
-use Rattle.placing.specs.Standing.{copiesIn}
+use Rattle.copier.specs.Standing.{copiesIn}
 use Rattle.writing.specs.declared.placed.PlacedColumn.{PlacedColumn}
 use Rattle.writing.specs.PlacedIn.{masterIn, signalIn, columnIn, placedIn}
 

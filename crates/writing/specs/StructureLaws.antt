@@ -51,8 +51,8 @@ use Rattle.copies_laws.specs.AnswerLaws.{on-eq}
 use Rattle.copies_laws.specs.LengthLaws.{InImage, length-header, length-blockLinks}
 use Rattle.filling.specs.Blocks.{dgFrom, cgHeader, cgFront, cgCounts, cgDataFrom, cgFrom, cnLinks, cnFront, cnTypes, cnRest, cnDataFrom, dlFrom}
 use Rattle.filling.specs.FillLaws.{hasMaster, masterCG, dg-from, cg-from, cn-from, dl-from}
-use Rattle.placing.specs.Answer.{linkOf}
-use Rattle.placing.specs.Standing.{copiesIn}
+use Rattle.copier.specs.Answer.{linkOf}
+use Rattle.copier.specs.Standing.{copiesIn}
 use Rattle.puts.specs.PutLaws.{lent-is}
 use Rattle.writing.specs.declared.placed.PlacedColumn.{PlacedColumn}
 use Rattle.records.specs.FragmentLaws.{lt-or-le}
@@ -77,8 +77,8 @@ use Rattle.writing.specs.Structure.{
   StructureReady,
   onTable,
 }
-use Rattle.writing.specs.Wrote.{endOf, Wrote}
-use Rattle.writing.specs.WroteLaws.{ordered-end, ordered-back, ordered-first, wrote-none, wrote-block, wrote-append}
+use Rattle.write_copies.specs.Wrote.{endOf, Wrote}
+use Rattle.write_copies.specs.WroteLaws.{ordered-end, ordered-back, ordered-first, wrote-none, wrote-block, wrote-append}
 
 -- ---- words
 

@@ -1,5 +1,4 @@
 // The data blocks and signal data of columns, in address order: of each column zeros and its data blocks, zeros and its SD.
-use crate::gap::gap;
 use crate::own::Own;
 use crate::own::known_first;
 use crate::own::known_of;
@@ -10,6 +9,7 @@ use channels::width_of;
 use data_blocks::column::Column;
 use data_blocks::column::write_blocks;
 use offsets::kept::forget;
+use write_copies::gap::gap;
 ghost use mathlib.Core.Path.{_≡_};
 ghost use mathlib.Core.List.{[], _∷_};
 ghost use Prim.Native.Nat.{_+_, _*_, _-_, _≤_, _<_};
@@ -20,7 +20,7 @@ ghost use Rattle.work_words.specs.Words.{fragmentsOf};
 ghost use Rattle.mdf.specs.Records.{joined};
 ghost use Rattle.result.specs.Fill.{block, blockOf};
 ghost use Rattle.result.specs.Ordered.{Ordered};
-ghost use Rattle.writing.specs.Wrote.{Wrote};
+ghost use Rattle.write_copies.specs.Wrote.{Wrote};
 ghost use Rattle.writing.specs.Own.{OwnOf};
 ghost use Rattle.writing.specs.Data.{entryIn, entryBytes, entryBlocks, entrySignal, dataFrom, Tables, EntryReady, DataReady, Kept};
 

@@ -1,9 +1,9 @@
 // The identification and the HD; the new MD and FH.
-use crate::gap::gap;
 use filling::put_fh;
 use filling::put_hd;
 use filling::put_md;
 use puts::copy;
+use write_copies::gap::gap;
 ghost use mathlib.Core.Path.{_≡_};
 ghost use mathlib.Core.List.{[], _∷_};
 ghost use Prim.Native.Nat.{_+_, _≤_};
@@ -11,7 +11,7 @@ ghost use lib.ListN.{length};
 ghost use Rattle.plan.specs.Layout.{mdSize};
 ghost use Rattle.result.specs.Fill.{block, hdBytes, mdBytes, fhBytes};
 ghost use Rattle.result.specs.Ordered.{Ordered};
-ghost use Rattle.writing.specs.Wrote.{Wrote};
+ghost use Rattle.write_copies.specs.Wrote.{Wrote};
 
 // The identification and the HD at the front of out; the index past them, 168.
 pub(crate) fn write_front(

@@ -1,19 +1,19 @@
 // Every column's DG, CG, CN and DL, one after the other.
-use crate::gap::gap;
-use crate::led::put_photos;
 use crate::placed::PlacedColumn;
 use crate::placed::column_of;
 use crate::placed::next_place;
 use blocks::block::link_at;
 use channels::channel_bytes;
 use channels::keeps_inval;
+use copier::memo::index_copies;
+use copier::memo::link_by;
 use filling::put_cg;
 use filling::put_cn;
 use filling::put_cn_data;
 use filling::put_dg;
 use filling::put_dl;
-use placing::memo::index_copies;
-use placing::memo::link_by;
+use write_copies::gap::gap;
+use write_copies::led::put_photos;
 ghost use mathlib.Core.Path.{_≡_};
 ghost use mathlib.Core.List.{[], _∷_};
 ghost use Prim.Native.Nat.{_+_, _*_, _≤_, _<_};
@@ -22,13 +22,13 @@ ghost use Rattle.base.specs.Blit.{blit};
 ghost use Rattle.base.specs.Choice.{ifEq};
 ghost use Rattle.mdf.specs.Block.{linkAt, dataAt};
 ghost use Rattle.plan.specs.Layout.{dlSize};
-ghost use Rattle.placing.specs.Standing.{copiesIn};
-ghost use Rattle.placing.specs.Index.{Indexes};
+ghost use Rattle.copier.specs.Standing.{copiesIn};
+ghost use Rattle.copier.specs.Index.{Indexes};
 ghost use Rattle.result.specs.Fill.{block, newLink, structureBlocks};
 ghost use Rattle.window_copies.specs.Attachments.{attachmentsIn};
 ghost use Rattle.writing.specs.PlacedIn.{placedIn};
 ghost use Rattle.writing.specs.Structure.{onTable, cnLength, columnDG, columnCG, columnFront, columnData, columnCN, columnDLs, columnParts, cgLength, Room, StructureReady};
-ghost use Rattle.writing.specs.Wrote.{Wrote};
+ghost use Rattle.write_copies.specs.Wrote.{Wrote};
 
 // Link i of the block at a, led to its copy.
 fn link(image: &[u8], memo: &[u64], index: &[u16; 4096], used: u64, a: u64, i: u64) -> u64

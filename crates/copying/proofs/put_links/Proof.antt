@@ -1,8 +1,8 @@
 -- The links that are left, laid over the slice as it is now, give the result; past the end they are lost.
 use Rattle.copying.specs.CopyingLaws.{led-is, links-begin, links-turn, links-end, links-done}
 use Rattle.result.specs.Fill.{newLinks}
-use Rattle.placing.specs.Standing.{copiesIn}
-use Rattle.placing.specs.Index.{Indexes}
+use Rattle.copier.specs.Standing.{copiesIn}
+use Rattle.copier.specs.Index.{Indexes}
 use Rattle.puts.specs.PutLaws.{blit-past}
 use Rattle.base.specs.Blit.{blit}
 use Prim.Native.Nat.{_+_, _*_, _<_}

@@ -1,7 +1,7 @@
 -- What is left of the history chain gives what all of it gives.
 use Rattle.copying.specs.CopyingLaws.{Chain, chain-begin, history-last, history-next, history-miss, history-end}
 use Rattle.result.specs.Fill.{historyLink, firstNew}
-use Rattle.placing.specs.Standing.{copiesIn}
+use Rattle.copier.specs.Standing.{copiesIn}
 use Rattle.work_words.specs.CopyWords.{historyAt}
 use Rattle.base.specs.Blit.{part}
 use Prim.Native.Nat.{_-_}

@@ -1,9 +1,9 @@
--- Header, fields and data, one after the other.
-use lib.ListN.{length-append}
-use Rattle.base.specs.FieldLaws.{length-le}
+-- Header, links and data, one after the other.
 use Rattle.base.specs.BlitLaws.{blit-append}
+use Rattle.base.specs.FieldLaws.{length-le}
+use lib.ListN.{length-append}
 use Rattle.puts.specs.PutLaws.{length-header}
-use Rattle.result.specs.Fill.{hdBytes}
+use Rattle.result.specs.Fill.{hdBytes, hdData}
 use borrow.Author.Needs.{needs}
 use Rattle.filling.proofs.put_hd.Statement.{statement}
 use Rattle.filling.proofs.put_hd.Tie as tie
@@ -29,14 +29,14 @@ put-u64-requires-5 c κs = search needs
 put-u64-requires-6 : tie.Need-put-u64-requires-6
 put-u64-requires-6 c κs = search needs
 
-put-hd-data-requires : tie.Need-put-hd-data-requires
-put-hd-data-requires c κs = search needs
+put-cut-data-requires : tie.Need-put-cut-data-requires
+put-cut-data-requires c κs = search needs
 
 same-length : tie.Need-same-length
 same-length c = search needs
 
 returns : tie.Need-returns
-unfolding hdBytes
+unfolding hdBytes hdData
 returns c = simp (blit-append, length-append, length-header, length-le) cc
 
 pub put-hd-spec : {M : Type 1} → statement M
@@ -50,6 +50,6 @@ put-hd-spec =
     put-u64-requires-4
     put-u64-requires-5
     put-u64-requires-6
-    put-hd-data-requires
+    put-cut-data-requires
     same-length
     returns)

@@ -2,8 +2,8 @@
 use Rattle.window_copies.specs.LaidLaws.{numbered-turn, numbered-end, numbered-done}
 use Rattle.copying.specs.CopyingLaws.{led-is}
 use Rattle.result.specs.Fill.{newLinks}
-use Rattle.placing.specs.Standing.{copiesIn}
-use Rattle.placing.specs.Index.{Indexes}
+use Rattle.copier.specs.Standing.{copiesIn}
+use Rattle.copier.specs.Index.{Indexes}
 use Rattle.puts.specs.PutLaws.{blit-past}
 use Rattle.base.specs.Blit.{blit}
 use Prim.Native.Nat.{_+_, _*_, _-_, _<_}

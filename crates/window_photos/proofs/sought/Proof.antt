@@ -8,7 +8,7 @@ use Rattle.window_photos.proofs.sought.Statement.{statement}
 use Rattle.window_photos.proofs.sought.Tie as tie
 
 abbrev Inv-loop : tie.InvT-loop
-Inv-loop memo metadata attached a p₀ left₀ p left = (p + 3 * left ≡ 4096 + 3 * attached) × Seeking memo metadata attached a p left
+Inv-loop memo metadata attached a p₀ left₀ p left = (p + 3 * left ≡ 4100 + 3 * attached) × Seeking memo metadata attached a p left
 
 abbrev μ-loop : tie.MeasureT-loop
 μ-loop memo metadata attached a p₀ left₀ p left = left

@@ -3,7 +3,7 @@ use Prim.Native.Nat.{ℕ, _-_, _≤_}
 use mathlib.Core.List.{List}
 use mathlib.Core.Path.{_≡_, refl}
 use lib.ListN.{length}
-use Rattle.placing.specs.Standing.{copiesIn}
+use Rattle.copier.specs.Standing.{copiesIn}
 use Rattle.window_copies.specs.Attachments.{attachmentsIn}
 use Rattle.writing.specs.Structure.{onTable, Near}
 use Rattle.window_structure.specs.Laying.{Laying}

@@ -51,16 +51,24 @@ add-aligned-2 c = let x = payload-by (c .before .before .before .before .before 
     c .before .before .before .before .blocks-at .ensures in omega arith
 
 aligned-requires : tie.Need-aligned-requires
-aligned-requires c κs = let x = payload-by (c .before .before .before .before .before .before .before .args .image .now)
-    (c .before .before .before .before .before .before .before .args .columns .now)
-    (c .before .before .before .before .before .before .before .args .p) (c .before .before .before .word .ensures)
-    (c .before .before .word2 .ensures) (c .before .width-of .ensures .is) (c .word3 .ensures) in let y =
-    c .before .before .before .before .blocks-at .ensures in omega arith
+aligned-requires c κs = search needs
 
 returns : tie.Need-returns
-returns c = blocks-end-by _ _ _ _ _ (c .before .before .before .before .before .blocks-at .ensures) (payload-by _ _ _
+returns c =
+    let x = payload-by (c .before .before .before .before .before .before .before .before .args .image .now)
+    (c .before .before .before .before .before .before .before .before .args .columns .now)
+    (c .before .before .before .before .before .before .before .before .args .p)
     (c .before .before .before .before .word .ensures) (c .before .before .before .word2 .ensures)
-    (c .before .before .width-of .ensures .is) (c .before .word3 .ensures)) (c .aligned .ensures)
+    (c .before .before .width-of .ensures .is) (c .before .word3 .ensures) in
+    blocks-end-by _ _ _ _ _ (c .before .before .before .before .before .blocks-at .ensures) x
+    (c .aligned .ensures (omega (
+      arith,
+      x,
+      c .before .before .before .before .before .blocks-at .ensures,
+      c .before .before .before .before .before .before .before .before .pre .1,
+      c .before .before .before .before .before .before .before .before .pre .2,
+      c .before .before .before .before .before .before .before .before .pre .3,
+    )))
 
 pub blocks-end-spec : {M : Type 1} → statement M
 blocks-end-spec =

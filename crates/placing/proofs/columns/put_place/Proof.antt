@@ -1,5 +1,5 @@
 -- Three stores in a row.
-use Rattle.placing.specs.AttachingLaws.{three-stores}
+use Rattle.copier.specs.AttachingLaws.{three-stores}
 use mathlib.Core.Path.{refl}
 use native.Mathlib.Omega.{arith}
 use lib.ListN.{length-set}

@@ -25,25 +25,40 @@ signal-size-requires c κs = search needs
 
 add-aligned : tie.Need-add-aligned
 add-aligned c = let x = signal-by (c .before .before .before .before .before .before .args .columns .now)
-    (c .before .before .before .before .before .before .args .fragments .now) (c .before .before .before .before .before .before .args .p)
-    (c .before .before .before .word .ensures) (c .before .word2 .ensures) (c .signal-size .ensures) (omega (arith, c .before .before .before .before .before .before .pre .2)) in
+    (c .before .before .before .before .before .before .args .fragments .now)
+    (c .before .before .before .before .before .before .args .p)
+    (c .before .before .before .word .ensures) (c .before .word2 .ensures) (c .signal-size .ensures)
+    (omega (arith, c .before .before .before .before .before .before .pre .2)) in
     omega (arith, x, c .before .before .before .before .before .before .pre .2)
 
 add-aligned-2 : tie.Need-add-aligned-2
 add-aligned-2 c = let x = signal-by (c .before .before .before .before .before .before .args .columns .now)
-    (c .before .before .before .before .before .before .args .fragments .now) (c .before .before .before .before .before .before .args .p)
-    (c .before .before .before .word .ensures) (c .before .word2 .ensures) (c .signal-size .ensures) (omega (arith, c .before .before .before .before .before .before .pre .2)) in
+    (c .before .before .before .before .before .before .args .fragments .now)
+    (c .before .before .before .before .before .before .args .p)
+    (c .before .before .before .word .ensures) (c .before .word2 .ensures) (c .signal-size .ensures)
+    (omega (arith, c .before .before .before .before .before .before .pre .2)) in
     omega (arith, x, c .before .before .before .before .before .before .pre .2)
 
 aligned-requires : tie.Need-aligned-requires
-aligned-requires c κs = let x = signal-by (c .before .before .before .before .before .before .args .columns .now)
-    (c .before .before .before .before .before .before .args .fragments .now) (c .before .before .before .before .before .before .args .p)
-    (c .before .before .before .word .ensures) (c .before .word2 .ensures) (c .signal-size .ensures) (omega (arith, c .before .before .before .before .before .before .pre .2)) in
-    omega (arith, x, c .before .before .before .before .before .before .pre .2)
+aligned-requires c κs = search needs
 
 returns-2 : tie.Need-returns-2
-returns-2 c = signal-some _ _ _ _ (c .before .before .before .before .word .ensures) (λ e. omega arith) (c .before .before .word2 .ensures) (c .before .signal-size .ensures) (c .before .before .before .before .before .before .before .pre .2)
-    (c .aligned .ensures)
+returns-2 c =
+    let x = signal-by (c .before .before .before .before .before .before .before .args .columns .now)
+    (c .before .before .before .before .before .before .before .args .fragments .now)
+    (c .before .before .before .before .before .before .before .args .p)
+    (c .before .before .before .before .word .ensures) (c .before .before .word2 .ensures)
+    (c .before .signal-size .ensures) (omega (arith, c .before .before .before .before .before .before .before .pre .2))
+    in
+    signal-some _ _ _ _ (c .before .before .before .before .word .ensures) (λ e. omega arith)
+    (c .before .before .word2 .ensures) (c .before .signal-size .ensures)
+    (c .before .before .before .before .before .before .before .pre .2)
+    (c .aligned .ensures (omega (
+      arith,
+      x,
+      c .before .before .before .before .before .before .before .pre .1,
+      c .before .before .before .before .before .before .before .pre .2,
+    )))
 
 pub signal-end-spec : {M : Type 1} → statement M
 signal-end-spec =

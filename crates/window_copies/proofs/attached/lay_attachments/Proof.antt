@@ -14,7 +14,7 @@ use Rattle.window_copies.proofs.attached.lay_attachments.Tie as tie
 
 abbrev Inv-loop : tie.InvT-loop
 Inv-loop w₀ a image memo used chain fh first count i₀ own₀ w i own = 
-    (own ≤ 2048) × (length w ≡ length w₀) × ((g : List ℕ) → LayingAt image memo (part historyAt chain memo) used fh a count g 0 first w₀
+    (own ≤ 2050) × (length w ≡ length w₀) × ((g : List ℕ) → LayingAt image memo (part historyAt chain memo) used fh a count g 0 first w₀
     → LayingAt image memo (part historyAt chain memo) used fh a count g i own w)
 
 abbrev μ-loop : tie.MeasureT-loop

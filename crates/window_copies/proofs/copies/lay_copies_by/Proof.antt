@@ -2,8 +2,8 @@
 use Rattle.window_copies.specs.LayingLaws.{laying-turn, laying-end}
 use Rattle.window_copies.specs.Laying.{Laying}
 use Rattle.copying.specs.ChainIndex.{ChainIndexes}
-use Rattle.placing.specs.Index.{Indexes}
-use Rattle.placing.specs.Standing.{copiesIn}
+use Rattle.copier.specs.Index.{Indexes}
+use Rattle.copier.specs.Standing.{copiesIn}
 use Rattle.work_words.specs.CopyWords.{historyAt}
 use Rattle.base.specs.Blit.{part}
 use Prim.Native.Nat.{ℕ, _-_}

@@ -29,7 +29,7 @@ add-past-2 : tie.Need-add-past-2
 add-past-2 c = let h = entry-room _ _ _ (c .before .before .before .before .before .before .before .before .before .before .pre .1) (c .before .before .before .before .before .before .before .before .before .before .pre .2) (c .before .before .before .width-of .ensures .is) (c .before .before .block-count .ensures) (c .before .if1 .left) in omega arith
 
 gap-requires : tie.Need-gap-requires
-gap-requires c κs = let h = entry-room _ _ _ (c .before .before .before .before .before .before .before .before .before .before .before .pre .1) (c .before .before .before .before .before .before .before .before .before .before .before .pre .2) (c .before .before .before .before .width-of .ensures .is) (c .before .before .before .block-count .ensures) (c .before .before .if1 .left) in (h .0, omega arith)
+gap-requires c κs = search needs
 
 sub-put-blocks : tie.Need-sub-put-blocks
 sub-put-blocks c = let h = entry-room _ _ _ (c .before .before .before .before .before .before .before .before .before .before .before .before .before .before .pre .1) (c .before .before .before .before .before .before .before .before .before .before .before .before .before .before .pre .2) (c .before .before .before .before .before .before .before .width-of .ensures .is) (c .before .before .before .before .before .before .block-count .ensures) (c .before .before .before .before .before .if1 .left) in omega arith

@@ -1,5 +1,5 @@
 -- Each part after the one before.
-use Rattle.writing.specs.FileLaws.{few-attachments, front-is, front-room, front-done, history-asks, history-done, new-asks, new-done, columns-asks, columns-done, structure-asks, structure-done, long-fragments, kept-long, data-asks, data-done, attached-asks, attached-done, end-room, file-same, file-done}
+use Rattle.writing.specs.FileLaws.{few-attachments, front-is, front-room, front-done, history-done, new-asks, new-done, columns-done, structure-asks, structure-done, long-fragments, kept-long, data-asks, data-done, attached-done, file-same, file-done}
 use borrow.Author.Needs.{needs}
 use Rattle.writing.proofs.file.write_file.Statement.{statement}
 use Rattle.writing.proofs.file.write_file.Tie as tie
@@ -14,8 +14,7 @@ first-history-requires c κs = search needs
 
 -- src/file.rt:68:9
 next-place-requires : tie.Need-next-place-requires
-next-place-requires c κs = few-attachments
-    (c .before .before .before .before .before .before .before .before .before .before .before .pre .0)
+next-place-requires c κs = search needs
 
 -- src/file.rt:69:9
 comment-of-requires : tie.Need-comment-of-requires
@@ -30,16 +29,7 @@ write-front-requires c κs = front-room
 
 -- src/file.rt:71:9
 write-copies-requires : tie.Need-write-copies-requires
-write-copies-requires c κs =
-    let s = c .before .before .before .before .before .before .before .before .before .before .before .before .before .before .before .before .before .before .pre .0
-        in
-    let b1 = front-done s
-        (c .before .before .before .before .before .before .before .before .before .before .before .before .before .before .before .before .before .before .pre .1)
-        (front-is s (c .before .before .before .before .before .before .before .before .first-column .ensures)
-        (c .before .before .before .before .before .before .before .first-history .ensures)
-        (c .before .before .before .before .before .before .next-place .ensures)
-        (c .before .before .before .before .before .comment-of .ensures)) (c .before .before .before .write-front .ensures .1) in
-    history-asks s _ b1
+write-copies-requires c κs = search needs
 
 -- src/file.rt:72:9
 write-history-requires : tie.Need-write-history-requires
@@ -59,20 +49,7 @@ write-history-requires c κs =
 
 -- src/file.rt:73:9
 write-copies-requires-2 : tie.Need-write-copies-requires-2
-write-copies-requires-2 c κs =
-    let s = c .before .before .before .before .before .before .before .before .before .before .before .before .before .before .before .before .before .before .before .before .before .before .before .before .before .before .pre .0
-        in
-    let b1 = front-done s
-        (c .before .before .before .before .before .before .before .before .before .before .before .before .before .before .before .before .before .before .before .before .before .before .before .before .before .before .pre .1)
-        (front-is s
-        (c .before .before .before .before .before .before .before .before .before .before .before .before .before .before .before .before .first-column .ensures)
-        (c .before .before .before .before .before .before .before .before .before .before .before .before .before .before .before .first-history .ensures)
-        (c .before .before .before .before .before .before .before .before .before .before .before .before .before .before .next-place .ensures)
-        (c .before .before .before .before .before .before .before .before .before .before .before .before .before .comment-of .ensures))
-        (c .before .before .before .before .before .before .before .before .before .before .before .write-front .ensures .1) in
-    let b2 = history-done s _ b1 (c .before .before .before .before .before .before .before .write-copies .ensures) in
-    let b3 = new-done s _ b2 (c .before .before .before .write-history .ensures) in
-    columns-asks s _ b3
+write-copies-requires-2 c κs = search needs
 
 -- src/file.rt:74:9
 write-structure-requires : tie.Need-write-structure-requires
@@ -125,58 +102,11 @@ write-data-requires c κs =
 
 -- src/file.rt:76:9
 write-attachments-requires : tie.Need-write-attachments-requires
-write-attachments-requires c κs =
-    let s = c .before .before .before .before .before .before .before .before .before .before .before .before .before .before .before .before .before .before .before .before .before .before .before .before .before .before .before .before .before .before .before .before .before .before .before .before .before .before .before .before .before .before .before .before .pre .0
-        in
-    let b1 = front-done s
-        (c .before .before .before .before .before .before .before .before .before .before .before .before .before .before .before .before .before .before .before .before .before .before .before .before .before .before .before .before .before .before .before .before .before .before .before .before .before .before .before .before .before .before .before .before .pre .1)
-        (front-is s
-        (c .before .before .before .before .before .before .before .before .before .before .before .before .before .before .before .before .before .before .before .before .before .before .before .before .before .before .before .before .before .before .before .before .before .before .first-column .ensures)
-        (c .before .before .before .before .before .before .before .before .before .before .before .before .before .before .before .before .before .before .before .before .before .before .before .before .before .before .before .before .before .before .before .before .before .first-history .ensures)
-        (c .before .before .before .before .before .before .before .before .before .before .before .before .before .before .before .before .before .before .before .before .before .before .before .before .before .before .before .before .before .before .before .before .next-place .ensures)
-        (c .before .before .before .before .before .before .before .before .before .before .before .before .before .before .before .before .before .before .before .before .before .before .before .before .before .before .before .before .before .before .before .comment-of .ensures))
-        (c .before .before .before .before .before .before .before .before .before .before .before .before .before .before .before .before .before .before .before .before .before .before .before .before .before .before .before .before .before .write-front .ensures .1)
-        in
-    let b2 = history-done s _ b1
-        (c .before .before .before .before .before .before .before .before .before .before .before .before .before .before .before .before .before .before .before .before .before .before .before .before .before .write-copies .ensures)
-        in
-    let b3 = new-done s _ b2
-        (c .before .before .before .before .before .before .before .before .before .before .before .before .before .before .before .before .before .before .before .before .before .write-history .ensures)
-        in
-    let b4 = columns-done s _ b3
-        (c .before .before .before .before .before .before .before .before .before .before .before .before .before .before .before .before .before .write-copies2 .ensures) in
-    let b5 = structure-done s _ b4 (c .before .before .before .before .before .before .before .before .before .before .before .before .before .write-structure .ensures) in
-    let b6 = data-done s _ (c .before .before .before .before .before .before .before .before .before .first-fragments .ensures) b5 (c .before .before .before .before .before .write-data .ensures) in
-    attached-asks s b6
+write-attachments-requires c κs = search needs
 
 -- src/file.rt:77:5
 gap-requires : tie.Need-gap-requires
-gap-requires c κs =
-    let s = c .before .before .before .before .before .before .before .before .before .before .before .before .before .before .before .before .before .before .before .before .before .before .before .before .before .before .before .before .before .before .before .before .before .before .before .before .before .before .before .before .before .before .before .before .before .before .before .before .pre .0
-        in
-    let b1 = front-done s
-        (c .before .before .before .before .before .before .before .before .before .before .before .before .before .before .before .before .before .before .before .before .before .before .before .before .before .before .before .before .before .before .before .before .before .before .before .before .before .before .before .before .before .before .before .before .before .before .before .before .pre .1)
-        (front-is s
-        (c .before .before .before .before .before .before .before .before .before .before .before .before .before .before .before .before .before .before .before .before .before .before .before .before .before .before .before .before .before .before .before .before .before .before .before .before .before .before .first-column .ensures)
-        (c .before .before .before .before .before .before .before .before .before .before .before .before .before .before .before .before .before .before .before .before .before .before .before .before .before .before .before .before .before .before .before .before .before .before .before .before .before .first-history .ensures)
-        (c .before .before .before .before .before .before .before .before .before .before .before .before .before .before .before .before .before .before .before .before .before .before .before .before .before .before .before .before .before .before .before .before .before .before .before .before .next-place .ensures)
-        (c .before .before .before .before .before .before .before .before .before .before .before .before .before .before .before .before .before .before .before .before .before .before .before .before .before .before .before .before .before .before .before .before .before .before .before .comment-of .ensures))
-        (c .before .before .before .before .before .before .before .before .before .before .before .before .before .before .before .before .before .before .before .before .before .before .before .before .before .before .before .before .before .before .before .before .before .write-front .ensures .1)
-        in
-    let b2 = history-done s _ b1
-        (c .before .before .before .before .before .before .before .before .before .before .before .before .before .before .before .before .before .before .before .before .before .before .before .before .before .before .before .before .before .write-copies .ensures)
-        in
-    let b3 = new-done s _ b2
-        (c .before .before .before .before .before .before .before .before .before .before .before .before .before .before .before .before .before .before .before .before .before .before .before .before .before .write-history .ensures)
-        in
-    let b4 = columns-done s _ b3
-        (c .before .before .before .before .before .before .before .before .before .before .before .before .before .before .before .before .before .before .before .before .before .write-copies2 .ensures)
-        in
-    let b5 = structure-done s _ b4
-        (c .before .before .before .before .before .before .before .before .before .before .before .before .before .before .before .before .before .write-structure .ensures) in
-    let b6 = data-done s _ (c .before .before .before .before .before .before .before .before .before .before .before .before .before .first-fragments .ensures) b5 (c .before .before .before .before .before .before .before .before .before .write-data .ensures) in
-    let b7 = attached-done s b6 (c .before .before .before .write-attachments .ensures) in
-    end-room s b7
+gap-requires c κs = search needs
 
 -- src/file.rt:54:1
 same-length : tie.Need-same-length

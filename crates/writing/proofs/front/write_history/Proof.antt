@@ -1,5 +1,5 @@
 -- The FH after the MD.
-use Rattle.writing.specs.WroteLaws.{wrote-append}
+use Rattle.write_copies.specs.WroteLaws.{wrote-append}
 use Rattle.writing.specs.FrontLaws.{history-room, past-md}
 use native.Mathlib.Omega.{arith}
 use borrow.Author.Needs.{needs}

@@ -9,7 +9,7 @@ fill-front-requires : tie.Need-fill-front-requires
 fill-front-requires c κs = (c .before .before .before .before .pre .0, c .before .before .before .before .pre .1)
 
 put-photos-requires : tie.Need-put-photos-requires
-put-photos-requires c κs = (c .before .before .before .before .before .before .before .before .pre .1, c .before .before .before .before .before .before .before .before .pre .3, c .before .before .before .before .before .before .before .before .pre .4)
+put-photos-requires c κs = search needs
 
 fill-data-requires : tie.Need-fill-data-requires
 fill-data-requires c κs = (c .before .before .before .before .before .before .before .before .before .before .before .before .pre .1, omega (arith, c .before .before .before .before .before .before .before .fill-front .kept, c .before .before .before .put-photos .kept, c .before .before .before .before .before .before .before .before .before .before .before .before .pre .2))
@@ -18,7 +18,7 @@ same-length : tie.Need-same-length
 same-length c = search needs
 
 returns : tie.Need-returns
-returns c = filled-cn _ _ _ _ _ _ _ _ (c .before .before .before .before .before .before .before .before .before .before .fill-front .ensures) (c .before .before .before .before .before .before .put-photos .ensures) (c .before .before .fill-data .ensures)
+returns c = filled-cn _ _ _ _ _ _ _ _ (c .before .before .before .before .before .before .before .before .before .before .fill-front .ensures) (c .before .before .before .before .before .before .put-photos .ensures (c .before .before .before .before .before .before .before .before .before .before .before .before .before .before .before .pre .1) (c .before .before .before .before .before .before .before .before .before .before .before .before .before .before .before .pre .3) (c .before .before .before .before .before .before .before .before .before .before .before .before .before .before .before .pre .4)) (c .before .before .fill-data .ensures)
 
 pub fill-cn-spec : {M : Type 1} → statement M
 fill-cn-spec =

@@ -1,0 +1,4 @@
+pub mod Tables
+pub mod Treated
+pub mod Shared
+pub mod Photos

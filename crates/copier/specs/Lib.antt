@@ -1,0 +1,16 @@
+pub mod Standing
+pub mod Answer
+pub mod StandingLaws
+pub mod Index
+pub mod IndexLaws
+pub mod Roots
+pub mod Begin
+pub mod Got
+pub mod BeginLaws
+pub mod CopyLaws
+pub mod TurnLaws
+pub mod RootsLaws
+pub mod History
+pub mod HistoryLaws
+pub mod Attaching
+pub mod AttachingLaws

@@ -1,0 +1,2 @@
+pub mod Refuted
+pub mod Lost

@@ -1,0 +1,1 @@
+// Files, plans and lists that the guarantee excludes, as closed examples; no code.

@@ -1,0 +1,12 @@
+pub mod Wrote
+pub mod WroteLaws
+pub mod Begun
+pub mod BegunLaws
+pub mod CopiesLaws
+pub mod Attachments
+pub mod AttachmentsLaws
+pub mod RoomLaws
+pub mod LedLaws
+pub mod LaidWords
+pub mod LaidWordsLaws
+pub mod PlaceWordsLaws
