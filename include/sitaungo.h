@@ -1,8 +1,8 @@
-/* Sitaungo: one row-oriented MDF 4 recording into one column-oriented MDF 4.20 file.
+/* Sitaungo: one row-oriented MDF 4 recording into one column-oriented MDF 4.20 file; reading such files and taking columns out of them.
  *
  * Library libsitaungo.a (rt staticlib sitaungo), x86-64 Linux. The functions are proved: for every input, numbers, output, list, lines,
  * buffer, destination and work words are those of the definitions in crates/result/specs, crates/listing/specs, crates/file/specs, crates/sheet/specs,
- * crates/stores/specs and crates/passes/specs. They allocate nothing, keep nothing between calls but what a conversion in steps hands back and has in its
+ * crates/stores/specs, crates/passes/specs and crates/thin/specs. They allocate nothing, keep nothing between calls but what a conversion in steps hands back and has in its
  * words, open no file and always return; several threads may call them, each with slices of its own.
  *
  * What the caller owes, since no proof can see it:
@@ -12,7 +12,7 @@
  * - What a work slice, out, list or lines holds at entry doesn't matter: anything may stand there. Between the calls of a conversion in steps its slices stay
  *   as they were left, see there.
  * - Length times element size is below 2^63.
- * - The calling thread has 256 KiB of stack left: under 184,320 bytes were measured, whatever the recording, 101,376 in steps, 49,152 for reading.
+ * - The calling thread has 256 KiB of stack left: under 196,608 bytes were measured, whatever the recording, 114,688 in steps, 49,152 for reading, 159,744 for taking columns out.
  */
 #ifndef SITAUNGO_H
 #define SITAUNGO_H
@@ -26,7 +26,7 @@ extern "C" {
 #endif
 
 /* Of library and command. The command writes it into the history entry of each result. */
-#define SITAUNGO_VERSION "1.6.0"
+#define SITAUNGO_VERSION "1.7.0"
 
 /* ---- lengths of the slices */
 
@@ -55,6 +55,7 @@ extern "C" {
 #define SITAUNGO_ATTACHMENTS 64            /* AT blocks (19) */
 #define SITAUNGO_COLUMN_BLOCKS 4294967295u /* data blocks of one column (19) */
 #define SITAUNGO_COPY_DEPTH 64             /* links from a block that is copied down to the deepest copied with it (16) */
+#define SITAUNGO_KEPT_BLOCKS 2050          /* TX, MD, CC, SI and FH blocks that are copied where columns are taken out (19) */
 #define SITAUNGO_FIRST_VERSION 410         /* the lowest version: 4.10 (7) */
 
 /* ---- refusals: number, sentence, and what the place is; an offset is one in the recording */
@@ -125,7 +126,11 @@ enum {
     /* A pass has no job, or over eight; 0. */
     SITAUNGO_REFUSED_JOBS = 31,
     /* A pass has no store to give, or a job's cap is 0; 0. After 31. */
-    SITAUNGO_REFUSED_CAP = 32
+    SITAUNGO_REFUSED_CAP = 32,
+    /* A number of a column that is to be taken out is given twice, or the file has no such column; 0. */
+    SITAUNGO_REFUSED_NUMBERS = 33,
+    /* A column is to be taken out that one which is kept names as its master; 0. After 33. */
+    SITAUNGO_REFUSED_NAMED = 34
 };
 
 /* ---- why a channel is left out */
@@ -411,6 +416,41 @@ struct sitaungo_plotting sitaungo_plot(
  * left; bytes outside 32 to 126 as `?`, no name as `-`. Each line has 80 characters and a newline. Of a file that is refused (4 to 13, 19, 24) the sheet is
  * only `refused N place P`. */
 size_t sitaungo_sheet(const uint8_t *image, size_t image_length, uint8_t *lines, size_t lines_length);
+
+/* ---- taking columns out of a column file
+ *
+ * The new file has the other columns in order, each with its payload, signal data, master, references to attachments and metadata as they were: names,
+ * units, conversions, sources, comments. The first 64 bytes, the data of HD, DG, CG and CN, kinds and lengths of data blocks, history and attachments stay;
+ * there is no new history entry. Of the metadata only what a link of the new file leads to is copied, each block once. Blocks stand closely: between one and
+ * the next lie fewer bytes than the unit has, all zero. With unit 8 the new file is no longer than the old one, if that was made by a conversion or by this
+ * call, with whatever unit. */
+
+/* What taking out answers: where accepted the bytes of the new file, number and place 0; else number and place, bytes 0. */
+struct sitaungo_taken {
+    bool accepted;
+    uint64_t number; /* the refusal: 1, 3 to 13, 16 to 20, 24, 26, 28, 33, 34 */
+    uint64_t place;  /* its place: an offset in the file; the bytes needed for 20; 0 for 1, 3, 5 to 7, 24, 26, 33, 34 */
+    uint64_t bytes;  /* of the new file */
+};
+
+/* Takes the columns with these numbers, from 0 and in any order, out of the column file `image` and lays the new file over the front of `out`. Without
+ * numbers the file is written anew, with all of them it has no column left.
+ *
+ * `unit` is a power of two from 8 to 4096 (26): each column's first data block and each SD start on the next multiple of it, all else stands on multiples
+ * of 8. References to attachments are always kept.
+ *
+ * Refusals come in this order: 1 for a work slice under SITAUNGO_WORK_WORDS; 26; 3 for a file over 2^47 bytes, more than can be mapped; those of reading a
+ * column file, 24 for its form last; then column by column, also of columns that are taken out, 4 and 8 of the block at link 6 of a type 1 channel (place
+ * the block) and 24 where that is no SD, and 24 where the seventh link of a CG under flag bit 3 is neither 0 nor a column's CG; 33; 34; of the attachments 4,
+ * 18 and 19; 28 for columns that are kept; of what is copied 4, 8, 9, 16, 17 and 19; 20. An empty `out` gives refusal 20 with the bytes needed as its place,
+ * once all else is decided; over 2^59 bytes it is 2^64 - 1.
+ *
+ * A refusal leaves `out` as it was; what lies past the new file stays too. The work slices are zero afterwards, but as they were after refusal 1. */
+struct sitaungo_taken sitaungo_take_out(
+    const uint8_t *image, size_t image_length, uint64_t unit, const uint64_t *numbers, size_t numbers_length,
+    uint64_t *source, size_t source_length, uint64_t *fragments, size_t fragments_length,
+    uint64_t *columns, size_t columns_length, uint64_t *copies, size_t copies_length,
+    uint8_t *out, size_t out_length);
 
 #ifdef __cplusplus
 }

@@ -131,6 +131,28 @@ struct names next_column_names(struct image image, uint64_t *dg)
     return names;
 }
 
+/* The seventh link of a CG, under bit 3 of its flags. */
+static uint64_t master_of(struct image image, const struct block *group)
+{
+    return data_u64(image, group, 16) & 8 ? link_of(image, group, 6) : 0;
+}
+
+size_t columns_of(struct image image, struct column *columns, size_t most)
+{
+    struct block header, data_group, group;
+    size_t count = 0;
+    uint64_t dg = kind_at(image, HEADER, "HD", &header) ? link_of(image, &header, 0) : 0;
+    for (; count < most && kind_at(image, dg, "DG", &data_group); dg = link_of(image, &data_group, 0)) {
+        struct column *c = &columns[count++];
+        *c = (struct column){.group = link_of(image, &data_group, 1)};
+        if (!kind_at(image, c->group, "CG", &group))
+            continue;
+        c->name = name_of(image, link_of(image, &group, 1), "CN");
+        c->master = master_of(image, &group);
+    }
+    return count;
+}
+
 /* ---- records */
 
 uint64_t shared_records(struct image image)

@@ -46,6 +46,15 @@ struct names names_of(struct image image, uint64_t at);
 /* Names of the next column of a result: *dg is the offset of its DG, 0 for the first one, and becomes that of the next. */
 struct names next_column_names(struct image image, uint64_t *dg);
 
+/* A column of a column file: name, its CG, and the CG that this names by its seventh link under flag bit 3, 0 for none. */
+struct column {
+    struct text name;
+    uint64_t group, master;
+};
+
+/* The columns of a file, in order, at most `most`: how many. */
+size_t columns_of(struct image image, struct column *columns, size_t most);
+
 /* How many records there are in DG with ids, as cycle counts say; at most an eighth of the image's bytes, so that a word for each takes no more memory than
  * the image has. */
 uint64_t shared_records(struct image image);

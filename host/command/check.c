@@ -100,19 +100,23 @@ void read_back(const struct reading *r, struct image anew, struct done *done)
         end_digest(digest, done->digest);
 }
 
-/* ---- the conversion anew */
+/* ---- what is made anew */
 
-struct image convert_anew(const struct recording *r, const struct lent *l, const struct target *t, uint64_t size, struct sitaungo_outcome *answer)
+uint8_t *map_anew(const struct target *t, uint64_t size)
 {
     int file = open_room(t, size);
     uint8_t *bytes = map_output(file, size);
     if (!bytes)
-        fail("no room, on the disk of %s or in memory, to convert the recording anew, %" PRIu64 " bytes: %s", t->folder_path, size, strerror(errno));
+        fail("no room, on the disk of %s or in memory, to make the %s anew, %" PRIu64 " bytes: %s", t->folder_path, t->what, size, strerror(errno));
     if (file >= 0)
         close(file);
-    watch_mapping(MAPPED_ANEW, bytes, (size_t)size, "the conversion anew can't be written in the folder %s: its disk is full or failed", t->folder_path);
-    *answer = convert(r, l, bytes, (size_t)size);
-    madvise(bytes, (size_t)size, MADV_SEQUENTIAL); /* from now on it is read from front to back */
+    watch_mapping(MAPPED_ANEW, bytes, (size_t)size, "the %s made anew can't be written in the folder %s: its disk is full or failed", t->what, t->folder_path);
+    return bytes;
+}
+
+struct image made_anew(uint8_t *bytes, uint64_t size)
+{
+    madvise(bytes, (size_t)size, MADV_SEQUENTIAL);
     return (struct image){bytes, (size_t)size};
 }
 

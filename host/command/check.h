@@ -1,4 +1,4 @@
-/* What stands on the disk, read back past the page cache and held to the conversion. */
+/* What stands on the disk, read back past the page cache and held to what was made anew. */
 #ifndef CHECK_H
 #define CHECK_H
 
@@ -17,11 +17,13 @@ struct reading {
     bool digest; /* --sha256 */
 };
 
-/* Reads it back, and where `anew` is the conversion, holds it to that; digest and difference go to `done`. */
+/* Reads it back, and where `anew` is what should be there, holds it to that; digest and difference go to `done`. */
 void read_back(const struct reading *r, struct image anew, struct done *done);
 
-/* The conversion made anew, mapped: in a file without a name in the target's folder, or in memory where that can't be had. */
-struct image convert_anew(const struct recording *r, const struct lent *l, const struct target *t, uint64_t size, struct sitaungo_outcome *answer);
+/* Room for what is made anew, mapped: in a file without a name in the target's folder, or in memory where that can't be had; the same once its bytes are
+ * there, to be read from front to back; its end. */
+uint8_t *map_anew(const struct target *t, uint64_t size);
+struct image made_anew(uint8_t *bytes, uint64_t size);
 void drop_anew(struct image anew);
 
 #endif

@@ -169,6 +169,15 @@ uint64_t stores_left(void)
     return sitaungo_left(steps.state);
 }
 
+/* ---- columns out of a file */
+
+struct sitaungo_taken take_out(const struct recording *file, uint64_t unit, const uint64_t *numbers, size_t count, uint8_t *out, size_t length)
+{
+    return sitaungo_take_out(
+        file->bytes, file->length, unit, numbers, count,
+        work[0], SITAUNGO_WORK_WORDS, work[1], SITAUNGO_WORK_WORDS, work[2], SITAUNGO_WORK_WORDS, work[3], SITAUNGO_WORK_WORDS, out, length);
+}
+
 /* ---- listings and omissions */
 
 /* The omission list from the end of a listing. */

@@ -1,4 +1,4 @@
-/* The proved conversion and its listing, with what they are lent. */
+/* The proved conversion, its listing and taking columns out, with what they are lent. */
 #ifndef CONVERSION_H
 #define CONVERSION_H
 
@@ -53,6 +53,9 @@ struct sitaungo_outcome convert(const struct recording *r, const struct lent *l,
 struct sitaungo_outcome begin_stores(const struct recording *r, const struct lent *l, size_t length);
 void make_stores(const struct recording *r, const struct lent *l, uint64_t stores, uint8_t *file, size_t length);
 uint64_t stores_left(void);
+
+/* Takes columns out of a column file; without an output refusal 20 has the bytes needed as its place. */
+struct sitaungo_taken take_out(const struct recording *file, uint64_t unit, const uint64_t *numbers, size_t count, uint8_t *out, size_t length);
 
 /* Without an output: refusal 20 has the bytes needed as its place, any other refuses the recording. */
 struct sitaungo_outcome measure(const struct recording *r, const struct lent *l);

@@ -14,6 +14,7 @@
 #include "check.h"
 #include "messages.h"
 #include "signals.h"
+#include "storing.h"
 #include "temporary.h"
 
 /* Static, since signal handlers and the command's end look at the target. */
@@ -134,10 +135,11 @@ static void say_what_is_left_out(struct job *j)
 /* Reads back what the descriptor has on the disk, and holds it to the conversion made anew. */
 static bool holds(struct job *j, int descriptor, const char *path)
 {
-    struct sitaungo_outcome answer;
     struct reading reading = {.descriptor = descriptor, .path = path, .digest = j->o->digest};
     say_phase("converting %s anew", j->recording.path);
-    struct image anew = convert_anew(&j->recording, &j->lent, &j->result, j->size, &answer);
+    uint8_t *bytes = map_anew(&j->result, j->size);
+    struct sitaungo_outcome answer = convert(&j->recording, &j->lent, bytes, (size_t)j->size);
+    struct image anew = made_anew(bytes, j->size);
     check_unchanged(&j->recording);
     if (!answer.accepted)
         fail("the conversion of %s anew is refused", j->recording.path);
@@ -155,37 +157,22 @@ static bool holds(struct job *j, int descriptor, const char *path)
 static void write_result(struct job *j)
 {
     struct target *t = &j->result;
-    say_phase("taking %" PRIu64 " bytes of disk for the result", j->size);
-    make_temporary(t, j->size);
-    uint8_t *out = map_output(t->descriptor, j->size);
-    if (!out)
-        fail("can't map the temporary file for %s: %s", t->path, strerror(errno));
-    watch_mapping(MAPPED_OUTPUT, out, (size_t)j->size, "the result %s can't be written: its disk is full or failed", t->path);
+    uint8_t *out = map_temporary(t, j->size);
     say_phase("converting into %s", temporary_place(t));
     j->done.answer = convert(&j->recording, &j->lent, out, (size_t)j->size);
     check_unchanged(&j->recording);
     if (!j->done.answer.accepted)
         fail("the conversion of %s is refused once it has room", j->recording.path);
     keep_report(j, (struct image){out, (size_t)j->size});
-    say_phase("syncing %" PRIu64 " bytes", j->size);
-    if (msync(out, (size_t)j->size, MS_SYNC) != 0)
-        fail("can't write the result %s to the disk: %s", t->path, strerror(errno));
-    forget_mapping(MAPPED_OUTPUT);
-    munmap(out, (size_t)j->size);
-    finish_temporary(t, j->size);
+    sync_temporary(t, out, j->size);
 }
 
-/* The folder is synced before, so that one that can't be is found while RESULT is as it was, and after. */
 static void give_result(struct job *j)
 {
-    struct target *t = &j->result;
-    if (!sync_folder(t))
-        fail("can't sync the folder %s: %s", t->folder_path, strerror(errno));
+    sync_folder_before(&j->result);
     check_unchanged(&j->recording);
     say_what_is_left_out(j);
-    name_target(t, true);
-    if (!sync_folder(t))
-        fail("the folder %s can't be synced: %s; without power the name may be lost", t->folder_path, strerror(errno));
+    name_and_sync(&j->result);
 }
 
 /* ---- converting in place */
@@ -265,8 +252,7 @@ static void store_in_place(struct job *j)
     keep_report(j, (struct image){out, (size_t)j->size});
     say_phase("syncing %" PRIu64 " bytes", j->size);
     sync_stores(j, out, j->size);
-    if (!sync_folder(t))
-        fail("can't sync the folder %s: %s", t->folder_path, strerror(errno));
+    sync_folder_before(t);
     check_unchanged(&j->recording);
     say_what_is_left_out(j);
     if (!is_in_place(t))
@@ -355,8 +341,7 @@ static int check_result(struct job *j)
     }
     check_unchanged(&j->recording);
     say_what_is_left_out(j);
-    if (!sync_folder(&j->result))
-        fail("can't sync the folder %s: %s", j->result.folder_path, strerror(errno));
+    sync_folder_before(&j->result);
     return finish(j, j->o->check ? "same" : "done already", STATUS_DONE);
 }
 
@@ -367,7 +352,7 @@ int run_job(const struct options *o, const char *recording, const char *result, 
         set_standing(STATUS_FAILED, "there is no new result %s", result);
     *j = (struct job){.o = o, .sink = sink, .recording = open_recording(recording)};
     say_phase("reading %s, %" PRIu64 " bytes", recording, (uint64_t)j->recording.found.st_size);
-    aim_at(&j->result, result, "result", &j->recording.found);
+    aim_at(&j->result, result, "result", &j->recording);
     if (sink->wanted && !sink->standard_output && same_target(&sink->file, &j->result))
         fail("%s is both result and report", result);
     j->done = (struct done){.recording = &j->recording, .result = result, .lent = &j->lent};

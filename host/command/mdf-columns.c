@@ -2,7 +2,8 @@
  *
  * The conversion is the proved one of libsitaungo. This program maps the recording, asks for the result's size, lends the conversion a
  * mapped temporary file of that size, syncs it and gives it RESULT's name (job.c); with --in-place it lends RESULT itself to a conversion
- * in steps. With --sheet it prints the sheet of a column file (sheet.c). README.md has options and statuses. */
+ * in steps. With --sheet it prints the sheet of a column file (sheet.c), with --take-out it writes one without some of its columns (taking.c). README.md has
+ * options and statuses. */
 #define _GNU_SOURCE
 #include <fcntl.h>
 #include <sys/stat.h>
@@ -15,6 +16,7 @@
 #include "recording.h"
 #include "sheet.h"
 #include "signals.h"
+#include "taking.h"
 
 /* Static, since signal handlers look at the sink's target. */
 static struct options o;
@@ -49,6 +51,8 @@ int main(int count, char **words)
         keep_quiet();
     if (o.sheet)
         return print_sheet(o.recordings[0]);
+    if (o.columns_count > 0)
+        return run_taking(&o);
     open_sink(&sink, o.json, o.force);
     check_report();
     int status = o.folder ? run_batch(&o, &sink) : run_job(&o, o.recordings[0], o.result, &sink);

@@ -55,6 +55,8 @@ static const char *const refusals[] = {
     [SITAUNGO_REFUSED_NAME] = "a fifth name is given to a position, or one is named or recalled after the last store",
     [SITAUNGO_REFUSED_JOBS] = "a pass has no job, or over eight",
     [SITAUNGO_REFUSED_CAP] = "a pass has no store to give, or a job's cap is 0",
+    [SITAUNGO_REFUSED_NUMBERS] = "a column that is to be taken out is given twice, or there is no such column",
+    [SITAUNGO_REFUSED_NAMED] = "a column is to be taken out that is the time column of one that is kept",
 };
 
 /* Those that say something else of a column file. */
@@ -63,6 +65,18 @@ static const char *const reading[] = {
     [SITAUNGO_REFUSED_NOT_MDF] = "this is not an MDF file: it does not begin with \"MDF\" and five blanks",
     [SITAUNGO_REFUSED_LIMIT] = "the file passes a limit: 512 data groups, groups or channels, 256 lists in a chain",
     [SITAUNGO_REFUSED_FORM] = "the file lacks the form of a column file",
+};
+
+/* Those that say something else where columns are taken out. */
+static const char *const taking[] = {
+    [SITAUNGO_REFUSED_LENT] = "the library was called wrongly: work words",
+    [SITAUNGO_REFUSED_TOO_LARGE] = "the file is larger than 128 TiB",
+    [SITAUNGO_REFUSED_PAST_END] = "the file ends too early: a block, a name, an attachment or data runs past its end",
+    [SITAUNGO_REFUSED_LIMIT] = "the file passes a limit: 512 data groups, groups or channels, 256 lists in a chain, 2050 copied blocks, 64 attachments",
+    [SITAUNGO_REFUSED_OUTPUT] = "the new file would be larger than 2^59 bytes",
+    [SITAUNGO_REFUSED_FORM] = "the file lacks the form of a column file, signal data is no SD block, or a time column is none of the file's",
+    [SITAUNGO_REFUSED_REFERENCE] = "a channel's reference to an attachment leads to none of the file's attachments, or the channel has fewer links than it has "
+        "references",
 };
 
 static const char *const reasons[] = {
@@ -84,6 +98,11 @@ const char *words_of_refusal(uint64_t number)
 const char *words_of_reading(uint64_t number)
 {
     return number < sizeof reading / sizeof *reading && reading[number] ? reading[number] : words_of_refusal(number);
+}
+
+const char *words_of_taking(uint64_t number)
+{
+    return number < sizeof taking / sizeof *taking && taking[number] ? taking[number] : words_of_reading(number);
 }
 
 const char *words_of_reason(uint64_t reason)

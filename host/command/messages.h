@@ -9,7 +9,7 @@
 enum {
     STATUS_DONE = 0,
     STATUS_FAILED = 1,     /* nothing was made: RESULT is as it was; or, an old one with --in-place, cut off */
-    STATUS_REFUSED = 2,    /* the recording, or with --sheet the column file, is refused: RESULT is as it was */
+    STATUS_REFUSED = 2,    /* the recording, or with --sheet and --take-out the column file, is refused: RESULT is as it was */
     STATUS_STANDING = 3,   /* RESULT is there and whole, but something after that failed */
     STATUS_INCOMPLETE = 4, /* channels would be left out, with --complete: RESULT is as it was */
     STATUS_DIFFERENT = 5,  /* what was read back is not the conversion */
@@ -30,6 +30,7 @@ __attribute__((format(printf, 1, 2), noreturn)) void fail(const char *format, ..
 /* The refusals and reasons of documents 01 and 02 in plain words. */
 const char *words_of_refusal(uint64_t number);
 const char *words_of_reading(uint64_t number); /* of a column file that is read */
+const char *words_of_taking(uint64_t number);  /* of one that columns are taken out of */
 const char *words_of_reason(uint64_t reason);
 
 /* Writes it all to a descriptor; false where that fails, with errno. */

@@ -29,11 +29,11 @@ static void split_path(struct target *t)
         memcpy(t->folder_path, t->path, n);
 }
 
-/* A symbolic link is never replaced; one to the recording is called that. */
+/* A symbolic link is never replaced; one to the source is called that. */
 static bool leads_to_source(const struct target *t)
 {
     struct stat led_to;
-    return t->source && fstatat(t->folder, t->name, &led_to, 0) == 0 && same_file(&led_to, t->source);
+    return t->source && fstatat(t->folder, t->name, &led_to, 0) == 0 && same_file(&led_to, &t->source->found);
 }
 
 static void look_at_target(struct target *t)
@@ -44,7 +44,7 @@ static void look_at_target(struct target *t)
     if (!t->exists)
         return;
     if (leads_to_source(t))
-        fail("%s is the recording itself; the %s needs another name", t->path, t->what);
+        fail("%s is the %s itself; the %s needs another name", t->path, t->source->what, t->what);
     if (S_ISLNK(t->old.st_mode))
         fail("%s is a symbolic link; name the file itself", t->path);
     if (S_ISDIR(t->old.st_mode))
@@ -53,7 +53,7 @@ static void look_at_target(struct target *t)
         fail("%s is not a file and is not replaced", t->path);
 }
 
-void aim_at(struct target *t, const char *path, const char *what, const struct stat *source)
+void aim_at(struct target *t, const char *path, const char *what, const struct recording *source)
 {
     *t = (struct target){.path = path, .what = what, .source = source, .descriptor = -1};
     split_path(t);

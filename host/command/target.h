@@ -7,6 +7,8 @@
 #include <stdbool.h>
 #include <sys/stat.h>
 
+struct recording;
+
 struct target {
     const char *path; /* as given */
     const char *what; /* what messages call it */
@@ -16,7 +18,7 @@ struct target {
     bool replaces;             /* whether a file of that name may be replaced */
     bool exists;               /* whether there is one */
     struct stat old;           /* if so */
-    const struct stat *source; /* the recording, which is neither replaced nor removed */
+    const struct recording *source; /* what it is made of, which is neither replaced nor removed; NULL: nothing */
 
     /* the temporary file, see temporary.h */
     int descriptor; /* -1: there is none */
@@ -26,8 +28,8 @@ struct target {
     bool marked;
 };
 
-/* Opens its folder and looks at its name; fails where that is the recording (NULL: there is none), or something else than a file. */
-void aim_at(struct target *t, const char *path, const char *what, const struct stat *source);
+/* Opens its folder and looks at its name; fails where that is the source, or something else than a file. */
+void aim_at(struct target *t, const char *path, const char *what, const struct recording *source);
 
 /* Fails if a file is there that may not be replaced. */
 void check_target(struct target *t);

@@ -85,7 +85,7 @@ static const char *leftover_stays(const struct target *t, const char *name, int 
     struct stat found;
     if (file < 0 || fstat(file, &found) != 0 || flock(file, LOCK_EX | LOCK_NB) != 0)
         return strerror(errno);
-    if (!S_ISREG(found.st_mode) || (t->source && same_file(&found, t->source)) || !has_mark(file, &found))
+    if (!S_ISREG(found.st_mode) || (t->source && same_file(&found, &t->source->found)) || !has_mark(file, &found))
         return "it is not marked so and stays";
     return is_named_so(t, name, &found) && unlinkat(t->folder, name, 0) == 0 ? NULL : strerror(errno);
 }

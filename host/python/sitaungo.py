@@ -7,7 +7,7 @@
 
 A layer over libsitaungo.so (host/build). Whether a file is a column file, and what a range of records holds, is answered by the proved reader alone,
 see include/sitaungo.h; this module follows links to names, units and types, and decodes records. `convert` runs the command mdf-columns; `Steps` is a
-conversion in steps, `share` what each of several gets of a pass.
+conversion in steps, `share` what each of several gets of a pass. `take_out` writes a column file without some of its columns.
 
 Python 3.9 or later on x86-64 Linux. Only `values` and `time` need numpy.
 """
@@ -23,13 +23,14 @@ import shutil
 import stat
 import struct
 import subprocess
+import tempfile
 import time as clock
 import typing
 import weakref
 
 __all__ = [
     "CONVERSIONS", "Changed", "Column", "ColumnFile", "CommandFailed", "DATA_TYPES", "Description", "Error", "NameMissing", "NameRepeated", "NotApplied",
-    "Refused", "Steps", "Undecoded", "convert", "share", "sheet",
+    "Refused", "Steps", "Undecoded", "convert", "share", "sheet", "take_out",
 ]
 
 # What the refusals say, by number: of reading, of positions of a conversion in steps, of passes.
@@ -74,6 +75,23 @@ CONVERTING = {
     26: "the unit is no power of two from 8 to 4096",
     27: "the table of treatments has a wrong count or length, a type over 6 or twice, a treatment over 2, or one that its type can't have",
     28: "a channel's reference to an attachment leads to none of the recording's attachments, or the channel has fewer links than it has references",
+}
+
+# Those of taking columns out.
+TAKING = {
+    1: "the library was called wrongly: work words",
+    3: "the file is larger than 128 TiB",
+    4: "the file ends too early: a block, a name, an attachment or data runs past its end",
+    16: CONVERTING[16],
+    17: CONVERTING[17],
+    18: CONVERTING[18],
+    19: "the file passes a limit: 512 data groups, groups or channels, 256 lists in a chain, 2050 copied blocks, 64 attachments",
+    20: "the new file would be larger than 2^59 bytes",
+    24: "the file lacks the form of a column file, signal data is no SD block, or a time column is none of the file's",
+    26: CONVERTING[26],
+    28: "a channel's reference to an attachment leads to none of the file's attachments, or the channel has fewer links than it has references",
+    33: "a column that is to be taken out is given twice, or there is no such column",
+    34: "a column is to be taken out that is the time column of one that is kept",
 }
 
 # ASAM MDF 4.2: data types of a channel, kinds of a conversion, by number.
@@ -214,6 +232,10 @@ class _Position(ctypes.Structure):
     _fields_ = [("number", ctypes.c_uint64), ("conversion", _State)]
 
 
+class _Taken(ctypes.Structure):
+    _fields_ = [("accepted", ctypes.c_bool), *_numbers("number", "place", "bytes")]
+
+
 _JOBS = 8  # of a pass
 
 
@@ -252,6 +274,7 @@ def _load():
         ("sitaungo_recall", _Position, [_State, ctypes.c_uint64]),
         ("sitaungo_left", ctypes.c_uint64, [_State]),
         ("sitaungo_share", _Shares, [ctypes.c_uint64, ctypes.c_uint64, _Eight, _Eight]),
+        ("sitaungo_take_out", _Taken, [*_SLICE, ctypes.c_uint64, *_SLICE] + 4 * _SLICE + _SLICE),
         ("mapped_watch", ctypes.c_int, _SLICE),
         ("mapped_lost", ctypes.c_bool, [ctypes.c_int]),
         ("mapped_hold", ctypes.c_bool, [ctypes.c_void_p, ctypes.c_char_p, ctypes.c_size_t]),
@@ -314,6 +337,7 @@ def _slice(buffer):
 
 
 _HELD = 16384  # bytes that are held at a time, whole pages
+_COPIED = (b"TX", b"MD", b"CC", b"SI", b"FH")  # kinds of metadata
 _FOLLOWED = {b"HD": [0], b"DG": [0, 1, 2], b"CG": [0, 1, 2], b"CN": [0, 2], b"DL": [0], b"HL": [0, 1], b"TX": [], b"MD": []}  # kinds, and their links
 
 
@@ -364,6 +388,25 @@ class _Image:
             if block:
                 self.hold(at, min(block.end, block.front + 128) - at)
                 ahead += map(block.link, _FOLLOWED[block.kind])
+
+    def hold_all(self):
+        """Holds all that leads the library anywhere when columns are taken out: metadata, links of attachments and lists, headers of data blocks."""
+        ahead, seen = [64], {0}
+        while ahead:
+            at = ahead.pop()
+            if at in seen:
+                continue
+            seen.add(at)
+            self.hold(at, 24)
+            block = _block(self.view, at, *_FOLLOWED, *_COPIED, b"AT")
+            if block is None:
+                continue
+            self.hold(at, (block.end if block.kind in _COPIED else block.front + 128) - at)
+            links = struct.unpack_from("<%dQ" % block.links, self.view, at + 24)
+            if block.kind == b"DL":
+                for k in {byte // _HELD for to in links[1:] for byte in (to, to + 23)}:
+                    self.hold(k * _HELD, _HELD)
+            ahead += links[:1] if block.kind == b"DL" else links
 
     def changed(self):
         return Changed("%s was written to or cut off since it was opened, or its disk failed" % _shown(self.path))
@@ -868,6 +911,91 @@ def sheet(path):
     return _Image(os.fspath(path)).sheet()
 
 
+# ---- taking columns out
+
+
+class _New:
+    """A file that gets its name once it is whole and synced; until then it stands beside that."""
+
+    def __init__(self, path, source, force):
+        self.path, self.force, self.folder = path, force, os.path.dirname(path) or "."
+        if os.path.exists(path) and os.path.samestat(os.stat(path), source):
+            raise ValueError("%s is the column file itself; the new file needs another name" % _shown(path))
+        if os.path.islink(path) or (os.path.exists(path) and not os.path.isfile(path)):
+            raise OSError(errno.EINVAL, "this is no regular file", path)
+        if os.path.exists(path) and not force:
+            raise FileExistsError(errno.EEXIST, "it exists; force=True replaces it", path)
+
+    def store(self, size, fill):
+        """`fill` gets the mapped bytes of the file."""
+        self.descriptor, self.beside = tempfile.mkstemp(prefix=".%s." % os.path.basename(self.path)[:60], dir=self.folder)
+        try:
+            os.posix_fallocate(self.descriptor, 0, size)
+            with mmap.mmap(self.descriptor, size) as room:
+                fill(room)
+                room.flush()
+            os.fchmod(self.descriptor, self.mode())
+            os.fsync(self.descriptor)
+            self.name()
+        finally:
+            os.close(self.descriptor)
+            with contextlib.suppress(FileNotFoundError):
+                os.unlink(self.beside)
+
+    def mode(self):
+        """That of the file it replaces, else what a new file gets."""
+        if os.path.exists(self.path):
+            return stat.S_IMODE(os.stat(self.path).st_mode)
+        mask = os.umask(0)
+        os.umask(mask)
+        return 0o666 & ~mask
+
+    def name(self):
+        if self.force:
+            os.replace(self.beside, self.path)
+        else:
+            os.link(self.beside, self.path)
+        folder = os.open(self.folder, os.O_RDONLY | os.O_DIRECTORY)
+        try:
+            os.fsync(folder)
+        finally:
+            os.close(folder)
+
+
+def take_out(source, target, columns, unit=8, *, force=False):
+    """Writes a column file without some of its columns, names or numbers, into a new file, and gives that file's bytes. All else of the other columns is kept:
+    payloads, signal data, masters, references to attachments, attachments, metadata, history. Each column's data and signal data start on a multiple of the unit.
+
+    The target has its name only once it is whole and synced; one that exists is replaced with force=True, never the source itself. What is not accepted is
+    Refused, as a column that is the time column of one that is kept (34); a name that no column has is NameMissing, one that several have NameRepeated."""
+    source, target, columns = os.fspath(source), os.fsdecode(target), list(columns)
+    if any(isinstance(key, str) for key in columns):
+        with ColumnFile(source) as file:
+            columns = [file._number(key) if isinstance(key, str) else key for key in columns]
+    image = _Image(source)
+    new = _New(target, image.found, force)
+    numbers = [_u64(key.number if isinstance(key, Column) else key, "a column") for key in columns]
+    listed = (ctypes.c_uint64 * len(numbers))(*numbers), len(numbers)
+    work = [word for _ in range(4) for word in ((ctypes.c_uint64 * _WORK)(), _WORK)]
+    if image.mapping:
+        image.hold_all()
+
+    def call(*out):
+        return image.call(_library.sitaungo_take_out, _u64(unit, "unit"), *listed, *work, *out)
+
+    def fill(room):
+        with _held(room, writable=True) as out:
+            answer = call(*out)
+        if not answer.accepted:
+            raise image.changed()
+
+    asked = call(None, 0)
+    if asked.number != 20 or asked.place == 2**64 - 1:
+        raise Refused(source, asked.number, asked.place, {**WORDS, **TAKING}.get(asked.number, "unknown refusal"))
+    new.store(asked.place, fill)
+    return asked.place
+
+
 # ---- converting in steps
 
 _IDENT = b"MDF     4.20    sitaungo\0\0\0\0\xa4\x01".ljust(64, b"\0")
@@ -989,7 +1117,7 @@ def _command():
 
 def _option(name, value):
     """The words of one choice: block_size=1000 is --block-size=1000, force=True is --force."""
-    if name in ("check", "d", "folder", "help", "json", "listing", "quiet", "sheet", "version"):
+    if name in ("check", "d", "folder", "help", "json", "listing", "quiet", "sheet", "take_out", "version"):
         raise TypeError("convert takes no choice %r" % name)
     option = "--" + name.replace("_", "-")
     if value is None or value is False:

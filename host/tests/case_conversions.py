@@ -215,6 +215,6 @@ def refusal_keeps_an_old_result():
 
 @test
 def every_refusal_was_met():
-    expect(MET == set(range(1, 33)), "not met:", sorted(set(range(1, 33)) - MET))
+    expect(MET == set(range(1, 35)), "not met:", sorted(set(range(1, 35)) - MET))
 
 

@@ -80,6 +80,8 @@ def one_damaged(here, image):
         good = read(result)
         write(result, damaged(good))
         clean(run("--sheet", result), 0, REFUSED)
+        columns = Run.random.choice(("0", "1", "0-3,none", "1,0,2", "5-9999999999"))
+        clean(run("--take-out", columns, result, os.path.join(here, "thin.mf4"), "--force", "--verify"), 0, REFUSED)
         if read(result) != good:
             json.loads(clean(run("--check", recording, result, "--json", "-"), DIFFERENT).printed)
             clean(run(result, os.path.join(here, "again.mf4"), "--force", "--json", "-"), 0, REFUSED)

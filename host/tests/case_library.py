@@ -125,12 +125,12 @@ def plot_in_rust():
 
 @test
 def library_and_header():
-    """Refusals 1, 2, 20, 21 and 25 to 32, every length of the header, units, tables of treatments, references, plots, sheets, steps and shares."""
+    """Refusals 1, 2, 20, 21 and 25 to 34, every length of the header, units, tables of treatments, references, plots, sheets, taking out, steps and shares."""
     program = place("library")
     cc(os.path.join(ROOT, "host", "tests", "library.c"), LIBRARY, "-o", program)
     r = subprocess.run([program, EXAMPLE], stdout=subprocess.PIPE)
     expect(r.returncode == 0 and r.stdout.endswith(b" checks, 0 wrong\n"), r.stdout.decode())
-    MET.update((1, 2, 20, 21, *range(25, 33)))
+    MET.update((1, 2, 20, 21, *range(25, 35)))
 
 
 @test

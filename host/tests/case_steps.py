@@ -2,6 +2,7 @@
 import ctypes
 import os
 import re
+import struct
 import subprocess
 import time
 
@@ -12,8 +13,8 @@ from case_share import Group as Clock, Rack
 from common import EXAMPLE, LIBRARY, MEDIUM, ROOT, SAMPLE, Run, cc, expect, place, read, test, write
 from mdf import blocks_of
 from steps import (
-    LIST, MOST, OFFSETS, PAGE, STRETCHES, WORK, Call, Live, Mixed, Running, State, agrees, alone, lengths_of, library, long_blocks, mixed, naming, recalling,
-    slices, steps_of, stepping, store_of, words_of,
+    LIST, MOST, OFFSETS, PAGE, STRETCHES, WORK, Call, Live, Mixed, Running, State, Writer, agrees, alone, lengths_of, library, long_blocks, mixed, naming,
+    recalling, slices, steps_of, stepping, store_of, words_of,
 )
 
 DATA = os.path.join(ROOT, "crates", "columns", "data")
@@ -398,12 +399,26 @@ def any_state_and_any_words():
 # ---- stack and time
 
 
+def deep_metadata():
+    """A channel's conversion and an attachment's comment, each the first of 65 blocks that link to one another."""
+    w, last = Writer(Run.random), []
+    for kind in (b"CC", b"SI"):
+        at = 0
+        for _ in range(65):
+            at = w.add(kind, [at], bytes(24))
+        last.append(at)
+    cg = w.add(b"CG", [0, w.named(0, (0, 8, None), [(4, last[0])]), 0, 0, 0, 0], struct.pack("<QQHHIII", 0, 5, 0, 0, 0, 8, 0))
+    attachment = w.add(b"AT", [0, 0, 0, last[1]], bytes(40))
+    return w.finish(w.add(b"DG", [0, cg, w.add(b"DT", [], bytes(40)), 0], bytes(8)), attachments=attachment)
+
+
 @test
 def stack_of_every_call():
-    """The header has what was measured, and asks for 256 KiB."""
+    """The header has what was measured, and asks for 256 KiB; copying goes deepest with 65 blocks of which each links to the next."""
     program = place("stack")
     cc(os.path.join(ROOT, "host", "tests", "stack.c"), LIBRARY, "-pthread", "-o", program)
-    made = [place(write(name, image)) for name, image in (("long", long_blocks()), ("unsorted", mixed(*UNSORTED)), ("regular", mixed(Mixed((9,) * 100, 3000))))]
+    images = ("long", long_blocks()), ("deep", deep_metadata()), ("unsorted", mixed(*UNSORTED)), ("regular", mixed(Mixed((9,) * 100, 3000)))
+    made = [place(write(name, image)) for name, image in images]
     data = [os.path.join(DATA, name) for name in ("metadata", "reasons", "signal-fragments")]
     told = subprocess.run([program, SAMPLE, EXAMPLE, *data, *made], check=True, stdout=subprocess.PIPE).stdout.decode().strip()
     with open(os.path.join(ROOT, "include", "sitaungo.h")) as f:

@@ -614,7 +614,7 @@ def converting(recording, sample, refused, folder):
     expect(why.status == 4 and why.report["omissions"][0]["name"] == "rack.1.99" and got(result) == before, why)
     why = raises(sitaungo.CommandFailed, lambda: sitaungo.convert(recording, result, no_such_choice=True))
     expect(why.status == 1 and "no-such-choice" in why.said, why)
-    for choice in ("check", "json", "quiet", "listing", "sheet", "d", "folder"):
+    for choice in ("check", "json", "quiet", "listing", "sheet", "take_out", "d", "folder"):
         raises(TypeError, lambda: sitaungo.convert(recording, result, **{choice: True}))
     dashed = os.path.join(folder, "-d")
     os.chdir(folder)
@@ -623,6 +623,86 @@ def converting(recording, sample, refused, folder):
     os.environ["SITAUNGO_COMMAND"] = os.path.join(folder, "missing")
     raises(FileNotFoundError, sitaungo.convert, recording, result)
     print("converting")
+
+
+# ---- taking columns out
+
+
+def taking_out(path, twice, folder):
+    """By names and numbers; what is kept, what isn't done, what is left where it fails."""
+    new, old, before = os.path.join(folder, "new.mf4"), got(path), os.listdir(folder)
+    size = sitaungo.take_out(path, new, ["rack.0.01", 5, "rack.2.99"])
+    expect(size == os.path.getsize(new) < len(old) and got(path) == old, size)
+    with sitaungo.ColumnFile(path) as file, sitaungo.ColumnFile(new) as other:
+        kept = [c for c in file.columns if c.number not in (1, 5, 298)]
+        expect([c.name for c in kept] == [c.name for c in other.columns] and len(kept) == 296, "names")
+        for c, d in zip(kept, other.columns):
+            expect(bytes(file.column(c.number).records()) == bytes(other.column(d.number).records()), c.name)
+            expect((c.unit, c.records, c.data_type, c.kind, c.comment) == (d.unit, d.records, d.data_type, d.kind, d.comment), c.name)
+        again = sitaungo.take_out(path, new, [file.column(1), 5, 298], force=True)
+    expect(again == size, "by a Column")
+    whole = got(new)
+    raises(FileExistsError, sitaungo.take_out, path, new, [1])
+    raises(ValueError, lambda: sitaungo.take_out(path, path, [1], force=True))
+    os.link(path, os.path.join(folder, "link.mf4"))
+    raises(ValueError, lambda: sitaungo.take_out(path, os.path.join(folder, "link.mf4"), [1], force=True))
+    os.unlink(os.path.join(folder, "link.mf4"))
+    raises(OSError, sitaungo.take_out, path, folder, [1])
+    raises(FileNotFoundError, sitaungo.take_out, path, os.path.join(folder, "none", "n.mf4"), [1])
+    raises(FileNotFoundError, sitaungo.take_out, os.path.join(folder, "none"), new, [1])
+    raises(ValueError, sitaungo.take_out, path, os.path.join(folder, "a"), [-1])
+    raises(sitaungo.NameMissing, lambda: sitaungo.take_out(path, new, ["none"], force=True))
+    why = raises(sitaungo.NameRepeated, lambda: sitaungo.take_out(twice, new, ["twice"], force=True))
+    expect(why.numbers == (0, 2), why.numbers)
+    for number, columns, unit in ((33, [299], 8), (33, [1, 1], 8), (33, [2**64 - 1], 8), (34, [0], 8), (26, [1], 12)):
+        why = raises(sitaungo.Refused, lambda: sitaungo.take_out(path, new, columns, unit, force=True))
+        expect((why.number, why.place, why.words, why.path) == (number, 0, sitaungo.TAKING[number], path), why)
+    expect(got(new) == whole, "a file that is as it was")
+    os.chmod(new, 0o600)
+    expect(sitaungo.take_out(os.fsencode(path), pathlib.Path(new), (), unit=4096, force=True) == os.path.getsize(new) > len(old), "forms of a path")
+    expect(os.stat(new).st_mode & 0o777 == 0o600, "its mode")
+    expect(sitaungo.take_out(path, new, [], force=True) == len(old) and got(new) == old, "nothing out")
+    taking_out_changed(path, os.path.join(folder, "other.mf4"))
+    os.unlink(new)
+    expect(sorted(os.listdir(folder)) == sorted(before), "files that were left", os.listdir(folder))
+    print("taking out")
+
+
+def taking_out_changed(path, new):
+    """A file that is written to or cut off while the library reads it: Changed, and no new file."""
+    own, before = sitaungo._library.sitaungo_take_out, got(path)
+    for change in (lambda: os.truncate(path, 5000), lambda: put(path, before + b"more")):
+        for at in (1, 2):
+            calls = []
+
+            def call(*words):
+                answer = own(*words)
+                calls.append(answer)
+                if len(calls) == at:
+                    change()
+                return answer
+
+            time.sleep(0.02)  # the clock of the file system ticks
+            sitaungo._library.sitaungo_take_out = call
+            raises(sitaungo.Changed, sitaungo.take_out, path, new, [1])
+            expect(not os.path.exists(new), "a new file")
+            put(path, before)
+    sitaungo._library.sitaungo_take_out = own
+
+
+def taking_out_of(folder):
+    """Of each file what stands beside it: the new file, or a refusal."""
+    told, new = [], os.path.join(folder, "made")
+    for name in sorted(name for name in os.listdir(folder) if name.endswith(".mf4")):
+        path = os.path.join(folder, name)
+        unit, number, place, *numbers = map(int, got(path[:-4] + ".txt").split())
+        try:
+            size = sitaungo.take_out(path, new, numbers, unit, force=True)
+            expect(number == 0 and got(new) == got(path[:-4] + ".new") and size == os.path.getsize(new), name)
+        except sitaungo.Refused as why:
+            expect((why.number, why.place) == (number, place), name, why)
+        told.append(number)
+    print("%d files, %d refused" % (len(told), len(told) - told.count(0)))
 
 
 # ---- steps

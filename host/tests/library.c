@@ -16,6 +16,7 @@ _Static_assert(sizeof(struct sitaungo_request) == 32 && sizeof(struct sitaungo_p
 _Static_assert(sizeof(struct sitaungo_conversion) == 224 && offsetof(struct sitaungo_conversion, items) == 32, "the state's size");
 _Static_assert(offsetof(struct sitaungo_conversion, steps) == 136 && offsetof(struct sitaungo_conversion, next) == 144, "the state's steps");
 _Static_assert(sizeof(struct sitaungo_begun) == 304 && sizeof(struct sitaungo_position) == 232, "structs with a state");
+_Static_assert(sizeof(struct sitaungo_taken) == 32 && offsetof(struct sitaungo_taken, number) == 8, "what taking out answers");
 _Static_assert(sizeof(struct sitaungo_eight) == 64 && sizeof(struct sitaungo_shares) == 72, "a pass's structs");
 
 enum { ROOM = 4096, WIDE = 16384, GUARD = 0xA5 };
@@ -453,6 +454,85 @@ static void try_sheet(void)
     shows(out, 1288, "refused 5 place 0\n");
 }
 
+/* ---- taking columns out */
+
+static uint8_t taken[ROOM];
+
+/* Takes columns out of the result in `out`, of 1288 bytes, into so many bytes of `taken`. */
+static struct sitaungo_taken take(struct call c, const uint64_t *numbers, size_t count)
+{
+    memset(taken, GUARD, sizeof taken);
+    memset(work, GUARD, sizeof work);
+    return sitaungo_take_out(out, c.image, c.unit, numbers, count, work[0], c.work[0], work[1], c.work[1], work[2], c.work[2], work[3], c.work[3], taken, c.out);
+}
+
+static struct call of_result(void)
+{
+    struct call c = usual();
+    c.image = 1288;
+    c.unit = 8;
+    return c;
+}
+
+/* The work words that were lent are zero, those behind them and the output past so many bytes as they were. */
+static void leaves(struct call c, uint64_t number, size_t bytes)
+{
+    check(all(taken + bytes, sizeof taken - bytes, GUARD), "output past the new file, or of a refusal");
+    for (int i = 0; i < 4; i++) {
+        size_t used = number == SITAUNGO_REFUSED_LENT ? 0 : c.work[i];
+        check(all(work[i], 8 * used, 0) && all(work[i] + used, sizeof work[i] - 8 * used, GUARD), "work words of taking out");
+    }
+}
+
+static void takes(struct call c, const uint64_t *numbers, size_t count, uint64_t bytes, const char *what)
+{
+    struct sitaungo_taken a = take(c, numbers, count);
+    check(a.accepted && a.number == 0 && a.place == 0 && a.bytes == bytes && memcmp(taken, out, 64) == 0, what);
+    leaves(c, 0, bytes);
+}
+
+static void keeps(struct call c, const uint64_t *numbers, size_t count, uint64_t number, uint64_t place, const char *what)
+{
+    struct sitaungo_taken a = take(c, numbers, count);
+    check(!a.accepted && a.number == number && a.place == place && a.bytes == 0, what);
+    leaves(c, number, 0);
+}
+
+/* Of document 01's example: the whole, column 1 out, both out, in either order; 33 and 34, and what comes before them. */
+static void try_taking(void)
+{
+    static const uint64_t first[] = {0}, second[] = {1}, both[] = {1, 0}, twice[] = {1, 1}, none[] = {2}, last[] = {UINT64_MAX}, named[] = {0, 0};
+    check(run(usual()).accepted, "a result to take columns out of");
+    struct call c = of_result();
+    takes(c, NULL, 0, 1288, "nothing out");
+    check(memcmp(taken, out, 1288) == 0, "the result itself");
+    takes(c, second, 1, 776, "column 1 out");
+    takes(c, both, 2, 256, "both out");
+    keeps(c, first, 1, SITAUNGO_REFUSED_NAMED, 0, "a column that another names");
+    keeps(c, twice, 2, SITAUNGO_REFUSED_NUMBERS, 0, "a number twice");
+    keeps(c, none, 1, SITAUNGO_REFUSED_NUMBERS, 0, "no column");
+    keeps(c, last, 1, SITAUNGO_REFUSED_NUMBERS, 0, "the last number");
+    keeps(c, named, 2, SITAUNGO_REFUSED_NUMBERS, 0, "33 before 34");
+    c.out = 776;
+    takes(c, second, 1, 776, "just enough room");
+    c.out = 775;
+    keeps(c, second, 1, SITAUNGO_REFUSED_OUTPUT, 776, "a byte too little");
+    c.out = 0;
+    keeps(c, NULL, 0, SITAUNGO_REFUSED_OUTPUT, 1288, "no output");
+    c.unit = 4096;
+    keeps(c, second, 1, SITAUNGO_REFUSED_OUTPUT, 4224, "unit 4096, no output");
+    c.unit = 12;
+    c.image = 0;
+    keeps(c, twice, 2, SITAUNGO_REFUSED_UNIT, 0, "26 before the file");
+    c.work[2]--;
+    keeps(c, twice, 2, SITAUNGO_REFUSED_LENT, 0, "1 before 26");
+    c = of_result();
+    c.work[1]++;
+    takes(c, second, 1, 776, "a longer work slice");
+    c.image = 63;
+    keeps(c, twice, 2, SITAUNGO_REFUSED_PAST_END, 0, "a file of 63 bytes");
+}
+
 /* ---- references to attachments */
 
 /* Where blocks of the recording below stand, and those of its result. */
@@ -833,6 +913,7 @@ int main(int count, char **arguments)
     try_listed(listing);
     try_plot();
     try_sheet();
+    try_taking();
     try_steps();
     try_bad_steps();
     try_positions();

@@ -1,5 +1,5 @@
 /* How much stack the library takes: stack RECORDING... converts each in one go and in steps, with words for places of records and without, and reads the
- * result, each in a thread whose stack was painted before. Prints the most bytes that each kind of call took. */
+ * result and takes a column out of it, each in a thread whose stack was painted before. Prints the most bytes that each kind of call took. */
 #define _GNU_SOURCE
 #include <pthread.h>
 #include <stdio.h>
@@ -9,12 +9,12 @@
 
 #include "sitaungo.h"
 
-enum { PAINT = 0xA5, STACK = 1 << 20, OFFSETS = 1 << 20, KINDS = 3 };
+enum { PAINT = 0xA5, STACK = 1 << 20, OFFSETS = 1 << 20, KINDS = 4 };
 
 static const uint8_t ident[SITAUNGO_IDENT_BYTES] = "MDF     4.20    sitaungo\0\0\0\0\xa4\x01", text[] = "stack";
 static const struct sitaungo_options options = {.unit = 8, .share = true, .photos = true};
 static uint64_t work[4][SITAUNGO_WORK_WORDS], list[SITAUNGO_LIST_WORDS], stretches[SITAUNGO_STRETCH_WORDS], offsets[OFFSETS];
-static uint8_t *image, *out, sheet[SITAUNGO_SHEET_BYTES];
+static uint8_t *image, *out, *new, sheet[SITAUNGO_SHEET_BYTES];
 static size_t length, size, kept; /* kept: 1 with words for places, else 0 */
 
 #define SAME image, length, ident, sizeof ident, text, sizeof text, NULL, 0
@@ -54,6 +54,17 @@ static void *read_result(void *none)
     return none;
 }
 
+/* Nothing out, and the last column, which none names; the new file has no more bytes than the result. */
+static void *take_out(void *none)
+{
+    uint64_t number = 0;
+    while (sitaungo_range_part(out, size, number + 1, 0, 0).accepted)
+        number++;
+    (void)sitaungo_take_out(out, size, 8, NULL, 0, WORK, new, size);
+    (void)sitaungo_take_out(out, size, 8, &number, 1, WORK, new, size);
+    return none;
+}
+
 /* Bytes of its stack that a thread took. */
 static size_t taken_by(void *(*call)(void *))
 {
@@ -88,21 +99,23 @@ static void take_image(const char *path)
 
 int main(int count, char **paths)
 {
-    static void *(*const calls[KINDS])(void *) = {convert, step, read_result};
+    static void *(*const calls[KINDS])(void *) = {convert, step, read_result, take_out};
     size_t most[KINDS] = {0}, bare = taken_by(nothing);
     for (int i = 1; i < count; i++) {
         take_image(paths[i]);
         size = 0;
         convert(NULL);
         out = malloc(size + 1);
+        new = malloc(size + 1);
         for (int k = 0; k < KINDS; k++)
             for (kept = 0; kept < 2; kept++) {
                 size_t taken = taken_by(calls[k]) - bare;
                 most[k] = taken > most[k] ? taken : most[k];
             }
         free(out);
+        free(new);
         free(image);
     }
-    printf("conversion %zu, in steps %zu, reading %zu\n", most[0], most[1], most[2]);
+    printf("conversion %zu, in steps %zu, reading %zu, taking out %zu\n", most[0], most[1], most[2], most[3]);
     return 0;
 }

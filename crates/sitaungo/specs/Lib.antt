@@ -5,3 +5,5 @@ pub mod ColumnFileLaws
 pub mod Readable
 pub mod ReadableLaws
 pub mod InSteps
+pub mod TakingOut
+pub mod TakingOutLaws

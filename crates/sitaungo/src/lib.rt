@@ -1,7 +1,9 @@
-// The conversion, in one go and in steps, its listing, the reader of column files and their inventory sheet, for programs that link them.
+// The conversion, in one go and in steps, its listing, the reader of column files, their inventory sheet and columns taken out of them, for programs
+// that link these.
 pub mod column_file;
 pub mod eight_cells;
 pub mod in_steps;
+pub mod taking_out;
 
 use choices::Choices;
 use listing::recording::list;

@@ -1,0 +1,11 @@
+pub mod ThenLaws
+pub mod Sized
+pub mod SizedLaws
+pub mod Spots
+pub mod SpotsLaws
+pub mod Answered
+pub mod Laying
+pub mod WordsLaws
+pub mod LayingLaws
+pub mod StandingLaws
+pub mod DecideLaws

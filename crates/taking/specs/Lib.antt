@@ -1,0 +1,10 @@
+pub mod Each
+pub mod EachLaws
+pub mod Sound
+pub mod SoundLaws
+pub mod Marks
+pub mod MarksLaws
+pub mod Words
+pub mod WordsLaws
+pub mod Takes
+pub mod TakesLaws

@@ -1,0 +1,1 @@
+// Taking columns out of a column file and closing it up: definitions (specs/).

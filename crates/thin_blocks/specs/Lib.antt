@@ -1,0 +1,4 @@
+pub mod Blocks
+pub mod BlocksLaws
+pub mod Anew
+pub mod AnewLaws

@@ -1,0 +1,1 @@
+// Columns taken out of small files, as closed examples; no code.

@@ -1,0 +1,9 @@
+pub mod LaidLaws
+pub mod Inside
+pub mod InsideLaws
+pub mod LengthLaws
+pub mod OrderLaws
+pub mod FileLaws
+pub mod MemberLaws
+pub mod PlaceLaws
+pub mod CloseLaws

@@ -1,0 +1,13 @@
+pub mod Sums
+pub mod Grew
+pub mod GrewAt
+pub mod Lengths
+pub mod Sizes
+pub mod Fewer
+pub mod Blocks
+pub mod Standing
+pub mod Accepted
+pub mod ColumnSizes
+pub mod KeptSizes
+pub mod Converted
+pub mod TakenAgain

@@ -1,0 +1,16 @@
+pub mod Touching
+pub mod TouchingLaws
+pub mod Column
+pub mod ColumnLaws
+pub mod Data
+pub mod DataLaws
+pub mod Structure
+pub mod StructureLaws
+pub mod Said
+pub mod SaidLaws
+pub mod FrontLaws
+pub mod PlacedLaws
+pub mod Whole
+pub mod WholeLaws
+pub mod Answer
+pub mod TakeLaws
