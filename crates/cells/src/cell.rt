@@ -16,7 +16,7 @@ use puts::copy;
 
 // A channel in the records of its group: where its bytes begin, how many there are, the record's length without its id, whether the
 // invalidation bit is kept, and where it is: its byte and its bit in that; the column's width.
-#[derive(Drop)]
+#[derive(Clone, Copy)]
 pub struct Shape {
     pub group: u64,
     pub channel: u64,

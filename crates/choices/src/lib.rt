@@ -8,7 +8,7 @@ ghost use Rattle.choices.specs.Chosen.{rules};
 use fields::{Check, u8_at};
 
 // The unit on whose multiples columns start; whether equal time columns are shared; whether references to attachments are kept.
-#[derive(Drop)]
+#[derive(Clone, Copy)]
 pub struct Choices {
     pub unit: u64,
     pub share: bool,

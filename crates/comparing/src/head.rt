@@ -10,7 +10,7 @@ use places::stretch::{Next, Scan};
 use records::group::id_size;
 
 // The records that are still to come: so many at equal distances, then those past a place; and a place in the data up to which they were read.
-#[derive(Drop)]
+#[derive(Clone, Copy)]
 pub struct Head {
     pub first: u64,
     pub stride: u64,

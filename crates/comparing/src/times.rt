@@ -11,7 +11,7 @@ use channels::fits_in;
 use records::table::make_tables;
 
 // A group: its DG, its number among the DG's groups, its CG, its master, its count of records.
-#[derive(Drop)]
+#[derive(Clone, Copy)]
 pub struct Clock {
     pub dg: u64,
     pub number: u64,

@@ -10,7 +10,7 @@ ghost use Rattle.copier.specs.Answer.{found_of, link_of};
 ghost use Rattle.copier.specs.Index.{Indexed, Indexes};
 
 // How many copies stand in the words, and the end of what is placed.
-#[derive(Drop)]
+#[derive(Clone, Copy)]
 pub struct Copying {
     pub used: u64,
     pub next: u64,

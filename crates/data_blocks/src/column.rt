@@ -23,7 +23,7 @@ use places::pass::fill;
 use places::pool::find;
 
 // A column: its DG, its CG, its CN, and how many records it has.
-#[derive(Drop)]
+#[derive(Clone, Copy)]
 pub struct Column {
     pub parent: u64,
     pub group: u64,

@@ -12,7 +12,7 @@ use places::stretch::Stretch;
 use puts::{header, least};
 
 // A column's blocks: the shape of its cells, the kind of the blocks, the records of one that is not the last, how many blocks and records.
-#[derive(Drop)]
+#[derive(Clone, Copy)]
 pub struct Form {
     pub shape: Shape,
     pub kind: u64,

@@ -8,7 +8,7 @@ ghost use Rattle.joined.specs.Ahead.{ahead, next_of, moved, past, Settled};
 use puts::{copy, least};
 
 // The bytes left from a position of the image on; then the fragments whose words begin at this index.
-#[derive(Drop)]
+#[derive(Clone, Copy)]
 pub struct Cursor {
     pub at: usize,
     pub position: u64,

@@ -8,7 +8,7 @@ ghost use Rattle.joined.specs.Spot.{front, SpotOf};
 use crate::cursor::{Cursor, settle, skip};
 
 // A cursor and the bytes before it.
-#[derive(Drop)]
+#[derive(Clone, Copy)]
 pub struct Spot {
     pub cursor: Cursor,
     pub offset: u64,

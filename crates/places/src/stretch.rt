@@ -1,7 +1,7 @@
 // Records at equal distances in joined data, and a place up to which records were found.
 
 // Records from a number on, so many of them: the offset of the first past its id, and the distance from one to the next.
-#[derive(Drop)]
+#[derive(Clone, Copy)]
 pub struct Stretch {
     pub number: u64,
     pub first: u64,
@@ -11,7 +11,7 @@ pub struct Stretch {
 
 // A place in joined data: the index of the words of the fragments that follow, a position of the image and the bytes left there of its
 // fragment; its offset in the joined data; how many records of the group lie before it.
-#[derive(Drop)]
+#[derive(Clone, Copy)]
 pub struct Scan {
     pub at: u64,
     pub position: u64,

@@ -14,7 +14,7 @@ use copier::memo::{Copying, aligned};
 
 // What is known of a layout besides its words: how many copies there are after the history chain, the blocks of that chain, the places of
 // the new MD and FH, how many copies there are after the columns' metadata and in all, the attachments, the ends of metadata and file.
-#[derive(Drop)]
+#[derive(Clone, Copy)]
 pub struct Numbers {
     pub history: u64,
     pub chain: u64,

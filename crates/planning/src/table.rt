@@ -9,7 +9,7 @@ use crate::timing::own_of;
 use crate::words::{put_column, word};
 
 // A DG: its address; where its groups stand in the words of what was read, and how many they are; where its fragments stand in their words, and how many words.
-#[derive(Drop)]
+#[derive(Clone, Copy)]
 pub struct Owner {
     pub dg: u64,
     pub groups: u64,
@@ -19,7 +19,7 @@ pub struct Owner {
 }
 
 // A group: its CG, its master (0 for none), its records, and its DG.
-#[derive(Drop)]
+#[derive(Clone, Copy)]
 pub struct Entry {
     pub at: u64,
     pub master: u64,

@@ -4,7 +4,7 @@ ghost use Rattle.stores.specs.Stores.{naming, recalling};
 ghost use Rattle.positions.specs.Held.{list_of, state_of, at_first, FirstAt, MovedAs};
 
 // Four numbers.
-#[derive(Drop)]
+#[derive(Clone, Copy)]
 pub struct Four {
     pub a: u64,
     pub b: u64,
@@ -13,7 +13,7 @@ pub struct Four {
 }
 
 // The number of the next store; the names that are held, so many, and the position of each.
-#[derive(Drop)]
+#[derive(Clone, Copy)]
 pub struct Positions {
     pub next: u64,
     pub count: u64,

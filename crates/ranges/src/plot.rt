@@ -12,7 +12,7 @@ use fields::Check;
 
 // An entry of the table: count records of a column, from record first on, go to a place in the destination.
 #[repr(C)]
-#[derive(Drop)]
+#[derive(Clone, Copy)]
 pub struct Request {
     pub column: u64,
     pub first: u64,

@@ -13,7 +13,7 @@ use crate::group::{inval_bytes, is_storage, record_id, samples_of};
 use fields::u8_at;
 
 // What is ahead past the position: the fragments whose words begin at this index.
-#[derive(Drop)]
+#[derive(Clone, Copy)]
 pub struct Framing {
     pub at: u64,
 }

@@ -6,7 +6,7 @@ ghost use Rattle.shares.specs.Eights.{list_of, jobs_from, verdict_of, SharedAs};
 
 // Eight numbers.
 #[repr(C)]
-#[derive(Drop)]
+#[derive(Clone, Copy)]
 pub struct Eight {
     pub a: u64,
     pub b: u64,

@@ -10,7 +10,7 @@ use window_file::Held;
 // The call's numbers; what was decided, in numbers; how many steps there are; the number of the next store, and the names that are held, so many,
 // with the position of each.
 #[repr(C)]
-#[derive(Drop)]
+#[derive(Clone, Copy)]
 pub struct Conversion {
     pub block_size: u64,
     pub time: u64,

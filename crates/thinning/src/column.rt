@@ -10,7 +10,7 @@ use ranges::block::links_of;
 
 // Its CN, CG and DG in the image; whether it has a master and that one's new CG; the places of its DG, CN, first data block and SD, 0 without signal
 // data; the number of its data blocks, of its references to attachments, and the length in its DL.
-#[derive(Drop)]
+#[derive(Clone, Copy)]
 pub struct KeptColumn {
     pub channel: u64,
     pub group: u64,

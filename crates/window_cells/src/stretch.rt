@@ -8,7 +8,7 @@ use cells::run::{product_within, put_stretch};
 use joined::spot::begin;
 
 // n records, the first at an offset of the joined data, the others a stride apart; the first one's cell stands at index at of the file.
-#[derive(Drop)]
+#[derive(Clone, Copy)]
 pub struct Run {
     pub at: u64,
     pub first: u64,

@@ -19,7 +19,7 @@ use windows::lay;
 use writing::file::{comment_of, first_column, first_history};
 
 // What was decided, in numbers: blocks met, fragments of data chains, columns, omissions, and those of the layout.
-#[derive(Drop)]
+#[derive(Clone, Copy)]
 pub struct Held {
     pub items: u64,
     pub pieces: u64,

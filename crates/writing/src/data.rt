@@ -19,7 +19,7 @@ use write_copies::gap::gap;
 
 // A column: its CN, CG and DG, its number of records; the number of fragments before its signal data's and 1, or 0 for none, and how many
 // those are; the places of its first data block and of its SD.
-#[derive(Drop)]
+#[derive(Clone, Copy)]
 pub struct Entry {
     pub channel: u64,
     pub group: u64,

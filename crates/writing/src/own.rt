@@ -7,7 +7,7 @@ use planning::words::word;
 use puts::least;
 
 // Its fragments from number begin up to number end; before its groups, groups in number, are others, first in number.
-#[derive(Drop)]
+#[derive(Clone, Copy)]
 pub struct Own {
     pub begin: u64,
     pub end: u64,

@@ -15,7 +15,7 @@ use photos::photos_of;
 
 // Its CN in the image and the type that it is stored with, its CG and DG, its number of records, whether its master is in another group and that group's new CG; the places of its
 // DG, CN, first data block and SD, 0 without signal data; the number of its data blocks, of its references to attachments, and the payload of one.
-#[derive(Drop)]
+#[derive(Clone, Copy)]
 pub struct PlacedColumn {
     pub channel: u64,
     pub stored: u64,

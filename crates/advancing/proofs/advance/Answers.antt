@@ -1,0 +1,38 @@
+-- What is left of the steps, from what stands, is all of them from the beginning.
+use Prim.Native.Nat.{◌+◌, ◌*◌, ◌-◌, ◌≤◌, min}
+use mathlib.Core.Path.{ap, ◌∙◌}
+use Rattle.steps.specs.Conversion.{call_of}
+use Rattle.steps.specs.Steps.{Holds, lent}
+use Rattle.advancing.specs.AdvancesLaws.{Going, Advancing, going_begin, going_turn, going_end, advancing_begin, right_turn, right_end}
+use borrow.Author.Rules.{rules}
+use native.Mathlib.Omega.{arith}
+use lib.ListN.{length}
+use Rattle.advancing.proofs.advance.Goals as goal
+
+pub loop-rest-init : goal.loop-rest-init
+loop-rest-init c =
+    let n = c.least-rest.ensures ∙ ap (min _) c.left.ensures in
+    (going_begin _ _ _ _ _ (omega (arith, n)), λ h l m. advancing_begin _ _ _ _ _ _ (omega (arith, n)) h)
+
+pub loop-rest-preserved : goal.loop-rest-preserved
+loop-rest-preserved c =
+    let n = c.step-r.auto in (
+      going_turn c.loop-rest.invariant.0 c.loop-rest-test.true c.step-r.ensures.1 (record {
+        whole = n.1.1.1.1.1.1.1.1.1.1.1.0;
+        listed = n.1.1.1.1.1.1.1.1.1.1.1.1.0;
+        source = n.1.1.1.1.1.0;
+        fragments = n.1.1.1.1.1.1.0;
+        columns = n.1.1.1.1.1.1.1.0;
+        copies = n.1.1.1.1.1.1.1.1.0;
+        stretches = n.1.1.1.1.1.1.1.1.1.0;
+        offsets = n.1.1.1.1.1.1.1.1.1.1.0;
+      }),
+      λ h l m. right_turn _ _ _ _ c.loop-rest.invariant.0 _ c.loop-rest-test.true c.step-r.ensures.1 c.step-r.ensures.0 (c.loop-rest.invariant.1 h l m) l m,
+    )
+
+pub returns : goal.returns
+returns c =
+    let n = c.least-rest.ensures ∙ ap (min _) c.left.ensures in (
+      λ h l m. right_end _ _ _ _ c.loop-rest.invariant.0 _ n (omega (arith, c.loop-rest-test.false)) h (c.loop-rest.invariant.1 h l m),
+      going_end c.loop-rest.invariant.0 _ n (omega (arith, c.loop-rest-test.false)),
+    )

@@ -1,0 +1,15 @@
+-- The bytes read, stored one after the other, are a part laid over the slice.
+use Rattle.cells.specs.CellLaws.{copy-two}
+use native.Mathlib.Omega.{arith}
+use lib.ListN.{length-set}
+use borrow.Author.Rules.{rules}
+use Rattle.cells.proofs.cell.copy2.Goals as goal
+
+pub bounds-d-at-2 : goal.bounds-d-at-2
+bounds-d-at-2 c = simp length-set (omega arith)
+
+pub shape_of-d : goal.shape_of-d
+shape_of-d c = simp length-set
+
+pub returns : goal.returns
+returns c = copy-two _ _ _ _ (omega arith)

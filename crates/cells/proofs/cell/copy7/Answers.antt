@@ -1,0 +1,10 @@
+-- A part, and the part after it.
+use Rattle.cells.specs.CellLaws.{copy_parts}
+use mathlib.Core.Path.{refl}
+use native.Mathlib.Omega.{arith}
+use borrow.Author.Rules.{rules}
+use Rattle.cells.proofs.cell.copy7.Goals as goal
+
+pub returns : goal.returns
+returns c = copy_parts _ _ 4 3 7 _ _ _ _ refl (omega arith)
+    c.copy4.ensures c.copy3.ensures

@@ -1,0 +1,14 @@
+-- Each turn puts the records of one fragment that follow each other, or one that lies in several.
+use mathlib.Core.Path.{refl}
+use Prim.Native.Nat.{◌-◌}
+use Rattle.cells.specs.GatheredLaws.{Running, running_begin, running_room, running_some, running_turn, running_end}
+use borrow.Author.Rules.{rules}
+use native.Mathlib.Omega.{arith}
+use Rattle.cells.proofs.gathered.put_words.Given as goal
+
+abbrev pub invariant-loop-count : goal.invariant-loop-count
+invariant-loop-count l =
+    Running l.image l.fragments l.h l.words l.size l.from l.to l.n l.count l.index l.initial.k l.k l.initial.out l.out
+
+abbrev pub decreases-loop-count : goal.decreases-loop-count
+decreases-loop-count l = l.n - l.count

@@ -1,0 +1,7 @@
+-- The flag is that of the definition.
+use borrow.Author.Rules.{rules}
+use Rattle.channels.specs.ChannelLaws.{storage_is}
+use Rattle.channels.proofs.is_storage.Goals as goal
+
+pub returns : goal.returns
+returns c = storage_is _ _ c.group_flags.ensures.is

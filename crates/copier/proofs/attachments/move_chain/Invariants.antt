@@ -1,0 +1,16 @@
+-- What is left of the chain gives what the whole gives.
+use native.Mathlib.Omega.{arith}
+use borrow.Author.Rules.{rules}
+use Rattle.copier.specs.AttachingLaws.{indexed_attached, Chaining, chain_begin, chain-out, chain-ends, chain_refused, chain_stopped, chain_next}
+use Rattle.photos.specs.FollowedLaws.{Fitting, goes_fits}
+use Rattle.copier.specs.TurnLaws.{indexed_at, so_begun, after-at}
+use Rattle.copier.specs.Index.{Indexed}
+use Rattle.copier.specs.Got.{After}
+use Rattle.copier.proofs.attachments.move_chain.Given as goal
+
+abbrev pub invariant-loop-turns : goal.invariant-loop-turns
+invariant-loop-turns l =
+    Chaining l.most l.image l.initial.memo l.a l.initial.st l.memo l.at l.count l.turns l.st × Indexed l.memo l.st.used l.index
+
+abbrev pub decreases-loop-turns : goal.decreases-loop-turns
+decreases-loop-turns l = l.turns

@@ -1,0 +1,14 @@
+-- What is left of the columns gives what all of them give.
+use Rattle.copier.specs.RootsLaws.{CopyingOf, copying_begin, copying_end, copying_refused, copying_next}
+use Rattle.copier.specs.TurnLaws.{indexed_at}
+use Rattle.copier.specs.Index.{Indexed}
+use native.Mathlib.Omega.{arith}
+use borrow.Author.Rules.{rules}
+use Rattle.copier.proofs.columns.copy_all.Given as goal
+
+abbrev pub invariant-loop-left : goal.invariant-loop-left
+invariant-loop-left l =
+    CopyingOf l.most l.image l.columns l.n l.initial.memo l.initial.st l.memo l.p l.left l.st × Indexed l.memo l.st.used l.index
+
+abbrev pub decreases-loop-left : goal.decreases-loop-left
+decreases-loop-left l = l.left

@@ -1,0 +1,20 @@
+-- What is left of the links gives what all give; each is copied from outside.
+use Prim.Native.Nat.{◌+◌, ◌*◌, ◌≤◌}
+use mathlib.Core.Path.{◌≡◌, refl}
+use native.Mathlib.Omega.{arith}
+use lib.ListN.{length}
+use borrow.Author.Rules.{rules}
+use Rattle.plan.specs.Copies.{copy_links, copy_root}
+use Rattle.copier.specs.TurnLaws.{indexed_at, Held, held_begin, held_next, follow_next, follow_refused, follow_end}
+use Rattle.copier.specs.Standing.{standing}
+use Rattle.copier.specs.Index.{Indexed}
+use Rattle.copier.proofs.copies.follow.Given as goal
+
+abbrev pub invariant-loop-links : goal.invariant-loop-links
+invariant-loop-links l =
+    (l.p + 8 * l.links ≤ length l.image + 8) × Held l.initial.memo l.initial.st l.memo l.st × (8192 ≤ length l.memo)
+    × (copy_links (copy_root l.most l.image) l.image l.links l.p (standing l.memo l.st) ≡ copy_links (copy_root l.most l.image) l.image l.count l.at (standing l.initial.memo
+    l.initial.st)) × Indexed l.memo l.st.used l.index
+
+abbrev pub decreases-loop-links : goal.decreases-loop-links
+decreases-loop-links l = l.links

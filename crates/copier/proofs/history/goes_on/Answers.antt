@@ -1,0 +1,50 @@
+-- Each way through the checks is a way through the definition.
+use mathlib.Core.Path.{sym, ◌∙◌}
+use native.Mathlib.Omega.{arith}
+use borrow.Author.Rules.{rules}
+use Rattle.blocks.specs.AnswerLaws.{so_fine, so_refused}
+use Rattle.copier.specs.HistoryLaws.{ends-none, ends_met, ends-other, goes_refused, goes_unlinked, goes_on_lem}
+use Rattle.copier.specs.BeginLaws.{so_copied}
+use Rattle.copier.proofs.history.goes_on.Goals as goal
+
+pub returns-then-a-eq0 : goal.returns-then-a-eq0
+returns-then-a-eq0 c = ends-none _ _ _ c.if-a-eq0.true
+
+pub is_met-requires : goal.is_met-requires
+is_met-requires c = c.requires
+
+pub returns-then-is_met : goal.returns-then-is_met
+returns-then-is_met c =
+    let a = c.args in
+    ends_met _ _ _ c.if-a-eq0.false (sym c.is_met.ensures ∙ c.if-is_met.true)
+
+pub returns-in-Refused : goal.returns-in-Refused
+returns-in-Refused c =
+    let a = c.args in
+    goes_refused _ _ _ c.if-a-eq0.false (sym c.is_met.ensures ∙ c.if-is_met.false)
+    (so_refused c.whole_at-whole.ensures c.in-Refused.is)
+
+pub returns-then-links_at-eq0 : goal.returns-then-links_at-eq0
+returns-then-links_at-eq0 c =
+    let a = c.args in
+    goes_unlinked _ _ _ c.if-a-eq0.false (sym c.is_met.ensures ∙ c.if-is_met.false) (so_fine
+    c.whole_at-whole.ensures
+    c.in_default.is)
+    (so_copied a.image.now a.a c.kind_at.ensures
+    c.is_copied.ensures c.if-is_copied.true) (omega arith)
+
+pub returns-then-is_copied : goal.returns-then-is_copied
+returns-then-is_copied c =
+    let a = c.args in
+    goes_on_lem _ _ _ c.if-a-eq0.false (sym c.is_met.ensures ∙ c.if-is_met.false) (so_fine
+    c.whole_at-whole.ensures
+    c.in_default.is)
+    (so_copied a.image.now a.a c.kind_at.ensures
+    c.is_copied.ensures c.if-is_copied.true) (omega arith)
+
+pub returns : goal.returns
+returns c =
+    let a = c.args in
+    ends-other _ _ _ c.if-a-eq0.false (sym c.is_met.ensures ∙ c.if-is_met.false) (so_fine
+    c.whole_at-whole.ensures c.in_default.is)
+    (so_copied a.image.now a.a c.kind_at.ensures c.is_copied.ensures c.if-is_copied.false)

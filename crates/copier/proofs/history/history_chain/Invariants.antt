@@ -1,0 +1,16 @@
+-- What is left of the chain gives what the whole gives.
+use native.Mathlib.Omega.{arith}
+use borrow.Author.Rules.{rules}
+use Rattle.copier.specs.HistoryLaws.{copied_begin, copied_next, Walked, walk_begin, walk-out, walk_ends, walk_refused, walk_stopped, walk-next}
+use Rattle.copier.specs.TurnLaws.{indexed_at, so_begun, after-at}
+use Rattle.copier.specs.Index.{Indexed}
+use Rattle.copier.specs.IndexLaws.{indexed_set}
+use Rattle.copier.specs.History.{ChainCopied}
+use Rattle.copier.proofs.history.history_chain.Given as goal
+
+abbrev pub invariant-loop-turns : goal.invariant-loop-turns
+invariant-loop-turns l =
+    Walked l.most l.image l.initial.memo l.a l.initial.st l.memo l.at l.count l.turns l.st × Indexed l.memo l.st.used l.index × ChainCopied l.memo l.count l.st.used
+
+abbrev pub decreases-loop-turns : goal.decreases-loop-turns
+decreases-loop-turns l = l.turns

@@ -1,0 +1,30 @@
+-- What is left of the chain, and the last that was met, give the copy.
+use Prim.Native.Nat.{◌≤◌}
+use mathlib.Core.Path.{◌≡◌, refl}
+use Rattle.copier.specs.Index.{Indexed}
+use Rattle.copier.specs.IndexLaws.{Chasing, chase_begin, chase_none, chase_hit, chase_next, chase_less, met_most}
+use borrow.Author.Rules.{rules}
+use native.Mathlib.Omega.{arith}
+use Rattle.copier.proofs.memo.find_in.Goals as goal
+
+pub loop-i-init : goal.loop-i-init
+loop-i-init c = (omega arith, refl, λ t. chase_begin _ _ _ _ t c.wide-i.ensures)
+
+pub returns-then-most-i : goal.returns-then-most-i
+returns-then-most-i c = λ t. let k = (c.loop-i.invariant.2 t).within in absurd (omega arith)
+
+pub returns-then-i-older : goal.returns-then-i-older
+returns-then-i-older c = λ t. let k = chase_less (c.loop-i.invariant.2 t) c.loop-i-test.true _ t c.wide-older.ensures in absurd (omega arith)
+
+pub loop-i-preserved : goal.loop-i-preserved
+loop-i-preserved c = (
+  met_most _ _ _ _ _ c.met-hit.ensures (omega arith) c.loop-i.invariant.0,
+  c.loop-i.invariant.1,
+  λ t. chase_next (c.loop-i.invariant.2 t) c.loop-i-test.true _ t c.wide-older.ensures c.met-hit.ensures,
+)
+
+pub returns-then-hit-eq0 : goal.returns-then-hit-eq0
+returns-then-hit-eq0 c = λ t. chase_none (c.loop-i.invariant.2 t) (omega arith) (omega arith)
+
+pub returns : goal.returns
+returns c = λ t. chase_hit (c.loop-i.invariant.2 t) (omega arith) (omega arith)

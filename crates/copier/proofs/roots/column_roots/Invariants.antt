@@ -1,0 +1,22 @@
+-- What is left of the nine links gives what all give.
+use Prim.Native.Nat.{◌-◌, ◌≤◌}
+use mathlib.Core.Path.{◌≡◌, refl}
+use native.Mathlib.Omega.{arith}
+use lib.ListN.{drop}
+use lib.ListN.{length}
+use borrow.Author.Rules.{rules}
+use Rattle.plan.specs.Copies.{copy_roots}
+use Rattle.copier.specs.TurnLaws.{indexed_at, Held, held_begin, held_next, roots-next, roots_refused, roots_end}
+use Rattle.copier.specs.Roots.{roots, roots_nine}
+use Rattle.copier.specs.Standing.{standing}
+use Rattle.copier.specs.Index.{Indexed}
+use Rattle.copier.proofs.roots.column_roots.Given as goal
+
+abbrev pub invariant-loop-i : goal.invariant-loop-i
+invariant-loop-i l =
+    (l.i ≤ 9) × Held l.initial.memo l.initial.st l.memo l.st × (8192 ≤ length l.memo)
+    × (copy_roots l.most l.image (drop l.i (roots l.image l.dg l.cg l.cn)) (standing l.memo l.st) ≡ copy_roots l.most l.image (roots l.image l.dg l.cg l.cn) (standing
+    l.initial.memo l.initial.st)) × Indexed l.memo l.st.used l.index
+
+abbrev pub decreases-loop-i : goal.decreases-loop-i
+decreases-loop-i l = 9 - l.i

@@ -1,0 +1,17 @@
+use native.Mathlib.Omega.{arith}
+use Rattle.base.specs.FieldLaws.{split, le-past}
+use borrow.Author.Rules.{rules}
+use Rattle.fields.proofs.u32_at.Goals as goal
+
+pub returns-then-n-at-ge4 : goal.returns-then-n-at-ge4
+returns-then-n-at-ge4 c = c.four_at.ensures
+
+pub returns-then-at-n : goal.returns-then-at-n
+returns-then-at-n c = omega (
+  arith,
+  split 2 2 c.args.s.now
+      c.args.at,
+)
+
+pub returns : goal.returns
+returns c = omega (arith, le-past 4 c.args.s.now c.args.at (omega arith))

@@ -1,0 +1,11 @@
+-- Header and fields, one after the other.
+use Rattle.std.proofs.Common.{length-append, rules}
+use Rattle.base.specs.FieldLaws.{length-le}
+use Rattle.base.specs.BlitLaws.{blit-append}
+use Rattle.puts.specs.PutLaws.{length-header}
+use Rattle.result.specs.Fill.{fh_bytes}
+use Rattle.filling.proofs.put_fh.Goals as goal
+
+pub returns : goal.returns
+unfolding fh_bytes
+returns c = simp (blit-append, length-append, length-header, length-le) cc

@@ -1,0 +1,12 @@
+-- The text, the number and the lines, one after the other.
+use borrow.Author.Rules.{rules}
+use Rattle.listing.specs.LinesLaws.{columns-laid}
+use Rattle.listing.proofs.lines.put_columns.Goals as goal
+
+slice-aggregate-put-text : tie.Need-slice-aggregate-put-text
+slice-aggregate-put-text c = search rules
+
+pub returns : goal.returns
+returns c = columns-laid _ _ _ _ _
+    c.put_text-p.ensures
+    c.put_number-q.ensures c.put_column_lines.ensures

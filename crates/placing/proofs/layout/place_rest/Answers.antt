@@ -1,0 +1,79 @@
+-- Places of columns, then attachments.
+use Prim.Native.Nat.{◌≤◌}
+use mathlib.Core.Path.{refl}
+use native.Mathlib.Omega.{arith}
+use borrow.Author.Rules.{rules}
+use Rattle.placing.specs.InWordsLaws.{all-few}
+use Rattle.placing.specs.LayingLaws.{rest-moved, rest_refused, rest_near}
+use Rattle.placing.proofs.layout.place_rest.Goals as goal
+
+-- past the columns' data there is room for the attachments
+near : (c : tie.After-place-columns) → c.place-columns.result ≤ 576460752303423488
+near c =
+    let a = c.before.before.before.before.before.before.before.before.args in
+    let h = c.before.before.before.before.before.before.before.before.requires in
+    (rest_near a.unit a.photos a.image.now a.size a.columns.now a.fragments.now a.n a.state
+    (c.before.before.before.aligned.ensures (omega (arith, h.4))) c.before.before.structure-end.ensures
+    c.place-columns.ensures.0 h.0 h.4 h.5 h.6
+    h.7).2
+
+pub structure_end-end-requires : goal.structure_end-end-requires
+structure_end-end-requires c =
+    let a = c.args in
+    let h = c.requires in
+    let x = rest_near a.unit a.photos a.image.now a.size a.columns.now a.fragments.now a.n
+    a.state
+    (c.aligned-a.ensures (omega (arith, h.4))) refl refl h.0 h.4 h.5 h.6 h.7 in
+    (h.0, omega (arith, x.0), all-few h.5)
+
+pub place_columns-data-requires : goal.place_columns-data-requires
+place_columns-data-requires c =
+    let a = c.args in
+    let h = c.requires in
+    let x = rest_near a.unit a.photos a.image.now a.size a.columns.now a.fragments.now a.n
+    a.state
+    (c.aligned-a.ensures (omega (arith, h.4))) c.structure_end-end.ensures refl h.0 h.4
+    h.5 h.6 h.7 in
+    (h.0, omega (arith, x.0), omega (arith, x.1), h.1, h.5, h.6, h.7)
+
+pub returns-in-At : goal.returns-in-At
+returns-in-At c =
+    let h = c.requires in
+    let l = c.place_columns-data.auto.1.1.1.1.1.1.1.0 in
+    rest-moved _ _ _ _ _ _ _ _ _
+    (c.aligned-a.ensures
+    (omega (arith, h.4)))
+    c.structure_end-end.ensures
+    c.place_columns-data.ensures.0
+    c.place_columns-data.ensures.1
+    c.link_at.ensures h.3 _
+    (c.attachments-moved.ensures
+    (record {
+      words = omega (arith, h.1, l);
+      limit = omega arith;
+      few = h.3;
+      near = near
+          c.before.before.before.before.before.before.before.before.before.before;
+    }) (omega (arith, h.2)))
+    c.in-At.is
+
+pub returns-in-Refused : goal.returns-in-Refused
+returns-in-Refused c =
+    let h = c.requires in
+    let l = c.place_columns-data.auto.1.1.1.1.1.1.1.0 in
+    rest_refused _ _ _ _ _ _ _ _ _
+    (c.aligned-a.ensures
+    (omega (arith, h.4)))
+    c.structure_end-end.ensures
+    c.place_columns-data.ensures.0
+    c.place_columns-data.ensures.1
+    c.link_at.ensures h.3 _ _
+    (c.attachments-moved.ensures
+    (record {
+      words = omega (arith, h.1, l);
+      limit = omega arith;
+      few = h.3;
+      near = near
+          c.before.before.before.before.before.before.before.before.before.before;
+    }) (omega (arith, h.2)))
+    c.in-Refused.is

@@ -1,0 +1,63 @@
+-- What is left of the channels gives what all of them give.
+use Rattle.choices.specs.Chosen.{rules}
+use Rattle.planning.specs.ChannelLaws.{Channels, channels_begin, channels_last, channels_stop, channels_pass, channels_refused, channels_on}
+use Prim.Native.Nat.{◌-◌}
+use mathlib.Core.Path.{◌≡◌, refl}
+use lib.ListN.{length}
+use native.Mathlib.Omega.{arith}
+use borrow.Author.Rules.{rules}
+use Rattle.planning.proofs.column.plan_channels.Goals as goal
+
+abbrev invariant_loop : tie.invariant-loop
+invariant_loop image choices table source fragments₀ columns₀ n i g d records own master nc om nf k₀ columns-now₀ omissions-now₀ fragments-now₀
+    fragments columns k columns-now omissions-now fragments-now = (length columns ≡ length columns₀) × (length fragments ≡ length
+    fragments₀)
+    × Channels (rules choices table) image source n i g d records own master nc om nf columns₀ fragments₀ k columns-now omissions-now fragments-now
+    columns fragments
+
+abbrev decreases_loop : tie.decreases-loop
+decreases_loop image choices table source fragments₀ columns₀ n i g d records own master nc om nf k₀ columns-now₀ omissions-now₀ fragments-now₀
+    fragments columns k columns-now omissions-now fragments-now = n - k
+
+pub loop-k-init : goal.loop-k-init
+loop-k-init c = (refl, refl, channels_begin (omega arith) (omega arith))
+
+pub returns-then-word-ne0 : goal.returns-then-word-ne0
+returns-then-word-ne0 c = channels_stop c.loop-k.invariant.2 c.loop-k-test.true
+    c.word.ensures (omega arith) c.if-word-ne0.true
+
+pub returns-in-Refused : goal.returns-in-Refused
+returns-in-Refused c = channels_refused
+    c.loop-k.invariant.2
+    c.loop-k-test.true
+    c.word.ensures
+    c.if-word-ne0.false
+    c.word-c.ensures
+    c.if-c-own.true
+    c.plan_channel-planned.ensures c.in-Refused.is
+
+pub loop-k-preserved-in-Done : goal.loop-k-preserved-in-Done
+loop-k-preserved-in-Done c = (
+  search rules,
+  search rules,
+  channels_on
+      c.loop-k.invariant.2
+      c.loop-k-test.true
+      c.word.ensures
+      c.if-word-ne0.false
+      c.word-c.ensures
+      c.if-c-own.true
+      c.plan_channel-planned.ensures c.in-Done.is,
+)
+
+pub loop-k-preserved : goal.loop-k-preserved
+loop-k-preserved c = (
+  search rules,
+  search rules,
+  channels_pass c.loop-k.invariant.2
+      c.loop-k-test.true c.word.ensures
+      c.if-word-ne0.false c.word-c.ensures c.if-c-own.false,
+)
+
+pub returns : goal.returns
+returns c = channels_last c.loop-k.invariant.2 (omega arith) c.loop-k-test.false

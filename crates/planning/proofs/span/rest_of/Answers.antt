@@ -1,0 +1,20 @@
+-- What is left of the items gives what all of them give.
+use Prim.Native.Nat.{◌-◌}
+use Rattle.planning.specs.SpanLaws.{Counting, count_begin, count_end, count_stop, count_on, Ending, end_begin, end_end, end_stop, end_on}
+use borrow.Author.Rules.{rules}
+use Rattle.planning.proofs.span.rest_of.Goals as goal
+
+pub loop-k-init : goal.loop-k-init
+loop-k-init c = (count_begin, end_begin)
+
+pub returns-then-mark-gt1 : goal.returns-then-mark-gt1
+returns-then-mark-gt1 c = (
+  count_stop c.loop-k.invariant.0 c.loop-k-test.true c.word-mark.ensures c.if-mark-gt1.true c.least-m.ensures.0,
+  end_stop c.loop-k.invariant.1 c.loop-k-test.true c.word-mark.ensures c.if-mark-gt1.true c.least-m.ensures.0,
+)
+
+pub loop-k-preserved : goal.loop-k-preserved
+loop-k-preserved c = (count_on c.loop-k.invariant.0 c.loop-k-test.true c.word-mark.ensures c.if-mark-gt1.false, end_on c.loop-k.invariant.1 c.loop-k-test.true c.word-mark.ensures c.if-mark-gt1.false)
+
+pub returns : goal.returns
+returns c = (count_end c.loop-k.invariant.0 c.loop-k-test.false c.least-m.ensures.0, end_end c.loop-k.invariant.1 c.loop-k-test.false c.least-m.ensures.0)

@@ -1,0 +1,9 @@
+-- The store is the definition; past the end it changes nothing.
+use mathlib.Core.Path.{sym}
+use lib.Seq.{set_out}
+use native.Mathlib.Omega.{arith}
+use borrow.Author.Rules.{rules}
+use Rattle.planning.proofs.words.put.Goals as goal
+
+pub returns-else-at-w : goal.returns-else-at-w
+returns-else-at-w c = sym (set_out _ _ _ (omega arith))

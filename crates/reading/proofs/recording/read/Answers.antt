@@ -1,0 +1,30 @@
+-- Slices long enough, then what reading gives; after a refusal every word is zero.
+use native.Mathlib.Omega.{arith}
+use mathlib.Core.Path.{refl}
+use Rattle.base.specs.ChoiceLaws.{lt_yes, lt_no}
+use Rattle.reading.specs.Reading.{read_into}
+use Rattle.reading.specs.ReadLaws.{read_refused, read_done}
+use borrow.Author.Rules.{rules}
+use Rattle.reading.proofs.recording.read.Goals as goal
+
+pub returns-then-source-lt4096 : goal.returns-then-source-lt4096
+unfolding read_into
+returns-then-source-lt4096 c = lt_yes _ _ _ _ (omega arith) refl
+
+pub returns-then-fragments-lt3072 : goal.returns-then-fragments-lt3072
+unfolding read_into
+returns-then-fragments-lt3072 c = lt_no _ _ _ _ (omega arith) (lt_yes _ _ _ _ (omega arith) refl)
+
+pub returns-in-Refused : goal.returns-in-Refused
+returns-in-Refused c =
+    let p = c.before.before.before.before.before.before in
+    let a = p.before.before.before in
+    let r = a.before.before.before.before.before.before in
+    read_refused _ _ _ (omega arith) (omega arith) r.read_all.new.1.0 r.read_all.new.1.1.0 r.read_all.ensures
+    a.answer.given.1 (omega arith) (omega arith) p.clear.ensures c.clear-in-Refused.ensures
+
+pub returns : goal.returns
+returns c =
+    let r = c.before.before.before.before.before.before in
+    read_done _ _ _ (omega arith) (omega arith) r.read_all.new.1.0 r.read_all.new.1.1.0 r.read_all.ensures
+    c.in_default.is

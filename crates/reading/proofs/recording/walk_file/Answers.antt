@@ -1,0 +1,12 @@
+-- No words are lent for fragments, so none are kept.
+use mathlib.Core.Path.{refl}
+use mathlib.Core.List.{[]}
+use Rattle.mdf.specs.Chain.{file_limits}
+use Rattle.reading.specs.WalkedLaws.{without-pieces}
+use borrow.Author.Rules.{rules}
+use Rattle.reading.proofs.recording.walk_file.Goals as goal
+
+pub returns : goal.returns
+returns c =
+    let w = c.before in
+    without-pieces file_limits _ _ w.walk.new.1.1.0 [] w.walk.new.1.1.1.0 w.walk.result w.walk.ensures refl w.walk.auto.1.1.1.0

@@ -1,0 +1,33 @@
+-- A refusal's numbers, or the report's.
+use Rattle.sitaungo.specs.AnswerLaws.{exported_as}
+use Rattle.sitaungo.specs.ReadableLaws.{readable_by}
+use borrow.Author.Rules.{rules}
+use Rattle.sitaungo.proofs.sitaungo_convert_with.Goals as goal
+
+pub returns-in-Refused : goal.returns-in-Refused
+returns-in-Refused c = (
+  exported_as _ _ _ _ _
+      c.convert-answer.ensures.0
+      c.in-Refused.is,
+  (
+    c.convert-answer.ensures.1,
+    readable_by _ _ _ _
+        c.are_bytes.ensures
+        c.are_bytes-2.ensures
+        c.convert-answer.ensures.0,
+  ),
+)
+
+pub returns-in-Done : goal.returns-in-Done
+returns-in-Done c = (
+  exported_as _ _ _ _ _
+      c.convert-answer.ensures.0
+      c.in-Done.is,
+  (
+    c.convert-answer.ensures.1,
+    readable_by _ _ _ _
+        c.are_bytes.ensures
+        c.are_bytes-2.ensures
+        c.convert-answer.ensures.0,
+  ),
+)

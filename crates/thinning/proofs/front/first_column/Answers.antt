@@ -1,0 +1,11 @@
+-- By the number of columns.
+use mathlib.Core.Path.{refl}
+use Rattle.base.specs.ChoiceLaws.{eq_yes, eq_no}
+use borrow.Author.Rules.{rules}
+use Rattle.thinning.proofs.front.first_column.Goals as goal
+
+pub returns-then-n-eq0 : goal.returns-then-n-eq0
+returns-then-n-eq0 c = eq_yes _ _ _ _ c.if-n-eq0.true refl
+
+pub returns : goal.returns
+returns c = eq_no _ _ _ _ c.if-n-eq0.false refl

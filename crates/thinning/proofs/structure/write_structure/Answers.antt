@@ -1,0 +1,13 @@
+-- Without columns nothing is written; else the zeros before them, then these.
+use Rattle.thinning.specs.StructureLaws.{no_structure, wrote_structure}
+use borrow.Author.Rules.{rules}
+use Rattle.thinning.proofs.structure.write_structure.Goals as goal
+
+pub returns-then-n-eq0 : goal.returns-then-n-eq0
+returns-then-n-eq0 c = no_structure c.requires.0 c.if-n-eq0.true _
+
+pub returns : goal.returns
+returns c = wrote_structure
+    c.requires.0
+    c.if-n-eq0.false
+    c.gap.ensures c.put_structure.ensures

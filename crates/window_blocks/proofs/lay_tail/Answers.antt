@@ -1,0 +1,12 @@
+-- A window past the links sees the data only; one inside a link its end, and then what is left.
+use Rattle.std.proofs.Common.{◌∙◌, rules}
+use Rattle.window_blocks.specs.TailLaws.{tail_past, tail_inside}
+use Rattle.window_blocks.proofs.lay_tail.Goals as goal
+
+pub returns-then-n-i : goal.returns-then-n-i
+returns-then-n-i c = c.lay_dl_data.ensures ∙ tail_past _ _ _ _ _ c.if-n-i.true
+
+pub returns : goal.returns
+returns c =
+    tail_inside _ _ _ _ _ _ _ _ _ _ _ c.if-n-i.false c.wrapping_add_u64-step.ensures c.times.ensures c.wrapping_add_u64-b.ensures c.wrapping_add_u64-next.ensures
+    c.lay_u64.ensures c.put_tail.ensures

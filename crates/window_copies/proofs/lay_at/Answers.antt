@@ -1,0 +1,23 @@
+-- A block that begins before the window from its byte on; one that begins past it not at all; else in the part that is lent.
+use Rattle.window_copies.specs.LaidLaws.{over_inside, past_window}
+use Rattle.puts.specs.PutLaws.{lent_is}
+use Rattle.windows.specs.LayLaws.{lay_after}
+use mathlib.Core.Path.{◌∙◌}
+use native.Mathlib.Omega.{arith}
+use borrow.Author.Rules.{rules}
+use Rattle.window_copies.proofs.lay_at.Goals as goal
+
+part-put-at-start : tie.Need-slice-bounds-put-at-start
+part-put-at-start c = search rules
+
+part-put-at-end : tie.Need-slice-bounds-put-at-end
+part-put-at-end c = search rules
+
+pub returns-then-at-a : goal.returns-then-at-a
+returns-then-at-a c = λ t. c.lay_at_inside.ensures t ∙ over_inside _ _ _ _ (omega arith)
+
+pub returns-then-w-p : goal.returns-then-w-p
+returns-then-w-p c = λ t. past_window _ _ _ _ (omega arith) (omega arith)
+
+pub returns : goal.returns
+returns c = λ t. lent_is _ _ _ _ (c.put_at.ensures t) ∙ lay_after _ _ _ _ (omega arith)

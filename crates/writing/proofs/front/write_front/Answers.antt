@@ -1,0 +1,18 @@
+-- The identification, then the HD right after it.
+use Rattle.std.proofs.Common.{refl, rules}
+use Rattle.writing.specs.FrontLaws.{wrote_front}
+use Rattle.writing.proofs.front.write_front.Goals as goal
+
+part-put-hd-start : tie.Need-slice-bounds-put-hd-start
+part-put-hd-start c = search rules
+
+part-put-hd-end : tie.Need-slice-bounds-put-hd-end
+part-put-hd-end c = search rules
+
+pub returns : goal.returns
+returns c = (
+  refl,
+  wrote_front _ _ _ _ _ _ c.requires.0 _ _
+      _
+      c.copy.ensures c.put_hd.ensures,
+)
