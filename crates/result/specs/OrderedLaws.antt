@@ -15,4 +15,4 @@ pub ordered-append : (a b e : ℕ) (xs ys : List Block) → Ordered a xs b → O
 unfolding Ordered
 ordered-append a b e [] [] o p = omega arith
 ordered-append a b e [] (y ∷ ys) o p = (omega (arith, p.0), p.1)
-ordered-append a b e (x ∷ xs) ys o p = (o.0, ordered-append _ b e xs ys o.1 p)
+ordered-append a b e (x ∷ xs) ys o p = (o.0, ordered-append (block_end x) b e xs ys o.1 p)

@@ -261,7 +261,7 @@ module _ (f words out list : List ℕ) where
   holds-run : {r : Running} (os : List Op) → Holds f words out list r → Holds f words out list (run f words os r)
   unfolding run
   holds-run [] h = h
-  holds-run (o ∷ os) h = holds-run os (holds-does o h)
+  holds-run {r = r} (o ∷ os) h = holds-run {r = does f words o r} os (holds-does o h)
 
 -- ---- after any calls since the beginning
 

@@ -3,12 +3,6 @@ use Rattle.std.proofs.Common.{sym, arith, rules}
 use Rattle.puts.specs.PutLaws.{blit-past, lent_is}
 use Rattle.filling.proofs.put_dl_past.Goals as goal
 
-part-put-dl-data-start : tie.Need-slice-bounds-put-dl-data-start
-part-put-dl-data-start c = search rules
-
-part-put-dl-data-end : tie.Need-slice-bounds-put-dl-data-end
-part-put-dl-data-end c = search rules
-
 pub returns-then-room-lt32 : goal.returns-then-room-lt32
 returns-then-room-lt32 c = sym (blit-past _ _ _ (omega arith))
 

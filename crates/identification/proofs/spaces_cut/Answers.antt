@@ -15,7 +15,7 @@ loop-hi-init c = (search rules, search rules, refl)
 pub returns-then-not-space : goal.returns-then-not-space
 returns-then-not-space c =
     let l = c.loop-hi.invariant in
-    let other = sym c.is_space-space.ensures ∙ not-true _ c.if-not-space.true in
+    let other = sym c.is_space-space.ensures ∙ c.if-not-space.true in
     record {
       low = omega arith;
       high = omega arith;
@@ -25,7 +25,7 @@ returns-then-not-space c =
 pub loop-hi-preserved : goal.loop-hi-preserved
 loop-hi-preserved c =
     let l = c.loop-hi.invariant in
-    let space = sym c.is_space-space.ensures ∙ not-false _ c.if-not-space.false in
+    let space = sym c.is_space-space.ensures ∙ c.if-not-space.false in
     (search rules, search rules, end_on is_space _ _ _ l.2 (omega arith) (omega arith) space)
 
 pub returns : goal.returns

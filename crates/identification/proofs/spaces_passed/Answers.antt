@@ -15,7 +15,7 @@ loop-lo-init c = (search rules, search rules, refl)
 pub returns-then-not-space : goal.returns-then-not-space
 returns-then-not-space c =
     let l = c.loop-lo.invariant in
-    let other = sym c.is_space-space.ensures ∙ not-true _ c.if-not-space.true in
+    let other = sym c.is_space-space.ensures ∙ c.if-not-space.true in
     record {
       high = omega arith;
       cut = front_stop is_space _ _ _ l.2 (omega arith) (omega arith) other;
@@ -24,7 +24,7 @@ returns-then-not-space c =
 pub loop-lo-preserved : goal.loop-lo-preserved
 loop-lo-preserved c =
     let l = c.loop-lo.invariant in
-    let space = sym c.is_space-space.ensures ∙ not-false _ c.if-not-space.false in
+    let space = sym c.is_space-space.ensures ∙ c.if-not-space.false in
     (search rules, search rules, front-on is_space _ _ _ l.2 (omega arith) (omega arith) space)
 
 pub returns : goal.returns

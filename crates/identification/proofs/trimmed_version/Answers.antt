@@ -7,6 +7,5 @@ use Rattle.identification.proofs.trimmed_version.Goals as goal
 
 pub returns : goal.returns
 returns c =
-    let e = c.before.before in
     c.version_in.ensures
-    ∙ ap version_of (trimmed-range e.before.zeros-cut.ensures e.spaces-cut.ensures c.spaces_passed-lo.ensures)
+    ∙ ap version_of (trimmed-range c.zeros_cut-end.ensures c.spaces_cut-hi.ensures c.spaces_passed-lo.ensures)

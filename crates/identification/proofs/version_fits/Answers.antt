@@ -8,31 +8,27 @@ use Rattle.identification.specs.IdentificationLaws.{check_over, check_unread, ch
 use Rattle.identification.proofs.version_fits.Goals as goal
 
 pub returns-then-not-plain : goal.returns-then-not-plain
-returns-then-not-plain c = check_over _ c.is_ascii-plain.ensures (not-true _ c.if-not-plain.true)
+returns-then-not-plain c = check_over _ c.is_ascii-plain.ensures (c.if-not-plain.true)
 
 pub returns-then-n-lt410 : goal.returns-then-n-lt410
 returns-then-n-lt410 c =
-    let v = c.before.before.before.before in
-    check_value _ v.before.before.is_ascii.ensures (not-false _ v.before.if1.false)
-    v.trimmed-version.ensures c.in-Value.is
+    check_value _ c.is_ascii-plain.ensures (c.if-not-plain.false)
+    c.trimmed_version-version.ensures c.in-Value.is
     (lt_yes _ _ _ _ (omega arith) refl)
 
 pub returns-then-n-gt65535 : goal.returns-then-n-gt65535
 returns-then-n-gt65535 c =
-    let v = c.before.before.before.before.before in
-    check_value _ v.before.before.is_ascii.ensures (not-false _ v.before.if1.false)
-    v.trimmed-version.ensures c.in-Value.is
+    check_value _ c.is_ascii-plain.ensures (c.if-not-plain.false)
+    c.trimmed_version-version.ensures c.in-Value.is
     (lt_no _ _ _ _ (omega arith) (lt_yes _ _ _ _ (omega arith) refl))
 
 pub returns-in-Unreadable : goal.returns-in-Unreadable
 returns-in-Unreadable c =
-    let v = c.before.before in
-    check_unread _ v.before.before.is_ascii.ensures (not-false _ v.before.if1.false)
-    v.trimmed-version.ensures c.in-Unreadable.is
+    check_unread _ c.is_ascii-plain.ensures (c.if-not-plain.false)
+    c.trimmed_version-version.ensures c.in-Unreadable.is
 
 pub returns-else-n-gt65535 : goal.returns-else-n-gt65535
 returns-else-n-gt65535 c =
-    let v = c.before.before.before.before.before in
-    check_value _ v.before.before.is_ascii.ensures (not-false _ v.before.if1.false)
-    v.trimmed-version.ensures c.in-Value.is
+    check_value _ c.is_ascii-plain.ensures (c.if-not-plain.false)
+    c.trimmed_version-version.ensures c.in-Value.is
     (lt_no _ _ _ _ (omega arith) (lt_no _ _ _ _ (omega arith) refl))

@@ -6,14 +6,12 @@ use Rattle.identification.proofs.version_in.Goals as goal
 
 pub overflow_mul-result : goal.overflow_mul-result
 overflow_mul-result c =
-    let f = c.before.before.before.before.before in
-    let m = number_small _ f.before.before.number_in.ensures f.first.given.1 in
+    let m = number_small _ c.number_in-first.ensures c.in-Value.is in
     omega arith
 
 pub overflow_add-result : goal.overflow_add-result
 overflow_add-result c =
-    let f = c.before.before.before.before.before in
-    let m = number_small _ f.before.before.number_in.ensures f.first.given.1 in
+    let m = number_small _ c.number_in-first.ensures c.in-Value.is in
     let n = second-small _ _ _ c.second_in-other.ensures c.in-Value-other.is in
     omega arith
 
@@ -23,14 +21,10 @@ returns-in-Unreadable c = version_first c.dot_in-dot.ensures c.number_in-first.e
 
 pub returns-in-Unreadable-other : goal.returns-in-Unreadable-other
 returns-in-Unreadable-other c =
-    let f = c.before.before.before.before in
-    let n = f.before.before in
-    version_second n.before.dot-in.ensures n.number_in.ensures f.first.given.1
+    version_second c.dot_in-dot.ensures c.number_in-first.ensures c.in-Value.is
     c.second_in-other.ensures c.in-Unreadable-other.is
 
 pub returns-in-Value-other : goal.returns-in-Value-other
 returns-in-Value-other c =
-    let f = c.before.before.before.before.before in
-    let n = f.before.before in
-    version_both n.before.dot-in.ensures n.number_in.ensures f.first.given.1
+    version_both c.dot_in-dot.ensures c.number_in-first.ensures c.in-Value.is
     c.second_in-other.ensures c.in-Value-other.is

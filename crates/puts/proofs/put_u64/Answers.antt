@@ -3,11 +3,5 @@ use Rattle.puts.specs.PutLaws.{lent_is}
 use borrow.Author.Rules.{rules}
 use Rattle.puts.proofs.put_u64.Goals as goal
 
-part-store8-start : tie.Need-slice-bounds-store8-start
-part-store8-start c = search rules
-
-part-store8-end : tie.Need-slice-bounds-store8-end
-part-store8-end c = search rules
-
 pub returns : goal.returns
 returns c = lent_is _ _ _ _ c.store8.ensures

@@ -6,12 +6,6 @@ use Rattle.windows.specs.WindowedLaws.{over-past}
 use Rattle.window_blocks.specs.TailLaws.{begun, dl_tail_lem}
 use Rattle.window_blocks.proofs.lay_dl.Goals as goal
 
-part-put-dl-start : tie.Need-slice-bounds-put-dl-start
-part-put-dl-start c = search rules
-
-part-put-dl-end : tie.Need-slice-bounds-put-dl-end
-part-put-dl-end c = search rules
-
 pub returns-then-w-at : goal.returns-then-w-at
 returns-then-w-at c = sym (over-past _ _ _ _ (omega arith))
 

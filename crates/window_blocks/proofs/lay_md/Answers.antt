@@ -7,12 +7,6 @@ use Rattle.window_blocks.specs.TailLaws.{begun}
 use Rattle.window_blocks.specs.TextLaws.{md_before}
 use Rattle.window_blocks.proofs.lay_md.Goals as goal
 
-part-put-md-start : tie.Need-slice-bounds-put-md-start
-part-put-md-start c = search rules
-
-part-put-md-end : tie.Need-slice-bounds-put-md-end
-part-put-md-end c = search rules
-
 pub returns-then-w-at : goal.returns-then-w-at
 returns-then-w-at c = sym (over-past _ _ _ _ (omega arith))
 

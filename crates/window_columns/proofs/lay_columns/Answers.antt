@@ -22,7 +22,7 @@ pub loop-k-preserved : goal.loop-k-preserved
 loop-k-preserved c =
     let p = c.requires in
     laying_turn _ _ _ _ _ _ _ _ _ _ _ _ _ _ _ c.loop-k.invariant c.loop-k-test.true (c.entry_of-e.ensures (omega (arith, p.1, c.loop-k-test.true)) p.2 p.3)
-    (omega (arith, c.lay_entry.auto)) (omega (arith, c.lay_entry.auto)) (omega (arith, c.lay_entry.auto)) (omega (arith, c.lay_sd.auto)) c.lay_entry.ensures c.lay_sd.ensures
+    (omega (arith, c.lay_entry.auto.w)) (omega (arith, c.lay_entry.auto.w)) (omega (arith, c.lay_entry.auto.w)) (omega (arith, c.lay_sd.auto.w)) c.lay_entry.ensures c.lay_sd.ensures
 
 pub returns : goal.returns
 returns c = laying_end _ _ _ _ _ _ _ _ _ _ _ _ _ _ c.loop-k.invariant (omega arith)

@@ -5,12 +5,6 @@ use native.Mathlib.Omega.{arith}
 use borrow.Author.Rules.{rules}
 use Rattle.window_columns.proofs.lay_entry.Goals as goal
 
-part-lay-own-start : tie.Need-slice-bounds-lay-own-start
-part-lay-own-start c = search rules
-
-part-lay-own-end : tie.Need-slice-bounds-lay-own-end
-part-lay-own-end c = search rules
-
 pub returns-then-count-eq0 : goal.returns-then-count-eq0
 returns-then-count-eq0 c r o k = (k, none-laid _ r o c.width_of-x.ensures.is c.block_count-count.ensures c.if-count-eq0.true _ _)
 
@@ -26,7 +20,7 @@ pub returns-then-apart : goal.returns-then-apart
 returns-then-apart c r o k =
     let p = c.width_of-x.ensures.is in
     let q = c.block_count-count.ensures in
-    (k, apart_laid _ r o p q c.if-count-eq0.false _ _ _ (c.size_of-all.ensures.yes (not-false _ c.if-not-all.false)) (c.apart.ensures c.if-apart.true))
+    (k, apart_laid _ r o p q c.if-count-eq0.false _ _ _ (c.size_of-all.ensures.yes (c.if-not-all.false)) (c.apart.ensures c.if-apart.true))
 
 pub lay_own-requires : goal.lay_own-requires
 lay_own-requires c = (c.requires, c.own_of-o.ensures)

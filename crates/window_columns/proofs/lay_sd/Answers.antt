@@ -6,12 +6,6 @@ use native.Mathlib.Omega.{arith}
 use borrow.Author.Rules.{rules}
 use Rattle.window_columns.proofs.lay_sd.Goals as goal
 
-part-lay-signal-start : tie.Need-slice-bounds-lay-signal-start
-part-lay-signal-start c = search rules
-
-part-lay-signal-end : tie.Need-slice-bounds-lay-signal-end
-part-lay-signal-end c = search rules
-
 pub returns-then-e-eq0 : goal.returns-then-e-eq0
 returns-then-e-eq0 c h o = no_sd _ _ _ _ _ c.if-e-eq0.true
 

@@ -7,12 +7,6 @@ use native.Mathlib.Omega.{arith}
 use borrow.Author.Rules.{rules}
 use Rattle.window_copies.proofs.lay_at.Goals as goal
 
-part-put-at-start : tie.Need-slice-bounds-put-at-start
-part-put-at-start c = search rules
-
-part-put-at-end : tie.Need-slice-bounds-put-at-end
-part-put-at-end c = search rules
-
 pub returns-then-at-a : goal.returns-then-at-a
 returns-then-at-a c = λ t. c.lay_at_inside.ensures t ∙ over_inside _ _ _ _ (omega arith)
 

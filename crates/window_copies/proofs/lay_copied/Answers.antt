@@ -7,12 +7,6 @@ use native.Mathlib.Omega.{arith}
 use borrow.Author.Rules.{rules}
 use Rattle.window_copies.proofs.lay_copied.Goals as goal
 
-part-put-copied-start : tie.Need-slice-bounds-put-copied-start
-part-put-copied-start c = search rules
-
-part-put-copied-end : tie.Need-slice-bounds-put-copied-end
-part-put-copied-end c = search rules
-
 pub returns-then-at-a : goal.returns-then-at-a
 returns-then-at-a c = λ t x. c.lay_inside.ensures t x ∙ over_inside _ _ _ _ (omega arith)
 

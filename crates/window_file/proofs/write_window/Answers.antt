@@ -5,12 +5,6 @@ use native.Mathlib.Omega.{arith}
 use borrow.Author.Rules.{rules}
 use Rattle.window_file.proofs.write_window.Goals as goal
 
-part-lay-data-start : tie.Need-slice-bounds-lay-data-start
-part-lay-data-start c = search rules
-
-part-lay-data-end : tie.Need-slice-bounds-lay-data-end
-part-lay-data-end c = search rules
-
 pub returns-then-fragments-lt3072 : goal.returns-then-fragments-lt3072
 returns-then-fragments-lt3072 c st l k = absurd (omega (arith, file.long-fragments st, c.if-fragments-lt3072.true))
 

@@ -37,7 +37,7 @@ pub loop-i-preserved : goal.loop-i-preserved
 loop-i-preserved c =
     let p = c.requires in
     let v = c.loop-i.invariant in
-    (gathering_turn v.0 p.1 _ c.loop-i-test.true (omega arith) (omega arith) c.cell_here.auto.0 c.cell_here.ensures refl (rw v.1), v.1)
+    (gathering_turn v.0 p.1 _ c.loop-i-test.true (omega arith) (omega arith) c.cell_here.auto.out c.cell_here.ensures refl (rw v.1), v.1)
 
 pub returns : goal.returns
 returns c = gathering_end c.loop-i.invariant.0 c.requires.1 (omega arith)

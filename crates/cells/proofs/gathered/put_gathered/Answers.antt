@@ -6,18 +6,18 @@ use native.Mathlib.Omega.{arith}
 use Rattle.cells.proofs.gathered.put_gathered.Goals as goal
 
 pub returns-then-not-is_sound : goal.returns-then-not-is_sound
-returns-then-not-is_sound c = (omega arith, λ w t e l r. absurd (c.is_sound.ensures.1 (not-true _ c.if-not-is_sound.true) (shaped_sound w.shaped)))
+returns-then-not-is_sound c = (omega arith, λ w t e l r. absurd (c.is_sound.ensures.1 (c.if-not-is_sound.true) (shaped_sound w.shaped)))
 
 pub returns-then-not-has_room : goal.returns-then-not-has_room
-returns-then-not-has_room c = (omega arith, λ w t e l r. absurd (c.has_room.ensures.1 (not-true _ c.if-not-has_room.true) (omega (arith, l))))
+returns-then-not-has_room c = (omega arith, λ w t e l r. absurd (c.has_room.ensures.1 (c.if-not-has_room.true) (omega (arith, l))))
 
 pub returns-then-not-has_room-2 : goal.returns-then-not-has_room-2
-returns-then-not-has_room-2 c = (omega arith, λ w t e l r. absurd (c.has_room-2.ensures.1 (not-true _ c.if-not-has_room-2.true) r))
+returns-then-not-has_room-2 c = (omega arith, λ w t e l r. absurd (c.has_room-2.ensures.1 (c.if-not-has_room-2.true) r))
 
 pub put_words-requires : goal.put_words-requires
 put_words-requires c =
-    let l = c.has_room.ensures.0 (not-false _ c.if-not-has_room.false) in
-    (c.is_sound.ensures.0 (not-false _ c.if-not-is_sound.false), omega (arith, l), c.has_room-2.ensures.0 (not-false _ c.if-not-has_room-2.false))
+    let l = c.has_room.ensures.0 (c.if-not-has_room.false) in
+    (c.is_sound.ensures.0 (c.if-not-is_sound.false), omega (arith, l), c.has_room-2.ensures.0 (c.if-not-has_room-2.false))
 
 pub returns : goal.returns
 returns c = let e = c.put_words.ensures in (e.0, λ w t q l r. e.1 w t q)

@@ -41,7 +41,7 @@ loop-count-smaller c = let e = c.put_some-m.ensures in omega (arith, e.some, e.f
 pub loop-count-preserved : goal.loop-count-preserved
 loop-count-preserved c =
     running_turn c.loop-count.invariant c.put_some-m.result _ c.requires.1 (omega arith) (omega (arith, c.well-formed.1)) (c.reach-near.ensures c.args.image.now)
-    c.put_some-m.ensures (omega (arith, c.put_some-m.auto)) refl refl
+    c.put_some-m.ensures (omega (arith, c.put_some-m.auto.out)) refl refl
 
 pub returns : goal.returns
 returns c = running_end c.loop-count.invariant (λ z. omega arith)

@@ -22,10 +22,10 @@ short : (c : tie.After-reach invariant_loop decreases_loop) → length c.before.
 short c = omega arith
 
 pub returns-then-not-is_roomy : goal.returns-then-not-is_roomy
-returns-then-not-is_roomy c w t y r = absurd (false≢true (sym (not-true _ c.if-not-is_roomy.true) ∙ c.is_roomy.ensures.1 (readable_roomy w y r)))
+returns-then-not-is_roomy c w t y r = absurd (false≢true (sym (c.if-not-is_roomy.true) ∙ c.is_roomy.ensures.1 (readable_roomy w y r)))
 
 pub loop-left-init : goal.loop-left-init
-loop-left-init c = (c.is_roomy.ensures.0 (not-false _ c.if-not-is_roomy.false), refl, λ w t y. record { lying = y; spot = t; bytes = refl })
+loop-left-init c = (c.is_roomy.ensures.0 (c.if-not-is_roomy.false), refl, λ w t y. record { lying = y; spot = t; bytes = refl })
 
 pub put_some-m-requires : goal.put_some-m-requires
 put_some-m-requires c =
@@ -62,7 +62,7 @@ loop-left-preserved c =
     let m = c.put_some-m.result in
     let f = c.put_some-m.ensures.1 in (
       roomy_next i.0 m (omega (arith, f)),
-      omega (arith, i.1, c.put_some-m.auto),
+      omega (arith, i.1, c.put_some-m.auto.out),
       λ w t y.
           let v = i.2 w t y in
           let x = stretching_some v w m (short c.before.before.before.before.before.before) c.reach-k.ensures c.put_some-m.ensures.2 in

@@ -19,7 +19,7 @@ overflow_sub-left c = omega (arith, c.requires.1.some)
 pub loop-left-init : goal.loop-left-init
 loop-left-init c =
     let a = c.args in
-    (striding_begin a.to _ c.requires.1 (omega (arith, c.requires.2, c.cell_here.auto)), refl, refl)
+    (striding_begin a.to _ c.requires.1 (omega (arith, c.requires.2, c.cell_here.auto.out)), refl, refl)
 
 pub overflow_add-at : goal.overflow_add-at
 overflow_add-at c = let r = striding_room c.loop-left.invariant.0 c.loop-left-test.true in omega arith
@@ -37,7 +37,7 @@ cell_here-requires-in-loop-left c =
 pub loop-left-preserved : goal.loop-left-preserved
 loop-left-preserved c =
     let v = c.loop-left.invariant in
-    (rw v.1 (striding_turn v.0 c.loop-left-test.true c.cell_here-in-loop-left.auto.0 (rw (← v.1) c.cell_here-in-loop-left.ensures)), v.1, search rules)
+    (rw v.1 (striding_turn v.0 c.loop-left-test.true c.cell_here-in-loop-left.auto.out (rw (← v.1) c.cell_here-in-loop-left.ensures)), v.1, search rules)
 
 pub returns : goal.returns
 returns c w =

@@ -47,7 +47,7 @@ loop-at-preserved c =
     let u = if_usable _ c.usable.ensures c.if-not-usable.false in
     let r = c.put_rest-spot.ensures in (
       omega (arith, u.next, u.few),
-      omega (arith, v.1, c.put_rest-spot.auto),
+      omega (arith, v.1, c.put_rest-spot.auto.out),
       r.0,
       pool_turn a.image.now a.d a.g a.fragments.now a.f a.pool.now x.at a.out.now x.out c.find-e.result c.requires.0.shaped
           v.3 c.find-e.ensures u r.1,

@@ -48,7 +48,7 @@ loop-at-preserved c =
     let v = c.loop-at.invariant in
     let u = if_usable _ c.usable.ensures c.if-not-usable.false in
     let r = c.put_rest-spot.ensures in
-    (filling_turn v.0 p.0 (λ y z. c.several_next-r.ensures _ v.2 p.4 (v.1 y) y z) u r.0 (omega (arith, c.put_rest-spot.auto)) r.1 refl, v.1, v.2)
+    (filling_turn v.0 p.0 (λ y z. c.several_next-r.ensures _ v.2 p.4 (v.1 y) y z) u r.0 (omega (arith, c.put_rest-spot.auto.out)) r.1 refl, v.1, v.2)
 
 pub returns : goal.returns
 returns c = filling_end c.loop-at.invariant.0 (omega arith) c.requires.3

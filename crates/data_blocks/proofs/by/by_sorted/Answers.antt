@@ -38,7 +38,7 @@ loop-at-preserved c =
     let p = c.requires in
     let u = if_usable _ c.usable.ensures c.if-not-usable.false in
     let r = c.put_rest-spot.ensures in
-    filling_turn c.loop-at.invariant p.0 c.sorted_next-r.ensures u r.0 (omega (arith, c.put_rest-spot.auto)) r.1 refl
+    filling_turn c.loop-at.invariant p.0 c.sorted_next-r.ensures u r.0 (omega (arith, c.put_rest-spot.auto.out)) r.1 refl
 
 pub returns : goal.returns
 returns c = filling_end c.loop-at.invariant (omega arith) (omega arith)

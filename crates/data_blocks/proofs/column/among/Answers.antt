@@ -16,10 +16,10 @@ returns-then-done-f c =
 pub by_offsets-further-requires : goal.by_offsets-further-requires
 by_offsets-further-requires c =
     let p = c.requires in
-    (p.0, formed-same p.1 (omega (arith, c.by_pool-done.auto)), p.2, c.by_pool-done.ensures.0)
+    (p.0, formed-same p.1 (omega (arith, c.by_pool-done.auto.out)), p.2, c.by_pool-done.ensures.0)
 
 pub shape_of-pool-then-further-f : goal.shape_of-pool-then-further-f
-shape_of-pool-then-further-f c = omega (arith, c.prepare.auto)
+shape_of-pool-then-further-f c = omega (arith, c.prepare.auto.pool)
 
 pub returns-then-further-f : goal.returns-then-further-f
 returns-then-further-f c =
@@ -30,13 +30,13 @@ returns-then-further-f c =
 pub by_several-requires : goal.by_several-requires
 by_several-requires c =
     let p = c.requires in
-    (p.0, formed-same p.1 (omega (arith, c.by_pool-done.auto, c.by_offsets-further.auto)), p.2, c.by_offsets-further.ensures.1, p.3)
+    (p.0, formed-same p.1 (omega (arith, c.by_pool-done.auto.out, c.by_offsets-further.auto.out)), p.2, c.by_offsets-further.ensures.1, p.3)
 
 pub shape_of-out : goal.shape_of-out
-shape_of-out c = omega (arith, c.by_several.auto, c.by_offsets-further.auto, c.by_pool-done.auto)
+shape_of-out c = omega (arith, c.by_several.auto.out, c.by_offsets-further.auto.out, c.by_pool-done.auto.out)
 
 pub shape_of-pool : goal.shape_of-pool
-shape_of-pool c = omega (arith, c.prepare.auto)
+shape_of-pool c = omega (arith, c.prepare.auto.pool)
 
 pub returns : goal.returns
 returns c =

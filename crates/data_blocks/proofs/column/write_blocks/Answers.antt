@@ -27,13 +27,13 @@ pub put_records-requires : goal.put_records-requires
 put_records-requires c =
     let o = c.form_of-f.ensures (is_fit _ c.fits_in.ensures c.if-not-fits_in.false) in
     let t = c.total_of-total.ensures in
-    let k = not-false _ c.if-not-total.false in
-    let r = c.has_room.ensures.yes (not-false _ c.if-not-has_room.false) in
+    let k = c.if-not-total.false in
+    let r = c.has_room.ensures.yes (c.if-not-has_room.false) in
     (form_readable o c.if-f-eq0.false c.args.fragments.now t k, form_formed o c.if-f-eq0.false r, (t.yes k).1)
 
 pub returns : goal.returns
 returns c =
     let a = c.args in
     let o = c.form_of-f.ensures (is_fit _ c.fits_in.ensures c.if-not-fits_in.false) in
-    let r = c.has_room.ensures.yes (not-false _ c.if-not-has_room.false) in
+    let r = c.has_room.ensures.yes (c.if-not-has_room.false) in
     form_written o c.if-f-eq0.false a.groups.now a.fragments.now a.pool.now a.words.now a.out.now (form_formed o c.if-f-eq0.false r) c.put_records.ensures

@@ -53,7 +53,7 @@ pub overflow_add-result : goal.overflow_add-result
 overflow_add-result c = let q = turn (c.before.before.before.before.before.before.before) in omega (arith, q.within, c.put_gathered-r.ensures.0, c.ranges.n)
 
 pub shape_of-out-then-r-c : goal.shape_of-out-then-r-c
-shape_of-out-then-r-c c = omega (arith, c.begin_block-body.auto, c.put_gathered-r.auto, c.loop-at.invariant.same)
+shape_of-out-then-r-c c = omega (arith, c.begin_block-body.auto.out, c.put_gathered-r.auto.out, c.loop-at.invariant.same)
 
 pub returns-then-r-c : goal.returns-then-r-c
 returns-then-r-c c =
@@ -84,7 +84,7 @@ loop-at-preserved c =
     let n = c.put_gathered-r.ensures.0 in
     listing_turn v p.3 c.put_gathered-r.result.count (omega (arith, q.within, n))
     (piece_block _ _ _ p.1 _ _ _ _ (omega (arith, q.some)) (omega (arith, q.block, n)) (omega (arith, q.within, n, p.5)) b.0 b.1 r.bytes)
-    r.spot (omega (arith, c.begin_block-body.auto, c.put_gathered-r.auto)) refl
+    r.spot (omega (arith, c.begin_block-body.auto.out, c.put_gathered-r.auto.out)) refl
 
 pub returns : goal.returns
 returns c = let v = c.loop-at.invariant in (omega (arith, v.number), v.few, listing_end v c.requires.3 c.requires.0.shaped)

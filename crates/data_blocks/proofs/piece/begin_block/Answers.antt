@@ -7,12 +7,6 @@ use native.Mathlib.Omega.{arith}
 use borrow.Author.Rules.{rules}
 use Rattle.data_blocks.proofs.piece.begin_block.Goals as goal
 
-part-header-start : tie.Need-slice-bounds-header-start
-part-header-start c = search rules
-
-part-header-end : tie.Need-slice-bounds-header-end
-part-header-end c = search rules
-
 pub returns-then-at-m-gt0 : goal.returns-then-at-m-gt0
 returns-then-at-m-gt0 c =
     let a = c.args in

@@ -85,6 +85,6 @@ loop-left-preserved c =
     let g = piece_ready v p.3 p.1 q b.0 b.1 in
     let r = c.put_stretch-k.ensures p.0 c.loop-left.invariant.1 g.0 g.1 in (
       piecing_turn v p.3 c.least-c.result (omega (arith, q.within)) (piece_block _ _ _ p.1 _ _ _ _ q.some q.block (omega (arith, piecing_few v p.3, q.within)) b.0 b.1 r.1) (omega (arith, q.within))
-          (omega (arith, c.begin_block-body.auto, c.put_stretch-k.auto)),
+          (omega (arith, c.begin_block-body.auto.out, c.put_stretch-k.auto.out)),
       r.0,
     )

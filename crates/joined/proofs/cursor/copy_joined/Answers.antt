@@ -63,7 +63,7 @@ loop-left-preserved c =
           let t = c.loop-left.invariant.0 r e in
           let h = ranges_here _ _ _ t.ranges in
           rw (c.onward-k.ensures.1 (omega arith) (omega arith)) (copying_piece _ t (omega arith) (omega arith) c.copy.ensures),
-      omega (arith, c.copy.auto),
+      omega (arith, c.copy.auto.d),
       search rules,
     )
 

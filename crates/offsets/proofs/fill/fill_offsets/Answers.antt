@@ -23,7 +23,7 @@ pub frame_all-room-requires : goal.frame_all-room-requires
 frame_all-room-requires c = (omega arith, (refl, zeros-all 512 refl))
 
 pub returns-then-not-room : goal.returns-then-not-room
-returns-then-not-room c = fills_none _ _ _ _ (c.frame_all-room.ensures.1 (not-true _ c.if-not-room.true))
+returns-then-not-room c = fills_none _ _ _ _ (c.frame_all-room.ensures.1 (c.if-not-room.true))
 
 pub returns : goal.returns
-returns c = fills_all _ _ _ _ (c.frame_all-room.ensures.0 (not-false _ c.if-not-room.false)) c.put_entries.ensures c.count_entries.ensures (omega arith) (omega arith) c.free_from-begin.ensures.0 c.free_from-begin.ensures.1 (omega arith)
+returns c = fills_all _ _ _ _ (c.frame_all-room.ensures.0 (c.if-not-room.false)) c.put_entries.ensures c.count_entries.ensures (omega arith) (omega arith) c.free_from-begin.ensures.0 c.free_from-begin.ensures.1 (omega arith)

@@ -14,7 +14,7 @@ pub returns-then-not-share_out : goal.returns-then-not-share_out
 returns-then-not-share_out c = (λ e. absurd (false≢true e), λ _. refl)
 
 pub pass-requires : goal.pass-requires
-pass-requires c = ((c.share_out.ensures (not-false _ c.if-not-share_out.false)).ordered, c.requires.1.1)
+pass-requires c = ((c.share_out.ensures (c.if-not-share_out.false)).ordered, c.requires.1.1)
 
 pub returns : goal.returns
-returns c = (λ _. frames-all _ _ _ _ c.requires.0 c.id_size-n.ensures.is (λ e. tabled _ _ _ _ e c.make_tables.ensures.0 refl c.make_tables.ensures.1 refl) (c.share_out.ensures (not-false _ c.if-not-share_out.false)) c.pass.ensures, λ e. absurd (false≢true (sym e)))
+returns c = (λ _. frames-all _ _ _ _ c.requires.0 c.id_size-n.ensures.is (λ e. tabled _ _ _ _ e c.make_tables.ensures.0 refl c.make_tables.ensures.1 refl) (c.share_out.ensures (c.if-not-share_out.false)) c.pass.ensures, λ e. absurd (false≢true (sym e)))

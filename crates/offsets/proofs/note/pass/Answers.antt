@@ -16,7 +16,7 @@ pub note-requires : goal.note-requires
 note-requires c = rw c.records.invariant.size c.requires.0
 
 pub records-smaller : goal.records-smaller
-records-smaller c = let f = c.next_record-r.ensures.further (not-false _ c.if-not-r.false) in omega (arith, f.0, f.1)
+records-smaller c = let f = c.next_record-r.ensures.further (c.if-not-r.false) in omega (arith, f.0, f.1)
 
 pub records-preserved : goal.records-preserved
-records-preserved c = going_record _ _ _ _ _ _ _ _ c.requires.0 c.records.invariant c.next_record-r.ensures (not-false _ c.if-not-r.false) c.note.ensures
+records-preserved c = going_record _ _ _ _ _ _ _ _ c.requires.0 c.records.invariant c.next_record-r.ensures (c.if-not-r.false) c.note.ensures

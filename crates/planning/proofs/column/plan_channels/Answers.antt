@@ -8,17 +8,6 @@ use native.Mathlib.Omega.{arith}
 use borrow.Author.Rules.{rules}
 use Rattle.planning.proofs.column.plan_channels.Goals as goal
 
-abbrev invariant_loop : tie.invariant-loop
-invariant_loop image choices table source fragments₀ columns₀ n i g d records own master nc om nf k₀ columns-now₀ omissions-now₀ fragments-now₀
-    fragments columns k columns-now omissions-now fragments-now = (length columns ≡ length columns₀) × (length fragments ≡ length
-    fragments₀)
-    × Channels (rules choices table) image source n i g d records own master nc om nf columns₀ fragments₀ k columns-now omissions-now fragments-now
-    columns fragments
-
-abbrev decreases_loop : tie.decreases-loop
-decreases_loop image choices table source fragments₀ columns₀ n i g d records own master nc om nf k₀ columns-now₀ omissions-now₀ fragments-now₀
-    fragments columns k columns-now omissions-now fragments-now = n - k
-
 pub loop-k-init : goal.loop-k-init
 loop-k-init c = (refl, refl, channels_begin (omega arith) (omega arith))
 

@@ -4,12 +4,6 @@ use native.Mathlib.Omega.{arith}
 use borrow.Author.Rules.{rules}
 use Rattle.planning.proofs.data.ranges_of.Goals as goal
 
-part-ranges-in-start : tie.Need-slice-bounds-ranges-in-start
-part-ranges-in-start c = search rules
-
-part-ranges-in-end : tie.Need-slice-bounds-ranges-in-end
-part-ranges-in-end c = search rules
-
 pub returns-then-i-gt1024 : goal.returns-then-i-gt1024
 returns-then-i-gt1024 c = ranges_past _ _ _ _ (omega arith)
 

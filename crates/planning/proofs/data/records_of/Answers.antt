@@ -10,4 +10,4 @@ returns-then-own_groups-ne1 c = records_none _ _ _ _ _ _ _ _ (omega arith) c.own
 pub returns : goal.returns
 returns c = records_one _ _ _ _ _ _ _ _ (omega arith) c.own_groups.ensures
     c.if-own_groups-ne1.false c.first_group-g.ensures
-    c.end_of-all.ensures c.least-end.ensures.0 c.Sorted-of.ensures
+    c.end_of-all.ensures c.least-end.ensures.0 c.sorted_of.ensures

@@ -3,18 +3,6 @@ use Rattle.planning.specs.DataWordsLaws.{sorted_none, sorted_some}
 use borrow.Author.Rules.{rules}
 use Rattle.planning.proofs.data.sorted_of.Goals as goal
 
-part-sorted-in-start : tie.Need-slice-bounds-sorted-in-start
-part-sorted-in-start c = search rules
-
-part-sorted-in-end : tie.Need-slice-bounds-sorted-in-end
-part-sorted-in-end c = search rules
-
-part-sorted-in-start-2 : tie.Need-slice-bounds-sorted-in-start-2
-part-sorted-in-start-2 c = search rules
-
-part-sorted-in-end-2 : tie.Need-slice-bounds-sorted-in-end-2
-part-sorted-in-end-2 c = search rules
-
 pub returns-then-end-i : goal.returns-then-end-i
 returns-then-end-i c = sorted_none _ _ _ _ _ _ c.if-end-i.true c.sorted_in.ensures
 

@@ -8,15 +8,6 @@ use native.Mathlib.Omega.{arith}
 use borrow.Author.Rules.{rules}
 use Rattle.planning.proofs.planned.plan_noted.Goals as goal
 
-abbrev invariant_loop : tie.invariant-loop
-invariant_loop image choices table source before index stands fragments₀ columns₀ n nf i₀ g₀ d₀ columns-now₀ omissions-now₀ fragments-now₀
-    fragments columns i g d columns-now omissions-now fragments-now = (length columns ≡ length columns₀) × (length fragments ≡ length fragments₀)
-    × Groups (rules choices table) image source stands n nf columns₀ fragments₀ i g d columns-now omissions-now fragments-now columns fragments
-
-abbrev decreases_loop : tie.decreases-loop
-decreases_loop image choices table source before index stands fragments₀ columns₀ n nf i₀ g₀ d₀ columns-now₀ omissions-now₀ fragments-now₀
-    fragments columns i g d columns-now omissions-now fragments-now = n - i
-
 pub loop-i-init : goal.loop-i-init
 loop-i-init c = (refl, refl, groups_begin (omega arith))
 

@@ -5,12 +5,6 @@ use native.Mathlib.Omega.{arith}
 use borrow.Author.Rules.{rules}
 use Rattle.planning.proofs.recording.some_stands.Goals as goal
 
-part-result-start : tie.Need-slice-bounds-result-start
-part-result-start c = search rules
-
-part-result-end : tie.Need-slice-bounds-result-end
-part-result-end c = search rules
-
 pub returns-then-shared_groups-eq0 : goal.returns-then-shared_groups-eq0
 returns-then-shared_groups-eq0 c = alike_none _ _ c.shared_groups.ensures (omega arith) (omega arith)
 

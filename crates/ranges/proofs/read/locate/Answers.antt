@@ -16,4 +16,4 @@ pub returns-in-Refused : goal.returns-in-Refused
 returns-in-Refused c = locate_refused _ _ _ _ c.ask-asked.ensures c.in-Refused.is
 
 pub returns-else-w-eq0 : goal.returns-else-w-eq0
-returns-else-w-eq0 c = locate_some _ _ _ _ c.ask-asked.ensures c.in-Column.is c.record_bytes-w.ensures.is c.if-count-eq0.left c.if-w-eq0.left c.Within-block.ensures
+returns-else-w-eq0 c = locate_some _ _ _ _ c.ask-asked.ensures c.in-Column.is c.record_bytes-w.ensures.is c.if-count-eq0.left c.if-w-eq0.left c.within_block.ensures

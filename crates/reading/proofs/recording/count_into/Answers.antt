@@ -8,6 +8,4 @@ returns-in-Refused c = into_refused c.count_all-counted.ensures _ c.in-Refused.i
 
 pub returns : goal.returns
 returns c =
-    let e = c.before.before.before.before.before in
-    let p = e.before.before.before in
-    into_words p.count-all.ensures _ e.enum_told.given.1 (search rules) c.store.ensures
+    into_words c.count_all-counted.ensures _ c.in_default.is (search rules) c.store.ensures

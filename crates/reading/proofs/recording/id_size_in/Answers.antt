@@ -14,5 +14,4 @@ returns-then-size-eq8 c = id_eight _ _ c.id_size-size.ensures c.if-size-eq8.true
 
 pub returns : goal.returns
 returns c =
-    let i = c.before.before.before in
-    id_other _ _ i.id-size.ensures c.if-size-lt3.false c.if-size-eq4.false c.if-size-eq8.false
+    id_other _ _ c.id_size-size.ensures c.if-size-lt3.false c.if-size-eq4.false c.if-size-eq8.false

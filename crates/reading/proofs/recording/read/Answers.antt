@@ -17,14 +17,10 @@ returns-then-fragments-lt3072 c = lt_no _ _ _ _ (omega arith) (lt_yes _ _ _ _ (o
 
 pub returns-in-Refused : goal.returns-in-Refused
 returns-in-Refused c =
-    let p = c.before.before.before.before.before.before in
-    let a = p.before.before.before in
-    let r = a.before.before.before.before.before.before in
-    read_refused _ _ _ (omega arith) (omega arith) r.read_all.new.1.0 r.read_all.new.1.1.0 r.read_all.ensures
-    a.answer.given.1 (omega arith) (omega arith) p.clear.ensures c.clear-in-Refused.ensures
+    read_refused _ _ _ (omega arith) (omega arith) c.read_all-answer.new.fragments c.read_all-answer.new.1.1.0 c.read_all-answer.ensures
+    c.in-Refused.is (omega arith) (omega arith) c.clear.ensures c.clear-in-Refused.ensures
 
 pub returns : goal.returns
 returns c =
-    let r = c.before.before.before.before.before.before in
-    read_done _ _ _ (omega arith) (omega arith) r.read_all.new.1.0 r.read_all.new.1.1.0 r.read_all.ensures
+    read_done _ _ _ (omega arith) (omega arith) c.read_all-answer.new.fragments c.read_all-answer.new.1.1.0 c.read_all-answer.ensures
     c.in_default.is

@@ -8,5 +8,4 @@ use Rattle.reading.proofs.recording.walk_file.Goals as goal
 
 pub returns : goal.returns
 returns c =
-    let w = c.before in
-    without-pieces file_limits _ _ w.walk.new.1.1.0 [] w.walk.new.1.1.1.0 w.walk.result w.walk.ensures refl w.walk.auto.1.1.1.0
+    without-pieces file_limits _ _ c.walk.new.1.1.0 [] c.walk.new.1.1.1.0 c.walk.result c.walk.ensures refl c.walk.auto.1.1.1.0

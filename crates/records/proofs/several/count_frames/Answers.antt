@@ -47,7 +47,7 @@ records-preserved c = (
 )
 
 pub shape_of-counts-then-words-at : goal.shape_of-counts-then-words-at
-shape_of-counts-then-words-at c = omega (arith, c.records.invariant.0.same, c.clear.auto)
+shape_of-counts-then-words-at c = omega (arith, c.records.invariant.0.same, c.clear.auto.words)
 
 pub returns-then-words-at : goal.returns-then-words-at
 returns-then-words-at c =
@@ -55,7 +55,7 @@ returns-then-words-at c =
     c.records.left c.records.counts c.records.invariant.0 _ c.clear.ensures c.inside.ensures c.if-inside-eq0.true (omega arith)
 
 pub shape_of-counts-then-words-at-lt3 : goal.shape_of-counts-then-words-at-lt3
-shape_of-counts-then-words-at-lt3 c = omega (arith, c.records.invariant.0.same, c.clear.auto)
+shape_of-counts-then-words-at-lt3 c = omega (arith, c.records.invariant.0.same, c.clear.auto.words)
 
 pub returns-then-words-at-lt3 : goal.returns-then-words-at-lt3
 returns-then-words-at-lt3 c =
@@ -63,7 +63,7 @@ returns-then-words-at-lt3 c =
     c.records.left c.records.counts c.records.invariant.0 _ c.clear.ensures c.inside.ensures c.if-inside-eq0.true (omega arith)
 
 pub shape_of-counts-in-Broken : goal.shape_of-counts-in-Broken
-shape_of-counts-in-Broken c = omega (arith, c.records.invariant.0.same, c.clear.auto, c.clear-in-Broken.auto)
+shape_of-counts-in-Broken c = omega (arith, c.records.invariant.0.same, c.clear.auto.words, c.clear-in-Broken.auto.words)
 
 pub returns-in-Broken : goal.returns-in-Broken
 returns-in-Broken c =

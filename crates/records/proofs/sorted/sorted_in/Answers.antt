@@ -8,7 +8,7 @@ pub runs_whole-requires : goal.runs_whole-requires
 runs_whole-requires c = so_fine c.ranges_in-ranges.ensures c.in-Fine-ranges.is
 
 pub returns-in-Refused : goal.returns-in-Refused
-returns-in-Refused c = sorted_not _ _ _ _ (so_refused c.dv_fits-fits.ensures c.fits2.given.1)
+returns-in-Refused c = sorted_not _ _ _ _ (so_refused c.dv_fits-fits.ensures c.in-Refused.is)
 
 pub returns-in-Refused-ranges : goal.returns-in-Refused-ranges
 returns-in-Refused-ranges c =

@@ -15,8 +15,8 @@ loop-i-init c = (refl, refl, refl, refl)
 
 pub loop-i-preserved : goal.loop-i-preserved
 loop-i-preserved c = (
-  omega (arith, c.put.auto, c.loop-i.invariant.0),
-  omega (arith, c.put-in-loop-i.auto, c.loop-i.invariant.1),
+  omega (arith, c.put.auto.words, c.loop-i.invariant.0),
+  omega (arith, c.put-in-loop-i.auto.words, c.loop-i.invariant.1),
   each_turn _ _ _ _ c.loop-i.invariant.2 (omega arith) c.record_id.ensures c.put.ensures,
   each_turn _ _ _ _ c.loop-i.invariant.3 (omega arith) c.size_word.ensures c.put-in-loop-i.ensures,
 )

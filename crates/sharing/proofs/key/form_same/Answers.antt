@@ -16,4 +16,4 @@ pub returns-then-not-byte_same-4 : goal.returns-then-not-byte_same-4
 returns-then-not-byte_same-4 c = form_offset _ _ _ c.byte_same.ensures c.if-not-byte_same.false c.byte_same-2.ensures c.if-not-byte_same-2.false c.byte_same-3.ensures c.if-not-byte_same-3.false c.byte_same-4.ensures c.if-not-byte_same-4.true
 
 pub returns : goal.returns
-returns c = form_bits _ _ _ c.byte_same.ensures c.if-not-byte_same.false c.byte_same-2.ensures c.if-not-byte_same-2.false c.byte_same-3.ensures c.if-not-byte_same-3.false c.byte_same-4.ensures c.if-not-byte_same-4.false c.IsWord-same.ensures
+returns c = form_bits _ _ _ c.byte_same.ensures c.if-not-byte_same.false c.byte_same-2.ensures c.if-not-byte_same-2.false c.byte_same-3.ensures c.if-not-byte_same-3.false c.byte_same-4.ensures c.if-not-byte_same-4.false c.word_same.ensures

@@ -6,12 +6,6 @@ use native.Mathlib.Omega.{arith}
 use borrow.Author.Rules.{rules}
 use Rattle.steps.proofs.store.store.Goals as goal
 
-part-write-window-start : tie.Need-slice-bounds-write-window-start
-part-write-window-start c = search rules
-
-part-write-window-end : tie.Need-slice-bounds-write-window-end
-part-write-window-end c = search rules
-
 pub returns-then-k-eq0 : goal.returns-then-k-eq0
 returns-then-k-eq0 c = (λ h g l. (h.kept, first-stored h _ c.if-k-eq0.true c.zero.ensures), zeros_store _ c.zero.ensures)
 
@@ -20,12 +14,12 @@ overflow_sub-k c = omega (arith, c.if-k-eq0.false)
 
 pub returns : goal.returns
 returns c =
-    let s = c.Span-of.ensures in
-    let z = c.Span-of.result in
+    let s = c.span_of-s.ensures in
+    let z = c.span_of-s.result in
     let f = c.args.file.now in (
       λ h g l.
           let e = window_written h z.first (mid_of z.first (z.past - z.first) f) _ _ c.choices_of-chosen.ensures c.held_of-h.ensures c.write_window.ensures refl
           (window_fits h _ _ _ f s refl l) in
           (e.0, later-stored h f z _ c.if-k-eq0.false g l s e.1),
-      lent_store f _ _ z c.write_window.new.0 s c.write_window.auto.0,
+      lent_store f _ _ z c.write_window.new.w s c.write_window.auto.w,
     )

@@ -5,12 +5,6 @@ use Rattle.thin_blocks.specs.AnewLaws.{Moving, moving_begin, moving_end, moving_
 use borrow.Author.Rules.{rules}
 use Rattle.thin_blocks.proofs.anew.put_moved.Goals as goal
 
-part-put-anew-start : tie.Need-slice-bounds-put-anew-start invariant_loop decreases_loop
-part-put-anew-start c = search rules
-
-part-put-anew-end : tie.Need-slice-bounds-put-anew-end invariant_loop decreases_loop
-part-put-anew-end c = search rules
-
 pub loop-i-init : goal.loop-i-init
 loop-i-init c = moving_begin _ _ _ _
 

@@ -4,12 +4,6 @@ use Rattle.thinning.specs.DataLaws.{sd_long, wrote_sd}
 use borrow.Author.Rules.{rules}
 use Rattle.thinning.proofs.data.write_sd.Goals as goal
 
-part-put-anew-start : tie.Need-slice-bounds-put-anew-start
-part-put-anew-start c = search rules
-
-part-put-anew-end : tie.Need-slice-bounds-put-anew-end
-part-put-anew-end c = search rules
-
 pub overflow_add-result-2 : goal.overflow_add-result-2
 overflow_add-result-2 c = let e = sd_long _ _ _ c.put_anew-n.ensures.here in omega arith
 

@@ -3,12 +3,6 @@ use Rattle.thinning.specs.FrontLaws.{wrote_front}
 use borrow.Author.Rules.{rules}
 use Rattle.thinning.proofs.front.write_front.Goals as goal
 
-part-put-hd-start : tie.Need-slice-bounds-put-hd-start
-part-put-hd-start c = search rules
-
-part-put-hd-end : tie.Need-slice-bounds-put-hd-end
-part-put-hd-end c = search rules
-
 pub returns : goal.returns
 returns c = wrote_front _ _ _ _ _ c.requires.0 _ _ _
     c.copy.ensures c.put_hd.ensures

@@ -5,12 +5,6 @@ use Rattle.puts.specs.PutLaws.{blit-past, lent_is}
 use borrow.Author.Rules.{rules}
 use Rattle.thinning.proofs.structure.put_cg.Goals as goal
 
-part-fill-cg-start : tie.Need-slice-bounds-fill-cg-start
-part-fill-cg-start c = search rules
-
-part-fill-cg-end : tie.Need-slice-bounds-fill-cg-end
-part-fill-cg-end c = search rules
-
 pub returns-then-out-to : goal.returns-then-out-to
 returns-then-out-to c = sym (blit-past _ _ _ (omega arith))
 

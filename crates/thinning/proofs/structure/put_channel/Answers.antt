@@ -5,12 +5,6 @@ use Rattle.puts.specs.PutLaws.{blit-past, lent_is}
 use borrow.Author.Rules.{rules}
 use Rattle.thinning.proofs.structure.put_channel.Goals as goal
 
-part-fill-cn-start : tie.Need-slice-bounds-fill-cn-start
-part-fill-cn-start c = search rules
-
-part-fill-cn-end : tie.Need-slice-bounds-fill-cn-end
-part-fill-cn-end c = search rules
-
 pub returns-then-out-to : goal.returns-then-out-to
 returns-then-out-to c = sym (blit-past _ _ _ (omega arith))
 

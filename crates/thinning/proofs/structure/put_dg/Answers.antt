@@ -5,12 +5,6 @@ use Rattle.puts.specs.PutLaws.{blit-past, lent_is}
 use borrow.Author.Rules.{rules}
 use Rattle.thinning.proofs.structure.put_dg.Goals as goal
 
-part-fill-dg-start : tie.Need-slice-bounds-fill-dg-start
-part-fill-dg-start c = search rules
-
-part-fill-dg-end : tie.Need-slice-bounds-fill-dg-end
-part-fill-dg-end c = search rules
-
 pub returns-then-out-to : goal.returns-then-out-to
 returns-then-out-to c = sym (blit-past _ _ _ (omega arith))
 

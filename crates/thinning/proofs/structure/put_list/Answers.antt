@@ -6,12 +6,6 @@ use Rattle.thinning.specs.StructureLaws.{no_list, one_list}
 use borrow.Author.Rules.{rules}
 use Rattle.thinning.proofs.structure.put_list.Goals as goal
 
-part-put-dl-start : tie.Need-slice-bounds-put-dl-start
-part-put-dl-start c = search rules
-
-part-put-dl-end : tie.Need-slice-bounds-put-dl-end
-part-put-dl-end c = search rules
-
 pub returns-then-n-eq0 : goal.returns-then-n-eq0
 returns-then-n-eq0 c = no_list _ _ c.if-n-eq0.true
 

@@ -13,11 +13,11 @@ pub returns-then-h-eq0 : goal.returns-then-h-eq0
 returns-then-h-eq0 c = answer_no (λ l. omega (arith, l.wide, c.if-h-eq0.true))
 
 pub returns-then-not-product_within : goal.returns-then-not-product_within
-returns-then-not-product_within c = answer_no (λ l. false≢true (sym (not-true _ c.if-not-product_within.true) ∙ c.product_within.ensures.1 (omega (arith, l.place))))
+returns-then-not-product_within c = answer_no (λ l. false≢true (sym (c.if-not-product_within.true) ∙ c.product_within.ensures.1 (omega (arith, l.place))))
 
 pub returns : goal.returns
 returns c =
-    let p = c.product_within.ensures.0 (not-false _ c.if-not-product_within.false) in
+    let p = c.product_within.ensures.0 (c.if-not-product_within.false) in
     let q = c.product_within-2.ensures in (
       λ e. record {
         some = omega (arith, c.if-r-eq0.false);

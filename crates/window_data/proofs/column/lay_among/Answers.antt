@@ -20,10 +20,10 @@ pub lay_offsets-further-requires : goal.lay_offsets-further-requires
 lay_offsets-further-requires c = let p = c.requires in (p.0, p.1, p.2, c.lay_pool-done.ensures.1)
 
 pub shape_of-pool-then-further-f : goal.shape_of-pool-then-further-f
-shape_of-pool-then-further-f c = omega (arith, c.keep_stretches.auto)
+shape_of-pool-then-further-f c = omega (arith, c.keep_stretches.auto.pool)
 
 pub shape_of-words-then-further-f : goal.shape_of-words-then-further-f
-shape_of-words-then-further-f c = omega (arith, c.prepare_offsets-o.auto)
+shape_of-words-then-further-f c = omega (arith, c.prepare_offsets-o.auto.words)
 
 pub returns-then-further-f : goal.returns-then-further-f
 returns-then-further-f c =
@@ -35,13 +35,13 @@ pub lay_several-requires : goal.lay_several-requires
 lay_several-requires c = let p = c.requires in (p.0, p.1, p.2, c.lay_offsets-further.ensures.1, p.3)
 
 pub shape_of-w : goal.shape_of-w
-shape_of-w c = omega (arith, c.lay_several.auto, c.lay_offsets-further.auto, c.lay_pool-done.auto)
+shape_of-w c = omega (arith, c.lay_several.auto.w, c.lay_offsets-further.auto.w, c.lay_pool-done.auto.w)
 
 pub shape_of-pool : goal.shape_of-pool
-shape_of-pool c = omega (arith, c.keep_stretches.auto)
+shape_of-pool c = omega (arith, c.keep_stretches.auto.pool)
 
 pub shape_of-words : goal.shape_of-words
-shape_of-words c = omega (arith, c.prepare_offsets-o.auto)
+shape_of-words c = omega (arith, c.prepare_offsets-o.auto.words)
 
 pub returns : goal.returns
 returns c =

@@ -20,8 +20,8 @@ pub lay_records-requires : goal.lay_records-requires
 lay_records-requires c =
     let o = (c.form_of-f.ensures (is_fit _ c.fits_in.ensures c.if-not-fits_in.false)) in
     let t = c.total_of-total.ensures in
-    let k = not-false _ c.if-not-total.false in
-    let r = c.has_room.ensures.yes (not-false _ c.if-not-has_room.false) in
+    let k = c.if-not-total.false in
+    let r = c.has_room.ensures.yes (c.if-not-has_room.false) in
     (form_readable o c.if-f-eq0.false c.args.fragments.now t k, form_formed o c.if-f-eq0.false r, (t.yes k).1)
 
 pub returns : goal.returns

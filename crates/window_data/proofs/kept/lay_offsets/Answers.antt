@@ -47,7 +47,7 @@ loop-at-preserved c =
     let n : b.first + b.count ≤ length b.words.now = omega (arith, c.if-all-count.false, c.if-all-count-2.false) in (
       omega (arith, v.0),
       omega (arith, c.loop-at-test.true, c.least-n.ensures),
-      omega (arith, v.2, c.lay_piece.auto),
+      omega (arith, v.2, c.lay_piece.auto.w),
       listed_turn b.a b.image.now b.fragments.now b.f b.words.now b.first b.count b.r c.loop-at.at b.w.now c.loop-at.w c.requires.0.shaped n (omega (arith, c.loop-at-test.true, c.least-n.ensures)) v.3 c.lay_piece.ensures,
     )
 

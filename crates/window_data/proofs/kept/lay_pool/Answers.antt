@@ -52,7 +52,7 @@ loop-at-preserved c =
     let b = c.args in
     let v = c.loop-at.invariant in
     let u = if_usable _ c.usable.ensures c.if-not-usable.false in
-    (omega (arith, v.0, c.if-next-at.false), u.few, omega (arith, v.2, c.lay_rest.auto), pool_turn b.a b.image.now b.d b.g b.fragments.now b.f b.pool.now b.r c.loop-at.at b.w.now c.loop-at.w c.find-e.result c.requires.0.shaped v.3 c.find-e.ensures u.lying.some (omega arith) (omega arith) c.lay_rest.ensures)
+    (omega (arith, v.0, c.if-next-at.false), u.few, omega (arith, v.2, c.lay_rest.auto.w), pool_turn b.a b.image.now b.d b.g b.fragments.now b.f b.pool.now b.r c.loop-at.at b.w.now c.loop-at.w c.find-e.result c.requires.0.shaped v.3 c.find-e.ensures u.lying.some (omega arith) (omega arith) c.lay_rest.ensures)
 
 pub returns : goal.returns
 returns c = let v = c.loop-at.invariant in (v.0, v.1, v.3)

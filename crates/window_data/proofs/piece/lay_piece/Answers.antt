@@ -95,4 +95,4 @@ loop-f-preserved c =
     let b = c.lay_start-body.ensures in
     let n = piece_numbers v p.2 p.1 q b.0 in
     let y = piece_block _ _ _ _ p.1 _ _ _ _ q.some q.block (omega (arith, piecing_few v p.2, q.within)) b.0 b.1 (c.lay_stretch.ensures n.0 n.1 p.0 n.2) in
-    piecing_turn v p.2 c.least-c.result (omega (arith, q.within)) y (omega (arith, q.within)) (omega (arith, c.lay_start-body.auto, c.lay_stretch.auto))
+    piecing_turn v p.2 c.least-c.result (omega (arith, q.within)) y (omega (arith, q.within)) (omega (arith, c.lay_start-body.auto.w, c.lay_stretch.auto.w))

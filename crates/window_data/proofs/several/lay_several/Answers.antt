@@ -56,7 +56,7 @@ loop-at-preserved c =
     let p = c.requires in
     let v = c.loop-at.invariant in
     let u = if_usable _ c.usable.ensures c.if-not-usable.false in
-    (filling_turn v.0 p.0 (λ y z. c.several_next-next.ensures _ v.2 p.4 (v.1 y) y z) u (omega (arith, c.lay_rest.auto)) c.lay_rest.ensures refl, v.1, v.2)
+    (filling_turn v.0 p.0 (λ y z. c.several_next-next.ensures _ v.2 p.4 (v.1 y) y z) u (omega (arith, c.lay_rest.auto.w)) c.lay_rest.ensures refl, v.1, v.2)
 
 pub returns : goal.returns
 returns c = filling_end c.loop-at.invariant.0 (omega arith) c.requires.3

@@ -39,7 +39,7 @@ pub loop-at-preserved : goal.loop-at-preserved
 loop-at-preserved c =
     let p = c.requires in
     let u = if_usable _ c.usable.ensures c.if-not-usable.false in
-    filling_turn c.loop-at.invariant p.0 c.sorted_next-next.ensures u (omega (arith, c.lay_rest.auto)) c.lay_rest.ensures refl
+    filling_turn c.loop-at.invariant p.0 c.sorted_next-next.ensures u (omega (arith, c.lay_rest.auto.w)) c.lay_rest.ensures refl
 
 pub returns : goal.returns
 returns c =

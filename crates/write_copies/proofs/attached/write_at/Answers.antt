@@ -7,12 +7,6 @@ use native.Mathlib.Omega.{arith}
 use borrow.Author.Rules.{rules}
 use Rattle.write_copies.proofs.attached.write_at.Goals as goal
 
-part-put-at-start : tie.Need-slice-bounds-put-at-start
-part-put-at-start c = search rules
-
-part-put-at-end : tie.Need-slice-bounds-put-at-end
-part-put-at-end c = search rules
-
 pub returns-then-place-at : goal.returns-then-place-at
 returns-then-place-at c = λ h m e x. absurd (omega arith)
 

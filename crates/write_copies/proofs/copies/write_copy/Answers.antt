@@ -7,12 +7,6 @@ use native.Mathlib.Omega.{arith}
 use borrow.Author.Rules.{rules}
 use Rattle.write_copies.proofs.copies.write_copy.Goals as goal
 
-part-put-copied-start : tie.Need-slice-bounds-put-copied-start
-part-put-copied-start c = search rules
-
-part-put-copied-end : tie.Need-slice-bounds-put-copied-end
-part-put-copied-end c = search rules
-
 pub returns-then-place-at : goal.returns-then-place-at
 returns-then-place-at c = λ h m e x y. absurd (omega arith)
 

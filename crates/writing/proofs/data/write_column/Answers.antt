@@ -4,12 +4,6 @@ use Rattle.writing.specs.DataLaws.{entry-none, entry-room, bytes-room, entry_wro
 use Rattle.std.proofs.Common.{arith, length-drop, length-take, rules}
 use Rattle.writing.proofs.data.write_column.Goals as goal
 
-part-put-blocks-start : tie.Need-slice-bounds-put-blocks-start
-part-put-blocks-start c = let h = entry-room _ _ _ c.before.before.before.before.before.before.before.before.before.before.before.before.before.before.requires.1 c.before.before.before.before.before.before.before.before.before.before.before.before.before.before.requires.2 c.before.before.before.before.before.before.before.width_of.ensures.is c.before.before.before.before.before.before.block-count.ensures c.before.before.before.before.before.if1.false in omega arith
-
-part-put-blocks-end : tie.Need-slice-bounds-put-blocks-end
-part-put-blocks-end c = search rules
-
 pub returns-then-count-eq0 : goal.returns-then-count-eq0
 returns-then-count-eq0 c = (c.requires.3, entry-none _ _ _ c.requires.1 c.requires.2 c.width_of-w.ensures.is c.block_count-count.ensures c.if-count-eq0.true _)
 
@@ -27,6 +21,9 @@ overflow_add-past-2 c = let h = entry-room _ _ _ c.requires.1 c.requires.2 c.wid
 
 pub slice_bounds-put_blocks-count : goal.slice_bounds-put_blocks-count
 slice_bounds-put_blocks-count c = let h = entry-room _ _ _ c.requires.1 c.requires.2 c.width_of-w.ensures.is c.block_count-count.ensures c.if-count-eq0.false in omega arith
+
+pub slice_bounds-put_blocks-start : goal.slice_bounds-put_blocks-start
+slice_bounds-put_blocks-start c = let h = entry-room _ _ _ c.requires.1 c.requires.2 c.width_of-w.ensures.is c.block_count-count.ensures c.if-count-eq0.false in omega arith
 
 pub put_blocks-requires : goal.put_blocks-requires
 put_blocks-requires c = let h = bytes-room _ _ _ c.requires.1 c.requires.2 c.width_of-w.ensures.is c.block_count-count.ensures c.if-count-eq0.false in (c.requires.0, c.requires.1, simp (length-take, length-drop) (omega (arith, h)), c.requires.3, c.requires.4)

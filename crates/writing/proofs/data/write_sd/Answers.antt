@@ -4,12 +4,6 @@ use Rattle.writing.specs.DataLaws.{sd_room, sd_wrote}
 use Rattle.std.proofs.Common.{arith, rules}
 use Rattle.writing.proofs.data.write_sd.Goals as goal
 
-part-write-signal-start : tie.Need-slice-bounds-write-signal-start
-part-write-signal-start c = search rules
-
-part-write-signal-end : tie.Need-slice-bounds-write-signal-end
-part-write-signal-end c = search rules
-
 pub overflow_add-result : goal.overflow_add-result
 overflow_add-result c = let r = sd_room
     c.args.image.now

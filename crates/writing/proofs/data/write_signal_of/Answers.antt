@@ -5,13 +5,6 @@ use Rattle.writing.specs.DataLaws.{signal_none, signal_room, signal_wrote}
 use Rattle.std.proofs.Common.{arith, rules}
 use Rattle.writing.proofs.data.write_signal_of.Goals as goal
 
-part-write-sd-start : tie.Need-slice-bounds-write-sd-start
-part-write-sd-start c = search rules
-
-part-write-sd-end : tie.Need-slice-bounds-write-sd-end
-part-write-sd-end c = let h = c.before.before.before.before.before.before.before.before.requires.0
-    c.before.before.before.if1.false in omega arith
-
 pub returns-then-e-eq0 : goal.returns-then-e-eq0
 returns-then-e-eq0 c = signal_none _ _ _ c.if-e-eq0.true _ _
 
@@ -26,6 +19,10 @@ overflow_add-b c = let h = c.requires.0 c.if-e-eq0.false in omega arith
 
 pub offset_bounds-fragments-a : goal.offset_bounds-fragments-a
 offset_bounds-fragments-a c = let h = c.requires.0
+    c.if-e-eq0.false in omega arith
+
+pub slice_bounds-write_sd-end : goal.slice_bounds-write_sd-end
+slice_bounds-write_sd-end c = let h = c.requires.0
     c.if-e-eq0.false in omega arith
 
 pub write_sd-requires : goal.write_sd-requires

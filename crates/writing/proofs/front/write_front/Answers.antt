@@ -3,12 +3,6 @@ use Rattle.std.proofs.Common.{refl, rules}
 use Rattle.writing.specs.FrontLaws.{wrote_front}
 use Rattle.writing.proofs.front.write_front.Goals as goal
 
-part-put-hd-start : tie.Need-slice-bounds-put-hd-start
-part-put-hd-start c = search rules
-
-part-put-hd-end : tie.Need-slice-bounds-put-hd-end
-part-put-hd-end c = search rules
-
 pub returns : goal.returns
 returns c = (
   refl,

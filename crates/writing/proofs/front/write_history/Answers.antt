@@ -24,7 +24,7 @@ write_fh-requires c =
         past_md _ _
             c.write_md-a.ensures,
       ),
-      omega (arith, r.ends, c.write_md-a.auto),
+      omega (arith, r.ends, c.write_md-a.auto.out),
     )
 
 pub returns : goal.returns

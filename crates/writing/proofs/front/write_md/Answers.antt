@@ -3,12 +3,6 @@ use Rattle.writing.specs.FrontLaws.{md_size_lem, wrote_md}
 use Rattle.std.proofs.Common.{length, arith, rules}
 use Rattle.writing.proofs.front.write_md.Goals as goal
 
-part-put-md-start : tie.Need-slice-bounds-put-md-start
-part-put-md-start c = search rules
-
-part-put-md-end : tie.Need-slice-bounds-put-md-end
-part-put-md-end c = search rules
-
 pub overflow_add-result-2 : goal.overflow_add-result-2
 overflow_add-result-2 c =
     omega (

@@ -7,7 +7,7 @@ pub fill_front-requires : goal.fill_front-requires
 fill_front-requires c = (c.requires.0, c.requires.1)
 
 pub fill_data-requires : goal.fill_data-requires
-fill_data-requires c = (c.requires.1, omega (arith, c.fill_front.auto, c.put_photos.auto, c.requires.2))
+fill_data-requires c = (c.requires.1, omega (arith, c.fill_front.auto.d, c.put_photos.auto.d, c.requires.2))
 
 pub returns : goal.returns
 returns c = filled-cn _ _ _ _ _ _ _ _ c.fill_front.ensures (c.put_photos.ensures c.requires.1 c.requires.3 c.requires.4) c.fill_data.ensures

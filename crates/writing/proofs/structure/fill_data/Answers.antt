@@ -3,11 +3,5 @@ use Rattle.writing.specs.StructureLaws.{filled_data}
 use Rattle.std.proofs.Common.{rules}
 use Rattle.writing.proofs.structure.fill_data.Goals as goal
 
-part-put-cn-data-start : tie.Need-slice-bounds-put-cn-data-start
-part-put-cn-data-start c = search rules
-
-part-put-cn-data-end : tie.Need-slice-bounds-put-cn-data-end
-part-put-cn-data-end c = search rules
-
 pub returns : goal.returns
 returns c = filled_data _ c.args.h _ _ _ c.put_cn_data.ensures c.keeps_inval-keeps.ensures

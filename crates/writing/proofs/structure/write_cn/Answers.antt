@@ -3,12 +3,6 @@ use Rattle.std.proofs.Common.{arith, rules}
 use Rattle.writing.specs.StructureLaws.{wrote_cn}
 use Rattle.writing.proofs.structure.write_cn.Goals as goal
 
-part-fill-cn-start : tie.Need-slice-bounds-fill-cn-start
-part-fill-cn-start c = search rules
-
-part-fill-cn-end : tie.Need-slice-bounds-fill-cn-end
-part-fill-cn-end c = search rules
-
 pub fill_cn-requires : goal.fill_cn-requires
 fill_cn-requires c = (c.requires.3, c.requires.4, search rules, c.requires.5, c.requires.6)
 

@@ -10,7 +10,7 @@ pub write_cg-b-requires : goal.write_cg-b-requires
 write_cg-b-requires c = (
   omega (arith, past_one _ 64 c.write_dg-a.ensures (length-column_dg _ _ _ _)),
   c.requires.0.cn,
-  omega (arith, c.requires.0.ends, c.write_dg-a.auto),
+  omega (arith, c.requires.0.ends, c.write_dg-a.auto.out),
   c.requires.0.group,
   c.requires.1,
 )
@@ -18,7 +18,7 @@ write_cg-b-requires c = (
 pub write_cn-c-requires : goal.write_cn-c-requires
 write_cn-c-requires c = (
   omega (arith, c.requires.0.cn, past_one _ _ c.write_cg-b.ensures (length-column_cg _ _ _ c.requires.0.group)),
-  omega (arith, c.requires.0.ends, c.write_dg-a.auto, c.write_cg-b.auto),
+  omega (arith, c.requires.0.ends, c.write_dg-a.auto.out, c.write_cg-b.auto.out),
   c.requires.0.channel,
   c.requires.1,
   c.requires.2,
@@ -29,7 +29,7 @@ write_cn-c-requires c = (
 pub write_dl-requires : goal.write_dl-requires
 write_dl-requires c = (
   omega (arith, past_one _ _ c.write_cn-c.ensures (length-column_cn _ _ _ _ c.requires.0.channel)),
-  omega (arith, c.requires.0.ends, c.write_dg-a.auto, c.write_cg-b.auto, c.write_cn-c.auto),
+  omega (arith, c.requires.0.ends, c.write_dg-a.auto.out, c.write_cg-b.auto.out, c.write_cn-c.auto.out),
 )
 
 pub returns : goal.returns

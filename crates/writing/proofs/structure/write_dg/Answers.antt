@@ -3,12 +3,6 @@ use Rattle.std.proofs.Common.{arith, rules}
 use Rattle.writing.specs.StructureLaws.{wrote_dg}
 use Rattle.writing.proofs.structure.write_dg.Goals as goal
 
-part-fill-dg-start : tie.Need-slice-bounds-fill-dg-start
-part-fill-dg-start c = search rules
-
-part-fill-dg-end : tie.Need-slice-bounds-fill-dg-end
-part-fill-dg-end c = search rules
-
 pub fill_dg-requires : goal.fill_dg-requires
 fill_dg-requires c = (omega arith, omega arith, c.requires.3)
 

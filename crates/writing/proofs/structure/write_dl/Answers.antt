@@ -3,12 +3,6 @@ use Rattle.std.proofs.Common.{arith, rules}
 use Rattle.writing.specs.StructureLaws.{dl-some, wrote_dl, wrote_no_dl}
 use Rattle.writing.proofs.structure.write_dl.Goals as goal
 
-part-put-dl-start : tie.Need-slice-bounds-put-dl-start
-part-put-dl-start c = search rules
-
-part-put-dl-end : tie.Need-slice-bounds-put-dl-end
-part-put-dl-end c = search rules
-
 pub returns-then-n-eq0 : goal.returns-then-n-eq0
 returns-then-n-eq0 c = wrote_no_dl _ _ _ (omega arith)
 

@@ -21,7 +21,7 @@ pub overflow_add-k : goal.overflow_add-k
 overflow_add-k c = omega (arith, c.requires.0.few, c.loop-k-test.true)
 
 pub loop-k-preserved : goal.loop-k-preserved
-loop-k-preserved c = structures_turn c.loop-k.invariant c.loop-k-test.true c.column_of-h.ensures.0 c.next_place-next.ensures c.write_column-to.ensures (omega (arith, c.write_column-to.auto))
+loop-k-preserved c = structures_turn c.loop-k.invariant c.loop-k-test.true c.column_of-h.ensures.0 c.next_place-next.ensures c.write_column-to.ensures (omega (arith, c.write_column-to.auto.out))
 
 pub returns : goal.returns
 returns c = structures_end_lem c.loop-k.invariant (omega arith)
