@@ -1,5 +1,5 @@
 -- Laws of blocks in the order of their addresses.
-use Rattle.std.specs.Prelude.{ℕ, ◌≤◌, List, [], ◌∷◌, ◌++◌}
+use Rattle.std.specs.Prelude.{◌+◌, ℕ, ◌≤◌, List, [], ◌∷◌, ◌++◌}
 use Rattle.std.proofs.Common.{arith}
 use Rattle.result.specs.Fill.{Block}
 use Rattle.result.specs.Ordered.{Ordered}
@@ -15,4 +15,4 @@ pub ordered-append : (a b e : ℕ) (xs ys : List Block) → Ordered a xs b → O
 unfolding Ordered
 ordered-append a b e [] [] o p = omega arith
 ordered-append a b e [] (y ∷ ys) o p = (omega (arith, p.0), p.1)
-ordered-append a b e (x ∷ xs) ys o p = (o.0, ordered-append (block_end x) b e xs ys o.1 p)
+ordered-append a b e (x ∷ xs) ys o p = (o.0, ordered-append (x.at + length x.bytes) b e xs ys o.1 p)

@@ -224,6 +224,7 @@ none_here s g m h hs n e = go (master_of s h) refl
     go (some c) w = at_master c w (is_equal s g m h c) refl
 
 pub none_first : (s : List ℕ) (g : SrcGroup) (m : ℕ) (hs : List SrcGroup) → ((h : SrcGroup) → In h hs → h.at ≡ 0 → ⊥) → first_equal s g m hs ≡ 0 → NoneEqual s g m hs
+none_first s g m [] n e f x = elim x [ ]
 none_first s g m (h ∷ hs) n e f here = (none_here s g m h hs (n h here) e).0
 none_first s g m (h ∷ hs) n e f (there i) = none_first s g m hs (λ a j. n a (there j)) (none_here s g m h hs (n h here) e).1 f i
 

@@ -16,7 +16,7 @@ loop-rest-init c =
 
 pub loop-rest-preserved : goal.loop-rest-preserved
 loop-rest-preserved c =
-    let n = c.step-r.auto.source in (
+    let n = c.step-r.auto.k in (
       going_turn c.loop-rest.invariant.0 c.loop-rest-test.true c.step-r.ensures.1 (record {
         whole = n.1.1.1.1.1.1.1.1.1.1.1.0;
         listed = n.1.1.1.1.1.1.1.1.1.1.1.1.0;

@@ -23,7 +23,7 @@ returns-in-Refused c = cleared _ _ _ _ _ _ (work_fine _ _ _ _ c.if-source-lt8192
     (rest_refused _ _ _ _ _ _ _ _ _ _ _ c.arrange_rest-found.ensures c.in-Refused.is)
     (all-zero c.args.source.now c.args.fragments.now c.args.columns.now c.args.memo.now
     c.arrange_rest-found.new.1.1.1.1.0 c.arrange_rest-found.new.1.1.1.1.1.0 c.arrange_rest-found.new.1.1.1.1.1.1.0 _ _ _ _
-    c.arrange_rest-found.auto.1.1.1.1.0 c.arrange_rest-found.auto.1.1.1.1.1.0 c.arrange_rest-found.auto.1.1.1.1.1.1.0
+    c.arrange_rest-found.auto.fragments c.arrange_rest-found.auto.columns c.arrange_rest-found.auto.memo
     c.clear.ensures c.clear-in-Refused.ensures c.clear-in-Refused-2.ensures c.clear-in-Refused-3.ensures)
 
 pub returns : goal.returns

@@ -14,10 +14,10 @@ pub place_columns-past-requires : goal.place_columns-past-requires
 place_columns-past-requires c = let e = ends_at _ _ c.structure_end-ends.ensures c.in-At.is in (c.requires.0, c.requires.1, e.1, c.requires.3, omega (arith, e.0, e.1))
 
 pub attach_over-requires-in-Over-past : goal.attach_over-requires-in-Over-past
-attach_over-requires-in-Over-past c = (omega (arith, c.place_columns-past.auto.1.1.1.1.0, c.requires.1), c.requires.4, c.requires.2)
+attach_over-requires-in-Over-past c = (omega (arith, c.place_columns-past.auto.memo, c.requires.1), c.requires.4, c.requires.2)
 
 pub attach_all-requires : goal.attach_all-requires
-attach_all-requires c = (record { words = omega (arith, c.place_columns-past.auto.1.1.1.1.0, c.requires.1); limit = omega arith; few = c.requires.4; near = (placed-at _ _ _ _ _ _ _ _ _ c.place_columns-past.ensures c.in-At-past.is).near }, c.requires.2)
+attach_all-requires c = (record { words = omega (arith, c.place_columns-past.auto.memo, c.requires.1); limit = omega arith; few = c.requires.4; near = (placed-at _ _ _ _ _ _ _ _ _ c.place_columns-past.ensures c.in-At-past.is).near }, c.requires.2)
 
 pub returns-in-Over : goal.returns-in-Over
 returns-in-Over c = rest_over c.args.unit c.args.image.now c.args.columns.now c.args.n c.args.out c.args.memo.now c.args.state (c.aligned-a.ensures (omega (arith, c.requires.5))) c.attach_over.new.1.0 c.attach_over.result c.requires.3 c.attach_over.ensures (ends-over _ _ c.structure_end-ends.ensures c.in-Over.is)

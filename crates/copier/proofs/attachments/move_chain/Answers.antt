@@ -54,7 +54,7 @@ attach-st-requires c =
       f.few,
       omega (
         arith,
-        c.follow-got.auto.index,
+        c.follow-got.auto.memo,
         c.loop-turns.invariant.0.words,
       ),
       (at_own c.before.before.before.before).room,
@@ -96,7 +96,7 @@ loop-turns-preserved c = (
       c.follow-got.ensures.0
       c.follow-got.ensures.1.0
       c.in-At.is
-      c.follow-got.auto.index
+      c.follow-got.auto.memo
       c.size_at-size.ensures
       c.attach-st.ensures.0 c.attach-st.ensures.1 c.first_link-at.ensures,
   indexed_attached _ _ _ c.in-At.t c.attach-st.ensures.0 c.attach-st.ensures.1 (let k = at_own c.before.before.before.before.before.before.before.before in omega arith) (indexed_at c.follow-got.ensures.1.1 c.in-At.is),

@@ -34,7 +34,7 @@ loop-left-preserved c = (
       c.word-cn.ensures
       c.column_roots-got.ensures.0
       c.column_roots-got.ensures.1.0 c.in-At.is
-      c.column_roots-got.auto.index,
+      c.column_roots-got.auto.memo,
   indexed_at c.column_roots-got.ensures.1.1 c.in-At.is,
 )
 

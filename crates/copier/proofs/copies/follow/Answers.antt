@@ -28,10 +28,10 @@ loop-links-preserved c = (
   held_next c.loop-links.invariant.1
       c.copy_root-got.ensures.0
       c.copy_root-got.ensures.1.0 c.in-At.is
-      c.copy_root-got.auto.index,
+      c.copy_root-got.auto.memo,
   omega (
     arith,
-    c.copy_root-got.auto.index,
+    c.copy_root-got.auto.memo,
     c.loop-links.invariant.2,
   ),
   follow_next _ _ _ _ _ _ c.loop-links.invariant.3

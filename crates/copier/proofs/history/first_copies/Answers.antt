@@ -14,7 +14,7 @@ copy_root-got-requires c =
 pub history_chain-requires : goal.history_chain-requires
 history_chain-requires c =
     let r = c.is_ready.ensures.0 c.if-is_ready.true in (
-      omega (arith, r.words, c.copy_root-got.auto.index),
+      omega (arith, r.words, c.copy_root-got.auto.memo),
       r.limit,
       (after-at c.copy_root-got.ensures.1.0 c.in-At.is).room,
       indexed_at c.copy_root-got.ensures.1.1 c.in-At.is,

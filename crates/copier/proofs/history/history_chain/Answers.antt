@@ -44,11 +44,11 @@ loop-turns-preserved c = (
       c.in-Links.is)
       c.copy_root-got.ensures.0
       c.copy_root-got.ensures.1.0 c.in-At.is
-      c.copy_root-got.auto.index c.first_link-at.ensures,
+      c.copy_root-got.auto.memo c.first_link-at.ensures,
   indexed_set _ _ _ _ _ (let u = c.loop-turns.invariant.0 in let k = after-at c.copy_root-got.ensures.1.0 c.in-At.is in omega arith)
       (indexed_at c.copy_root-got.ensures.1.1 c.in-At.is),
   copied_next c.loop-turns.invariant.0 c.loop-turns-test.true c.loop-turns.invariant.2 (so_begun c.goes_on-begun.ensures c.in-Links.is)
-      c.copy_root-got.ensures.0 c.copy_root-got.ensures.1.0 c.in-At.is c.copy_root-got.auto.index,
+      c.copy_root-got.ensures.0 c.copy_root-got.ensures.1.0 c.in-At.is c.copy_root-got.auto.memo,
 )
 
 pub returns : goal.returns

@@ -35,10 +35,10 @@ loop-i-preserved c =
       held_next c.loop-i.invariant.1
           c.copy_root-got.ensures.0
           c.copy_root-got.ensures.1.0 c.in-At.is
-          c.copy_root-got.auto.index,
+          c.copy_root-got.auto.memo,
       omega (
         arith,
-        c.copy_root-got.auto.index,
+        c.copy_root-got.auto.memo,
         c.loop-i.invariant.2,
       ),
       roots-next _ _ (roots a.image.now a.dg a.cg a.cn)

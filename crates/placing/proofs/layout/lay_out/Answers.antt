@@ -36,7 +36,7 @@ place_rest-rest-requires c =
     let z = first_near_lem o i _ c.md_bytes.ensures
     h.3 in
     let r = columns_ready o
-    c.first_copies-begun.auto.1.0
+    c.first_copies-begun.auto.memo
     h.1 z in
     let y = after-at (c.copy_columns-got.ensures.1 r h.0)
     c.in-At-got.is in (
@@ -44,8 +44,8 @@ place_rest-rest-requires c =
       omega (
         arith,
         h.1,
-        c.first_copies-begun.auto.1.0,
-        c.copy_columns-got.auto.1.1.1.0,
+        c.first_copies-begun.auto.memo,
+        c.copy_columns-got.auto.memo,
       ),
       h.2,
       omega (arith, y.most),
@@ -59,9 +59,9 @@ pub shape_of-memo-in-At-rest : goal.shape_of-memo-in-At-rest
 shape_of-memo-in-At-rest c =
     omega (
       arith,
-      c.first_copies-begun.auto.1.0,
-      c.copy_columns-got.auto.1.1.1.0,
-      c.place_rest-rest.auto.1.1.1.1.1.1.1.0,
+      c.first_copies-begun.auto.memo,
+      c.copy_columns-got.auto.memo,
+      c.place_rest-rest.auto.memo,
     )
 
 pub returns-in-At-rest : goal.returns-in-At-rest
@@ -79,7 +79,7 @@ returns-in-At-rest c =
     c.md_bytes.ensures
     h.3 in
     let r = columns_ready o
-    c.first_copies-begun.auto.1.0
+    c.first_copies-begun.auto.memo
     h.1 z in
     whole_done _ _ _ _ _ _ _ _ _ o i
     c.md_bytes.ensures
@@ -87,9 +87,9 @@ returns-in-At-rest c =
     h.0) c.in-At-got.is
     (rests_at _ _ _ _ _ _ _ _ _ _ _ c.place_rest-rest.ensures
     c.in-At-rest.is)
-    c.first_copies-begun.auto.1.0
-    c.copy_columns-got.auto.1.1.1.0
-    c.place_rest-rest.auto.1.1.1.1.1.1.1.0 h.1
+    c.first_copies-begun.auto.memo
+    c.copy_columns-got.auto.memo
+    c.place_rest-rest.auto.memo h.1
     (c.copy_columns-got.ensures.1 r
     h.0)
 
@@ -108,7 +108,7 @@ returns-in-Refused-rest c =
     c.md_bytes.ensures
     h.3 in
     let r = columns_ready o
-    c.first_copies-begun.auto.1.0
+    c.first_copies-begun.auto.memo
     h.1 z in
     whole_rest _ _ _ _ _ _ _ _ _ o i
     c.md_bytes.ensures
@@ -126,7 +126,7 @@ returns-in-Refused-got c =
     let i = first_md o c.aligned-md.ensures in
     let z = first_near_lem o i _ c.md_bytes.ensures h.3 in
     let r = columns_ready o
-    c.first_copies-begun.auto.1.0
+    c.first_copies-begun.auto.memo
     h.1 z in
     whole_columns _ _ _ _ _ _ _ _ _ o i c.md_bytes.ensures
     (c.copy_columns-got.ensures.0 r h.0) c.in-Refused-got.is

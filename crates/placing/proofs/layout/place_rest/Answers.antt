@@ -39,7 +39,7 @@ place_columns-data-requires c =
 pub returns-in-At : goal.returns-in-At
 returns-in-At c =
     let h = c.requires in
-    let l = c.place_columns-data.auto.1.1.1.1.1.1.1.0 in
+    let l = c.place_columns-data.auto.memo in
     rest-moved _ _ _ _ _ _ _ _ _
     (c.aligned-a.ensures
     (omega (arith, h.4)))
@@ -60,7 +60,7 @@ returns-in-At c =
 pub returns-in-Refused : goal.returns-in-Refused
 returns-in-Refused c =
     let h = c.requires in
-    let l = c.place_columns-data.auto.1.1.1.1.1.1.1.0 in
+    let l = c.place_columns-data.auto.memo in
     rest_refused _ _ _ _ _ _ _ _ _
     (c.aligned-a.ensures
     (omega (arith, h.4)))

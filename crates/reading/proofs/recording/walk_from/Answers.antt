@@ -115,10 +115,10 @@ returns-in-Refused-taken c =
     (data_stops _ _ _ _ c.take_data-taken.ensures (after_stopped _ _ c.in-Refused-taken.is))))
 
 pub shape_of-source-in-Refused-met : goal.shape_of-source-in-Refused-met
-shape_of-source-in-Refused-met c = omega (arith, c.walk.invariant.0.words_same, c.visit-met.auto.source, c.groups.invariant.0.words_same, c.met_cg-met.auto.source)
+shape_of-source-in-Refused-met c = omega (arith, c.walk.invariant.0.words_same, c.visit-met.auto.image, c.groups.invariant.0.words_same, c.met_cg-met.auto.image)
 
 pub shape_of-fragments-in-Refused-met : goal.shape_of-fragments-in-Refused-met
-shape_of-fragments-in-Refused-met c = omega (arith, c.walk.invariant.0.frags-same, c.take_data-taken.auto.fragments, c.groups.invariant.0.frags-same)
+shape_of-fragments-in-Refused-met c = omega (arith, c.walk.invariant.0.frags-same, c.take_data-taken.auto.file, c.groups.invariant.0.frags-same)
 
 pub returns-in-Refused-met : goal.returns-in-Refused-met
 returns-in-Refused-met c =
@@ -136,11 +136,11 @@ shape_of-source-in-Refused-met-2 c =
     omega (
       arith,
       c.walk.invariant.0.words_same,
-      c.visit-met.auto.source,
+      c.visit-met.auto.image,
       c.groups.invariant.0.words_same,
-      c.met_cg-met.auto.source,
+      c.met_cg-met.auto.image,
       c.channels.invariant.0.words_same,
-      c.met_cn-met.auto.source,
+      c.met_cn-met.auto.image,
     )
 
 pub shape_of-fragments-in-Refused-met-2 : goal.shape_of-fragments-in-Refused-met-2
@@ -148,7 +148,7 @@ shape_of-fragments-in-Refused-met-2 c =
     omega (
       arith,
       c.walk.invariant.0.frags-same,
-      c.take_data-taken.auto.fragments,
+      c.take_data-taken.auto.file,
       c.groups.invariant.0.frags-same,
       c.channels.invariant.0.frags-same,
     )

@@ -30,5 +30,5 @@ returns c =
       λ h l m.
           let s = c.store.ensures.0 h c.if-k.false l in
           record { runs = step_last h _ _ e n s.1 (c.close.ensures.0 m (list-fits h)); holds = λ g. absurd (omega (arith, g, e)) },
-      last_bounded _ _ _ c.store.new.1.1.1.1.1.1.1.1.1.1.0 c.store.new.1.1.1.1.1.1.1.1.1.1.1.0 e n c.store.ensures.1 c.store.auto.1.1.1.1.1.1.1.1.1.1.0 c.store.auto.1.1.1.1.1.1.1.1.1.1.1.0 c.close.ensures.1,
+      last_bounded _ _ _ c.store.new.1.1.1.1.1.1.1.1.1.1.0 c.store.new.1.1.1.1.1.1.1.1.1.1.1.0 e n c.store.ensures.1 c.store.auto.stretches c.store.auto.offsets c.close.ensures.1,
     )

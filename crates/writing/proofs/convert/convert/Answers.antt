@@ -33,7 +33,7 @@ pub shape_of-fragments-in-Done : goal.shape_of-fragments-in-Done
 shape_of-fragments-in-Done c = cleared_fragments (decides_done
     c.decide-decision.ensures
     c.in-Done.is)
-    _ (c.clear-in-Done.ensures ∙ ap (λ (n : ℕ). replicate n 0) c.finish-answer.auto.1.1.1.1.1.1.1.1.1.1.0)
+    _ (c.clear-in-Done.ensures ∙ ap (λ (n : ℕ). replicate n 0) c.finish-answer.auto.fragments)
 
 -- src/convert.rt:99:1
 pub shape_of-columns-in-Done : goal.shape_of-columns-in-Done
@@ -49,7 +49,7 @@ returns-in-Done c = let e = done_left _ _ _ _ _ _ _ _ _ _ _ _ _ _ _ (decides_don
     c.in-Done.is)
     c.finish-answer.ensures
     c.clear.ensures
-    (c.clear-in-Done.ensures ∙ ap (λ (n : ℕ). replicate n 0) c.finish-answer.auto.1.1.1.1.1.1.1.1.1.1.0)
+    (c.clear-in-Done.ensures ∙ ap (λ (n : ℕ). replicate n 0) c.finish-answer.auto.fragments)
     c.clear-in-Done-2.ensures c.clear-in-Done-3.ensures in (
       e,
       promised_by

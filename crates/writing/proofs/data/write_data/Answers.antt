@@ -45,7 +45,7 @@ pub loop-k-preserved : goal.loop-k-preserved
 loop-k-preserved c =
     let t = c.loop-k.invariant in
     let v = c.write_column-p.ensures in
-    (writing_on t.0 c.loop-k-test.true c.entry_at-e.ensures v.1 c.write_signal_of-p.ensures, v.0, c.write_column-p.auto.1.1.1.1.1.1.1.1.0 ∙ t.2, c.write_column-p.auto.1.1.1.1.1.1.1.1.1.0 ∙ t.3, c.known_of-known.ensures.0)
+    (writing_on t.0 c.loop-k-test.true c.entry_at-e.ensures v.1 c.write_signal_of-p.ensures, v.0, c.write_column-p.auto.pool ∙ t.2, c.write_column-p.auto.words ∙ t.3, c.known_of-known.ensures.0)
 
 pub returns : goal.returns
 returns c = writing_end c.loop-k.invariant.0 (omega arith)
