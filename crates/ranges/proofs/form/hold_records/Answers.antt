@@ -4,7 +4,7 @@ use borrow.Author.Rules.{rules}
 use Rattle.ranges.proofs.form.hold_records.Goals as goal
 
 pub returns-then-w-eq0 : goal.returns-then-w-eq0
-returns-then-w-eq0 c = records_none _ _ _ _ c.record_bytes-w.ensures.is c.if-w-eq0.taken c.sums.ensures
+returns-then-w-eq0 c = records_none _ _ _ _ c.record_bytes-w.ensures.is c.if-w-eq0.true c.sums.ensures
 
 pub returns : goal.returns
 returns c = records_some _ _ _ _ c.record_bytes-w.ensures.is c.cycles_of.ensures c.sums-2.ensures

@@ -4,7 +4,7 @@ use borrow.Author.Rules.{rules}
 use Rattle.ranges.proofs.open.item_range.Goals as goal
 
 pub returns-then-mark-gt1 : goal.returns-then-mark-gt1
-returns-then-mark-gt1 c = item-dg _ _ _ c.if-mark-gt1.taken c.link_at.ensures c.chain_ranges.ensures
+returns-then-mark-gt1 c = item-dg _ _ _ c.if-mark-gt1.true c.link_at.ensures c.chain_ranges.ensures
 
 pub returns : goal.returns
-returns c = item-other _ _ _ c.if-mark-gt1.left
+returns c = item-other _ _ _ c.if-mark-gt1.false

@@ -8,25 +8,25 @@ pub ask_opened-granted-requires : goal.ask_opened-granted-requires
 ask_opened-granted-requires c = c.requires
 
 pub overflow_mul-to : goal.overflow_mul-to
-overflow_mul-to c = search (rules, entry_lies c.args.image.now (entry_of c.args.request) c.args.destination.now c.ask_opened-granted.ensures c.in-Column.is c.record_bytes-w.ensures.is c.lie.ensures c.if-lie.taken)
+overflow_mul-to c = search (rules, entry_lies c.args.image.now (entry_of c.args.request) c.args.destination.now c.ask_opened-granted.ensures c.in-Column.is c.record_bytes-w.ensures.is c.lie.ensures c.if-lie.true)
 
 pub overflow_add-to : goal.overflow_add-to
-overflow_add-to c = search (rules, entry_lies c.args.image.now (entry_of c.args.request) c.args.destination.now c.ask_opened-granted.ensures c.in-Column.is c.record_bytes-w.ensures.is c.lie.ensures c.if-lie.taken)
+overflow_add-to c = search (rules, entry_lies c.args.image.now (entry_of c.args.request) c.args.destination.now c.ask_opened-granted.ensures c.in-Column.is c.record_bytes-w.ensures.is c.lie.ensures c.if-lie.true)
 
 pub slice_bounds-fill-end : goal.slice_bounds-fill-end
-slice_bounds-fill-end c = search (rules, entry_lies c.args.image.now (entry_of c.args.request) c.args.destination.now c.ask_opened-granted.ensures c.in-Column.is c.record_bytes-w.ensures.is c.lie.ensures c.if-lie.taken)
+slice_bounds-fill-end c = search (rules, entry_lies c.args.image.now (entry_of c.args.request) c.args.destination.now c.ask_opened-granted.ensures c.in-Column.is c.record_bytes-w.ensures.is c.lie.ensures c.if-lie.true)
 
 pub fill-requires : goal.fill-requires
-fill-requires c = entry_fills c.args.image.now (entry_of c.args.request) c.args.destination.now c.ask_opened-granted.ensures c.in-Column.is c.record_bytes-w.ensures.is c.lie.ensures c.if-lie.taken c.record_bytes-w.ensures.small c.if-from-to.taken
+fill-requires c = entry_fills c.args.image.now (entry_of c.args.request) c.args.destination.now c.ask_opened-granted.ensures c.in-Column.is c.record_bytes-w.ensures.is c.lie.ensures c.if-lie.true c.record_bytes-w.ensures.small c.if-from-to.true
 
 pub returns-then-from-to : goal.returns-then-from-to
-returns-then-from-to c = entry-filled c.args.image.now (entry_of c.args.request) c.args.destination.now c.ask_opened-granted.ensures c.in-Column.is c.record_bytes-w.ensures.is c.lie.ensures c.if-lie.taken c.fill.ensures
+returns-then-from-to c = entry-filled c.args.image.now (entry_of c.args.request) c.args.destination.now c.ask_opened-granted.ensures c.in-Column.is c.record_bytes-w.ensures.is c.lie.ensures c.if-lie.true c.fill.ensures
 
 pub returns-else-from-to : goal.returns-else-from-to
-returns-else-from-to c = entry-none c.args.image.now (entry_of c.args.request) c.args.destination.now c.ask_opened-granted.ensures c.in-Column.is c.record_bytes-w.ensures.is c.lie.ensures c.if-lie.taken c.if-from-to.left
+returns-else-from-to c = entry-none c.args.image.now (entry_of c.args.request) c.args.destination.now c.ask_opened-granted.ensures c.in-Column.is c.record_bytes-w.ensures.is c.lie.ensures c.if-lie.true c.if-from-to.false
 
 pub returns-in-Refused : goal.returns-in-Refused
 returns-in-Refused c = entry_refused c.args.image.now (entry_of c.args.request) c.args.destination.now c.ask_opened-granted.ensures c.in-Refused.is
 
 pub returns-else-lie : goal.returns-else-lie
-returns-else-lie c = entry_past c.args.image.now (entry_of c.args.request) c.args.destination.now c.ask_opened-granted.ensures c.in-Column.is c.record_bytes-w.ensures.is c.lie.ensures c.if-lie.left
+returns-else-lie c = entry_past c.args.image.now (entry_of c.args.request) c.args.destination.now c.ask_opened-granted.ensures c.in-Column.is c.record_bytes-w.ensures.is c.lie.ensures c.if-lie.false

@@ -5,10 +5,10 @@ use Rattle.ranges.specs.EntryLaws.{lie_past, lie_none, lie_some}
 use Rattle.ranges.proofs.plot.lie.Goals as goal
 
 pub returns-then-n-place : goal.returns-then-n-place
-returns-then-n-place c = lie_past _ _ _ _ c.if-n-place.taken
+returns-then-n-place c = lie_past _ _ _ _ c.if-n-place.true
 
 pub returns-then-w-eq0 : goal.returns-then-w-eq0
-returns-then-w-eq0 c = lie_none _ _ _ _ c.if-n-place.left c.if-w-eq0.taken
+returns-then-w-eq0 c = lie_none _ _ _ _ c.if-n-place.false c.if-w-eq0.true
 
 pub returns : goal.returns
 returns c = lie_some c.args.n c.args.place c.args.count c.args.w (omega arith) (omega arith)

@@ -32,13 +32,13 @@ pub bounds-source-k-then-column-columns-2 : goal.bounds-source-k-then-column-col
 bounds-source-k-then-column-columns-2 c = let b = c.requires.most in omega arith
 
 pub returns-then-all-first : goal.returns-then-all-first
-returns-then-all-first c = ask-23 c.args.image.now c.args.source.now c.args.column c.args.first c.args.count c.requires c.if-column-columns.taken c.cycles_of-all.ensures (omega arith)
+returns-then-all-first c = ask-23 c.args.image.now c.args.source.now c.args.column c.args.first c.args.count c.requires c.if-column-columns.true c.cycles_of-all.ensures (omega arith)
 
 pub returns-then-all-first-2 : goal.returns-then-all-first-2
-returns-then-all-first-2 c = ask-23 c.args.image.now c.args.source.now c.args.column c.args.first c.args.count c.requires c.if-column-columns.taken c.cycles_of-all.ensures (omega arith)
+returns-then-all-first-2 c = ask-23 c.args.image.now c.args.source.now c.args.column c.args.first c.args.count c.requires c.if-column-columns.true c.cycles_of-all.ensures (omega arith)
 
 pub returns-then-column-columns : goal.returns-then-column-columns
-returns-then-column-columns c = ask_column c.args.image.now c.args.source.now c.args.column c.args.first c.args.count c.requires c.if-column-columns.taken c.cycles_of-all.ensures (omega arith)
+returns-then-column-columns c = ask_column c.args.image.now c.args.source.now c.args.column c.args.first c.args.count c.requires c.if-column-columns.true c.cycles_of-all.ensures (omega arith)
 
 pub returns : goal.returns
-returns c = ask-22 c.args.image.now c.args.source.now c.args.column c.args.first c.args.count c.requires c.if-column-columns.left
+returns c = ask-22 c.args.image.now c.args.source.now c.args.column c.args.first c.args.count c.requires c.if-column-columns.false

@@ -4,10 +4,10 @@ use borrow.Author.Rules.{rules}
 use Rattle.ranges.proofs.read.fits.Goals as goal
 
 pub returns-then-w-eq0 : goal.returns-then-w-eq0
-returns-then-w-eq0 c = fits-none _ _ _ c.if-w-eq0.taken
+returns-then-w-eq0 c = fits-none _ _ _ c.if-w-eq0.true
 
 pub returns-then-n-w-eq0 : goal.returns-then-n-w-eq0
-returns-then-n-w-eq0 c = fits_whole _ _ _ c.if-w-eq0.left c.if-n-w-eq0.taken
+returns-then-n-w-eq0 c = fits_whole _ _ _ c.if-w-eq0.false c.if-n-w-eq0.true
 
 pub returns : goal.returns
-returns c = fits-part _ _ _ c.if-w-eq0.left c.if-n-w-eq0.left
+returns c = fits-part _ _ _ c.if-w-eq0.false c.if-n-w-eq0.false

@@ -5,16 +5,16 @@ use borrow.Author.Rules.{rules}
 use Rattle.ranges.proofs.read.read_range.Goals as goal
 
 pub fill-requires : goal.fill-requires
-fill-requires c = read_fills _ _ _ _ c.args.buffer.now c.ask-asked.ensures c.in-Column.is c.record_bytes-w.ensures.is c.fits.ensures c.if-fits.taken c.record_bytes-w.ensures.small (omega arith)
+fill-requires c = read_fills _ _ _ _ c.args.buffer.now c.ask-asked.ensures c.in-Column.is c.record_bytes-w.ensures.is c.fits.ensures c.if-fits.true c.record_bytes-w.ensures.small (omega arith)
 
 pub returns-then-all-gt0 : goal.returns-then-all-gt0
-returns-then-all-gt0 c = read_copied _ _ _ _ c.args.buffer.now c.ask-asked.ensures c.in-Column.is c.record_bytes-w.ensures.is c.fits.ensures c.if-fits.taken c.fill.ensures
+returns-then-all-gt0 c = read_copied _ _ _ _ c.args.buffer.now c.ask-asked.ensures c.in-Column.is c.record_bytes-w.ensures.is c.fits.ensures c.if-fits.true c.fill.ensures
 
 pub returns-else-all-gt0 : goal.returns-else-all-gt0
-returns-else-all-gt0 c = read_empty _ _ _ _ c.args.buffer.now c.ask-asked.ensures c.in-Column.is c.record_bytes-w.ensures.is c.fits.ensures c.if-fits.taken (omega arith)
+returns-else-all-gt0 c = read_empty _ _ _ _ c.args.buffer.now c.ask-asked.ensures c.in-Column.is c.record_bytes-w.ensures.is c.fits.ensures c.if-fits.true (omega arith)
 
 pub returns-in-Refused : goal.returns-in-Refused
 returns-in-Refused c = read_refused _ _ _ _ c.args.buffer.now c.ask-asked.ensures c.in-Refused.is
 
 pub returns-else-fits : goal.returns-else-fits
-returns-else-fits c = read_short _ _ _ _ c.args.buffer.now c.ask-asked.ensures c.in-Column.is c.record_bytes-w.ensures.is c.fits.ensures c.if-fits.left
+returns-else-fits c = read_short _ _ _ _ c.args.buffer.now c.ask-asked.ensures c.in-Column.is c.record_bytes-w.ensures.is c.fits.ensures c.if-fits.false

@@ -14,7 +14,7 @@ pub returns-in-Refused-ranges : goal.returns-in-Refused-ranges
 returns-in-Refused-ranges c =
     sorted_out _ _ _ _ (so_fine c.dv_fits-fits.ensures
     c.in-Fine.is)
-    (so_refused c.ranges_in-ranges.ensures c.ranges.given.1)
+    (so_refused c.ranges_in-ranges.ensures c.in-Refused-ranges.is)
 
 pub returns-in-Fine-ranges : goal.returns-in-Fine-ranges
 returns-in-Fine-ranges c =
