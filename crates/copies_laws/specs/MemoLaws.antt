@@ -110,6 +110,7 @@ pub kept_then : {s : List ℕ} {m n o : List Copy} → Kept s m n → Kept s n o
 kept_then f g = record { found = λ a t q. g.found a t (f.found a t q); made = λ h. g.made (f.made h) }
 
 in_last : {A : Type 0} (P : A → Type 0) (m : List A) (x : A) → ((c : A) → In c m → P c) → P x → (c : A) → In c (m ++ (x ∷ [])) → P c
+in_last {A = A} P [] x f g c (there i) = elim i [ ]
 in_last P [] x f g c here = g
 in_last P (b ∷ m) x f g c here = f b here
 in_last P (b ∷ m) x f g c (there i) = in_last P m x (λ d j. f d (there j)) g c i

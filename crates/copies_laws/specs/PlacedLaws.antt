@@ -70,6 +70,7 @@ pub record Within (s : List ℕ) (size a e : ℕ) (p : Placed) : Type 0 where
 pub placed-within : {p : Placed} (o : Rules) (s : List ℕ) (size a d : ℕ) (cs : List Column) → In p (placed_from o s size a d cs)
     → Within s size a (structure_end s size a cs) p
 unfolding with_places places_from structures_end sizes_of
+placed-within {p = p} o s size a d [] x' = elim x' [ ]
 placed-within o s size a d (c ∷ cs) here = record { begins = le_refl a; ends = structure_grows s size (a + structure_size s size c) cs }
 placed-within o s size a d (c ∷ cs) (there i) =
     let w = placed-within o s size (a + structure_size s size c) (past_data o.unit (column_sizes s size c) d) cs i in

@@ -110,6 +110,7 @@ end_small s size c a w h k = omega (arith, data_small s size c w h k, align_near
 pub blocks-small : (s : List ℕ) (size : ℕ) (cs : List Column) (c : Column) → blocks_in s size cs ≡ fine → In c cs
     → column_blocks s size c ≤ 4294967295
 unfolding blocks_in column_blocks column_width
+blocks-small s size [] c e x'' = elim x'' [ ]
 blocks-small s size (b ∷ cs) c e here = (lt_back _ _ _ _ e refused≢ok).0
 blocks-small s size (b ∷ cs) c e (there i) = blocks-small s size cs c (lt_back _ _ _ _ e refused≢ok).1 i
 

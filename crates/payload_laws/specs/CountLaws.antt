@@ -90,6 +90,7 @@ record Placed (d : DataGroup) (k : ℕ) (gs : List Group) (ms : List ℕ) (g : S
 with_counts_lem : (d : DataGroup) (k : ℕ) (gs : List Group) (ms ns : List ℕ) (g : SrcGroup) → length ms ≡ length gs
     → In g (with_counts d k gs (ms ++ ns)) → Placed d k gs ms g
 unfolding with_counts addresses
+with_counts_lem d k [] ms ns g l i = elim i [ ]
 with_counts_lem d k (h ∷ gs) [] ns g l i = absurd (omega arith)
 with_counts_lem d k (h ∷ gs) (m ∷ ms) ns g l here =
     record { place = 0; same = refl; number = omega arith; within = omega arith; address = refl; records = refl }
@@ -124,6 +125,7 @@ later_member d m =
 
 members_of : {s : List ℕ} {ds : List DataGroup} {ns : List ℕ} → Counted s ds ns → (g : SrcGroup) → In g (src_groups ds ns) → Member s ds g
 unfolding src_groups
+members_of {s = s} none g i = elim i [ ]
 members_of {s} (next {d} {ds} {ms} {ns} e c) g i =
     let l : length ms ≡ length d.groups =
     length-counts s d.at (addresses d.groups) d.fragments e ∙ length-addresses d.groups in
@@ -221,6 +223,7 @@ group-shared {s} g m h =
 any_nonempty_lem : (s : List ℕ) (d : ℕ) (cs : List Column) (c : Column) → In c cs → is_nonempty s c ≡ true → c.group.data_group.at ≡ d
     → any_nonempty s d cs ≡ true
 unfolding any_nonempty
+any_nonempty_lem s d [] c x3 e q = elim x3 [ ]
 any_nonempty_lem s d (b ∷ cs) c here e q = rw (eq-eqb c.group.data_group.at d q, e)
 any_nonempty_lem s d (b ∷ cs) c (there i) e q = rw (any_nonempty_lem s d cs c i e q) (go (both (eqb b.group.data_group.at d) (is_nonempty s b)))
   where
@@ -231,6 +234,7 @@ any_nonempty_lem s d (b ∷ cs) c (there i) e q = rw (any_nonempty_lem s d cs c 
 pub all_checked : (s : List ℕ) (cs : List Column) (ds : List DataGroup) (d : DataGroup) → all_data_in s cs ds ≡ fine → In d ds
     → data_in s cs d ≡ fine
 unfolding all_data_in
+all_checked s cs [] d e x'' = elim x'' [ ]
 all_checked s cs (b ∷ ds) d e here = (then_fine (data_in s cs d) (λ _. all_data_in s cs ds) e).0
 all_checked s cs (b ∷ ds) d e (there i) = all_checked s cs ds d (then_fine (data_in s cs b) (λ _. all_data_in s cs ds) e).1 i
 

@@ -31,6 +31,7 @@ pub use Rattle.result.specs.OrderedLaws.{ordered-from, ordered-append}
 signals_each : (s : List ℕ) (d : ℕ) (cs : List Column) (c : Column) → signals_in s d cs ≡ fine → In c cs → c.group.data_group.at ≡ d
     → signal_in s c.signal_of ≡ fine
 unfolding signals_in
+signals_each s d [] c e x3 q = elim x3 [ ]
 signals_each s d (b ∷ cs) c e here q =
     let a = then_fine (if_eq c.group.data_group.at d (signal_in s c.signal_of) fine) (λ _. signals_in s d cs) e in
     eq_yes _ _ _ fine q refl ∙ a.0

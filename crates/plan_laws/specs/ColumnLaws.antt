@@ -95,6 +95,7 @@ module _ (cs : List Column) (c : Column) (timed : c.is_time_lem ≡ true) where
 
 pub times_in : (x : ℕ) (cs : List Column) (c : Column) → In c cs → c.is_time_lem ≡ true → c.channel ≡ x → 1 ≤ times_of x cs
 unfolding times_of
+times_in x [] c x4 t e = elim x4 [ ]
 times_in x (d ∷ cs) c here t e = rw (t, same_yes d.channel x e) (omega arith)
 times_in x (d ∷ cs) c (there i) t e = omega (arith, times_in x cs c i t e)
 

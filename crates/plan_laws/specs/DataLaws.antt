@@ -1,5 +1,5 @@
 -- The data stage passed: the records of every DG with a nonempty column, and every column's signal data ranges.
-use Rattle.std.specs.Prelude.{ℕ, List, ◌∷◌, ◌≡◌, refl, Bool, true, false, eqb}
+use Rattle.std.specs.Prelude.{[], ℕ, List, ◌∷◌, ◌≡◌, refl, Bool, true, false, eqb}
 use Rattle.std.proofs.Common.{◌∙◌, eq-eqb}
 use Rattle.base.specs.Choice.{pick, if_eq}
 use Rattle.base.specs.ChoiceLaws.{eq_yes}
@@ -14,12 +14,14 @@ use Rattle.plan_laws.specs.Answers.{then_fine}
 -- of each DG
 pub data_fine_lem : (s : List ℕ) (cs : List Column) (ds : List DataGroup) → all_data_in s cs ds ≡ fine → (d : DataGroup) → In d ds → data_in s cs d ≡ fine
 unfolding all_data_in
+data_fine_lem s cs [] e k x'' = elim x'' [ ]
 data_fine_lem s cs (d ∷ ds) e k here = (then_fine (data_in s cs d) _ e).0
 data_fine_lem s cs (d ∷ ds) e k (there i) = data_fine_lem s cs ds (then_fine (data_in s cs d) _ e).1 k i
 
 any_nonempty_lem : (s : List ℕ) (d : ℕ) (cs : List Column) (c : Column) → In c cs → c.group.data_group.at ≡ d → is_nonempty s c ≡ true
     → any_nonempty s d cs ≡ true
 unfolding any_nonempty
+any_nonempty_lem s d [] c x3 e n = elim x3 [ ]
 any_nonempty_lem s d (k ∷ cs) c here e n = rw (eq-eqb k.group.data_group.at d e, n)
 any_nonempty_lem s d (k ∷ cs) c (there i) e n = rw (any_nonempty_lem s d cs c i e n) (go (both (eqb k.group.data_group.at d) (is_nonempty s k)))
   where
@@ -38,6 +40,7 @@ records_fine_lem s cs d e c i q n =
 signals_fine : (s : List ℕ) (d : ℕ) (cs : List Column) → signals_in s d cs ≡ fine → (c : Column) → In c cs → c.group.data_group.at ≡ d
     → signal_in s c.signal_of ≡ fine
 unfolding signals_in
+signals_fine s d [] e c x3 q = elim x3 [ ]
 signals_fine s d (k ∷ cs) e c here q =
     eq_yes k.group.data_group.at d (signal_in s k.signal_of) fine q refl
     ∙ (then_fine (if_eq k.group.data_group.at d (signal_in s k.signal_of) fine) _ e).0

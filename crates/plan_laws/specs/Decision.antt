@@ -1,5 +1,5 @@
 -- What is known of what was decided: every check passed.
-use Rattle.std.specs.Prelude.{ℕ, zero, suc, ◌≤◌, ◌<◌, List, ◌∷◌, ◌≡◌, refl, length}
+use Rattle.std.specs.Prelude.{[], ℕ, zero, suc, ◌≤◌, ◌<◌, List, ◌∷◌, ◌≡◌, refl, length}
 use Rattle.std.proofs.Common.{◌∙◌, subst, arith}
 use Rattle.base.specs.Choice.{if_lt, if_eq}
 use Rattle.base.specs.ChoiceLaws.{lt_back, eq_first, eq_yes}
@@ -111,5 +111,6 @@ answer_accepted x out list d e =
 -- no column has too many blocks
 pub blocks-few : (s : List ℕ) (size : ℕ) (cs : List Column) → blocks_in s size cs ≡ fine → (c : Column) → In c cs → column_blocks s size c ≤ 4294967295
 unfolding blocks_in column_blocks column_width
+blocks-few s size [] e c x'' = elim x'' [ ]
 blocks-few s size (k ∷ cs) e c here = (lt_back _ _ _ _ e refused≢ok).0
 blocks-few s size (k ∷ cs) e c (there i) = blocks-few s size cs (lt_back _ _ _ _ e refused≢ok).1 c i

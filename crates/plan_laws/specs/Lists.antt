@@ -27,6 +27,7 @@ in_cases {a = a} (b ∷ l) {m} (there i) = go (in_cases l i)
 
 -- the only member of a list of one
 pub in_one : {A : Type 0} {a b : A} → In a (b ∷ []) → a ≡ b
+in_one {A = A} {a = a} {b = b} (there x3) = elim x3 [ ]
 in_one here = refl
 
 in_length : {A : Type 0} {a : A} {l : List A} → In a l → 1 ≤ length l
@@ -60,6 +61,7 @@ occurs-append a (b ∷ l) m = omega (arith, occurs-append a l m)
 
 pub occurs_in : (a : ℕ) (l : List ℕ) → In a l → 1 ≤ occurs a l
 unfolding occurs
+occurs_in a [] x' = elim x' [ ]
 occurs_in a (b ∷ l) here = omega (arith, same_yes a a refl)
 occurs_in a (b ∷ l) (there i) = omega (arith, occurs_in a l i)
 

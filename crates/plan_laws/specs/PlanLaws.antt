@@ -475,6 +475,7 @@ most_sum-few s x (g ∷ gs) = omega (arith, due-few s g x, most_sum-few s x gs, 
 due-sum-one : (s : List ℕ) (x : ℕ) (gs : List SrcGroup) → occurs x (all_addresses gs) ≤ 1 → {g : SrcGroup} → In g gs → In x g.channels
     → due_sum s x gs ≡ due s g x
 unfolding due_sum all_addresses occurs
+due-sum-one s x [] once {g = g} x4 i = elim x4 [ ]
 due-sum-one s x (h ∷ gs) once here i =
     omega (arith, due-sum-few s x gs, occurs-append x h.channels (all_addresses gs), occurs_in x h.channels i)
 due-sum-one s x (h ∷ gs) once {g = g} (there j) i =
@@ -529,11 +530,13 @@ made_of x (c ∷ cs) (there i) = let r = made_of x cs i in record { column = r.c
 
 all_channels_in : (x : ℕ) (gs : List SrcGroup) {g : SrcGroup} → In g gs → In x g.channels → 1 ≤ occurs x (all_channels gs)
 unfolding all_channels
+all_channels_in x [] {g = g} x3 i = elim x3 [ ]
 all_channels_in x (h ∷ gs) here i = omega (arith, occurs-append x h.channels (all_channels gs), occurs_in x h.channels i)
 all_channels_in x (h ∷ gs) (there j) i = omega (arith, occurs-append x h.channels (all_channels gs), all_channels_in x gs j i)
 
 signal_within : (cs : List Column) (c : Column) → In c cs → size_of_signal c.signal_of ≤ signals_of cs
 unfolding signals_of
+signal_within [] c x' = elim x' [ ]
 signal_within (d ∷ cs) c here = omega arith
 signal_within (d ∷ cs) c (there i) = omega (arith, signal_within cs c i)
 

@@ -290,6 +290,7 @@ own_addresses g = g.at ∷ g.channels
 
 pub own-within : (x : ℕ) (gs : List SrcGroup) {g : SrcGroup} → In g gs → occurs x (own_addresses g) ≤ occurs x (all_addresses gs)
 unfolding all_addresses
+own-within x [] {g = g} x'' = elim x'' [ ]
 own-within x (h ∷ gs) here = omega (arith, occurs-append x (own_addresses h) (all_addresses gs))
 own-within x (h ∷ gs) (there i) = omega (arith, occurs-append x (own_addresses h) (all_addresses gs), own-within x gs i)
 
@@ -297,6 +298,7 @@ own-within x (h ∷ gs) (there i) = omega (arith, occurs-append x (own_addresses
 pub one-group : (gs : List SrcGroup) → ((x : ℕ) → occurs x (all_addresses gs) ≤ 1) → {g h : SrcGroup} → In g gs → In h gs
     → (x : ℕ) → In x (own_addresses g) → In x (own_addresses h) → g ≡ h
 unfolding all_addresses
+one-group [] once {g = g} {h = h} x7 _ x i j = elim x7 [ ]
 one-group (k ∷ gs) once here here x i j = refl
 one-group (k ∷ gs) once {h = h} here (there b) x i j =
     absurd (omega (

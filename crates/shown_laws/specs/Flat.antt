@@ -38,6 +38,7 @@ length-flat bs e o = flat-length bs 0 e o ∙ sub-zero e
 flat_stands : {b : Block} {l : List ℕ} (bs : List Block) (a e : ℕ) → Ordered a bs e → Stands l a (flat a bs e) → In b bs
     → Stands l b.at b.bytes
 unfolding flat Ordered
+flat_stands {b = b} {l = l} [] a e o s x3 = elim x3 [ ]
 flat_stands {b} {l} (c ∷ bs) a e o s here =
     let g : a ≤ b.at = o.0 in
     stands_to (stands_back (replicate (b.at - a) 0) b.bytes (stands_front _ (flat (b.at + length b.bytes) bs e) s))
@@ -62,6 +63,7 @@ final_keeps bs e j n out o h = part-blit-after (flat 0 bs e) 0 j n out (rw lengt
 -- a block of ordered ones begins at or past their beginning
 pub ordered-from : {b : Block} (bs : List Block) (a e : ℕ) → Ordered a bs e → In b bs → a ≤ b.at
 unfolding Ordered
+ordered-from {b = b} [] a e o x'' = elim x'' [ ]
 ordered-from (c ∷ bs) a e o here = o.0
 ordered-from {b} (c ∷ bs) a e o (there i) =
     let g : a ≤ c.at = o.0 in
@@ -71,6 +73,7 @@ ordered-from {b} (c ∷ bs) a e o (there i) =
 -- and ends by their end
 pub ordered-by : {b : Block} (bs : List Block) (a e : ℕ) → Ordered a bs e → In b bs → b.at + length b.bytes ≤ e
 unfolding Ordered
+ordered-by {b = b} [] a e o x'' = elim x'' [ ]
 ordered-by (c ∷ bs) a e o here = ordered-ends bs _ e o.1
 ordered-by (c ∷ bs) a e o (there i) = ordered-by bs _ e o.1 i
 
