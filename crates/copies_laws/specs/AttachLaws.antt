@@ -57,7 +57,7 @@ unfolding LaidAt
 laid_at_ends s a e [] l = l
 laid_at_ends s a e (t ∷ ts) l =
     let h : a ≤ t.to = laid-ends s a t.to t.own l.0 in
-    let k : t.to + size_at s t.from ≤ e = laid_at_ends s _ e ts l.2 in
+    let k : t.to + size_at s t.from ≤ e = laid_at_ends s (t.to + size_at s t.from) e ts l.2 in
     omega arith
 
 -- t' has more attachments than t, laid past what t had placed; at most 64 attachments, and copies within the limit. An attachment takes at most the image's

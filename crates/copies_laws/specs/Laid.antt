@@ -39,12 +39,12 @@ tight_from s a b e (c ∷ cs) h t = let k : c.to ≤ align8 b = t.0 in (omega (a
 pub tight_append : (s : List ℕ) (a b e : ℕ) (xs ys : List Copy) → Tight s a xs b → Tight s b ys e → Tight s a (xs ++ ys) e
 unfolding Tight
 tight_append s a b e [] ys t k = tight_from s a b e ys t k
-tight_append s a b e (x ∷ xs) ys t k = (t.0, tight_append s _ b e xs ys t.1 k)
+tight_append s a b e (x ∷ xs) ys t k = (t.0, tight_append s (x.to + size_at s x.from) b e xs ys t.1 k)
 
 pub tight_to : (s : List ℕ) (a e : ℕ) (cs : List Copy) → Tight s a cs e → Tight s a cs (align8 e)
 unfolding Tight
 tight_to s a e [] t = align_within a e t
-tight_to s a e (c ∷ cs) t = (t.0, tight_to s _ e cs t.1)
+tight_to s a e (c ∷ cs) t = (t.0, tight_to s (c.to + size_at s c.from) e cs t.1)
 
 pub laid_from : (s : List ℕ) (a b e : ℕ) (cs : List Copy) → a ≤ b → Laid s b cs e → Laid s a cs e
 unfolding Laid
@@ -54,19 +54,19 @@ laid_from s a b e (c ∷ cs) h l = let k : b ≤ c.to = l.0 in (omega arith, l.1
 pub laid-to : (s : List ℕ) (a d e : ℕ) (cs : List Copy) → Laid s a cs d → d ≤ e → Laid s a cs e
 unfolding Laid
 laid-to s a d e [] l h = omega arith
-laid-to s a d e (c ∷ cs) l h = (l.0, l.1, laid-to s _ d e cs l.2 h)
+laid-to s a d e (c ∷ cs) l h = (l.0, l.1, laid-to s (c.to + size_at s c.from) d e cs l.2 h)
 
 pub laid-append : (s : List ℕ) (a b e : ℕ) (xs ys : List Copy) → Laid s a xs b → Laid s b ys e → Laid s a (xs ++ ys) e
 unfolding Laid
 laid-append s a b e [] ys l k = laid_from s a b e ys l k
-laid-append s a b e (x ∷ xs) ys l k = (l.0, l.1, laid-append s _ b e xs ys l.2 k)
+laid-append s a b e (x ∷ xs) ys l k = (l.0, l.1, laid-append s (x.to + size_at s x.from) b e xs ys l.2 k)
 
 pub laid-ends : (s : List ℕ) (a e : ℕ) (cs : List Copy) → Laid s a cs e → a ≤ e
 unfolding Laid
 laid-ends s a e [] l = l
 laid-ends s a e (c ∷ cs) l =
     let h : a ≤ c.to = l.0 in
-    let k : c.to + size_at s c.from ≤ e = laid-ends s _ e cs l.2 in
+    let k : c.to + size_at s c.from ≤ e = laid-ends s (c.to + size_at s c.from) e cs l.2 in
     omega arith
 
 -- m' has more copies than m, laid past those of m. The copies and the k blocks on the way down stay within the limit; each copy takes at most

@@ -1,10 +1,11 @@
 -- Blocks of the result stand in the order of their addresses.
+use Rattle.mdf.specs.Block.{size_at}
 use Rattle.std.specs.Prelude.{ℕ, ◌+◌, ◌≤◌, List, [], ◌∷◌, ◌≡◌, refl, length}
 use Rattle.std.proofs.Common.{ap, le_refl, arith}
 use Rattle.plan.specs.Columns.{Column}
 use Rattle.plan.specs.Copies.{Copy, Attachment}
 use Rattle.plan.specs.Rules.{Rules}
-use Rattle.plan.specs.Layout.{
+use Rattle.plan.specs.Layout.{Sizes, 
   column_blocks,
   cg_size,
   dl_size,
@@ -37,14 +38,14 @@ pub use Rattle.result.specs.OrderedLaws.{ordered-from, ordered-append}
 pub ordered-to : (a d e : ℕ) (bs : List Block) → Ordered a bs d → d ≤ e → Ordered a bs e
 unfolding Ordered
 ordered-to a d e [] o h = omega arith
-ordered-to a d e (b ∷ bs) o h = (o.0, ordered-to _ d e bs o.1 h)
+ordered-to a d e (b ∷ bs) o h = (o.0, ordered-to (b.at + length b.bytes) d e bs o.1 h)
 
 pub ordered-ends : (a e : ℕ) (bs : List Block) → Ordered a bs e → a ≤ e
 unfolding Ordered
 ordered-ends a e [] o = o
 ordered-ends a e (b ∷ bs) o =
     let h : a ≤ b.at = o.0 in
-    let k : b.at + length b.bytes ≤ e = ordered-ends _ e bs o.1 in
+    let k : b.at + length b.bytes ≤ e = ordered-ends (b.at + length b.bytes) e bs o.1 in
     omega arith
 
 -- a block of n bytes at a or past it, then the rest
@@ -59,7 +60,7 @@ pub copied-ordered : (s chain : List ℕ) (memo : List Copy) (fh a e : ℕ) (cs 
 unfolding Laid copied_blocks Ordered
 copied-ordered s chain memo fh a e [] l = l
 copied-ordered s chain memo fh a e (c ∷ cs) l =
-    (l.0, rw (length-copied s chain memo fh c.from l.1) (copied-ordered s chain memo fh _ e cs l.2))
+    (l.0, rw (length-copied s chain memo fh c.from l.1) (copied-ordered s chain memo fh (c.to + size_at s c.from) e cs l.2))
 
 -- ---- attachments
 pub attached_ordered : (s chain : List ℕ) (memo : List Copy) (fh a e : ℕ) (ts : List Attachment) → LaidAt s a ts e
@@ -112,4 +113,4 @@ structure-ordered o s size memo ats all a d (c ∷ cs) f =
 pub placed-columns : (o : Rules) (s : List ℕ) (size a d : ℕ) (cs : List Column) → columns_placed (placed_from o s size a d cs) ≡ cs
 unfolding with_places places_from sizes_of columns_placed
 placed-columns o s size a d [] = refl
-placed-columns o s size a d (c ∷ cs) = ap (λ (l : List Column). c ∷ l) (placed-columns o s size _ _ cs)
+placed-columns o s size a d (c ∷ cs) = ap (λ (l : List Column). c ∷ l) (placed-columns o s size (a + structure_size s size c) (past_data o.unit (column_sizes s size c) d) cs)

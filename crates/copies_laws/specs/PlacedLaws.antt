@@ -8,7 +8,7 @@ use Rattle.base.specs.Checked.{ok}
 use Rattle.plan.specs.Columns.{Column}
 use Rattle.plan.specs.Data.{blocks_in}
 use Rattle.plan.specs.Rules.{Rules}
-use Rattle.plan.specs.Layout.{
+use Rattle.plan.specs.Layout.{places_at, placed_at, 
   column_width,
   column_blocks,
   cg_size,
@@ -71,7 +71,16 @@ pub placed-within : {p : Placed} (o : Rules) (s : List ℕ) (size a d : ℕ) (cs
     → Within s size a (structure_end s size a cs) p
 unfolding with_places places_from structures_end sizes_of
 placed-within {p = p} o s size a d [] x' = elim x' [ ]
-placed-within o s size a d (c ∷ cs) here = record { begins = le_refl a; ends = structure_grows s size (a + structure_size s size c) cs }
-placed-within o s size a d (c ∷ cs) (there i) =
-    let w = placed-within o s size (a + structure_size s size c) (past_data o.unit (column_sizes s size c) d) cs i in
-    record { begins = omega arith; ends = w.ends }
+placed-within {p = p} o s size a d (c ∷ cs) i = go i (placed-within {p = p} o s size next later cs)
+  where
+    next : ℕ
+    next = a + structure_size s size c
+
+    later : ℕ
+    later = past_data o.unit (column_sizes s size c) d
+
+    go : In p (placed_at c (places_at o.unit a d (column_sizes s size c)) ∷ placed_from o s size next later cs)
+        → (In p (placed_from o s size next later cs) → Within s size next (structure_end s size next cs) p)
+        → Within s size a (structure_end s size next cs) p
+    go here f = record { begins = le_refl a; ends = structure_grows s size next cs }
+    go (there j) f = let w = f j in record { begins = omega arith; ends = w.ends }

@@ -47,7 +47,7 @@ length-cell s g c r h = rw (length-append, length_part (byte_offset s c) (channe
     go false = refl
 
 -- the cells of whole records of a fitting channel
-pub length-cells : {rs : List (List ℕ)} (s : List ℕ) (g c : ℕ) → fits s g c ≡ true → Long (samples s g + inval_bytes s g) rs
+pub length-cells : (s : List ℕ) (g c : ℕ) {rs : List (List ℕ)} → fits s g c ≡ true → Long (samples s g + inval_bytes s g) rs
     → length (cells s g c rs) ≡ width s g c * length rs
 unfolding cells
 length-cells s g c f none = rw mul-zero

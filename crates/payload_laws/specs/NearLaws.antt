@@ -33,7 +33,7 @@ unfolding Near Close
 near_close u i a e [] n = let k : e ≤ align_to u a = n in omega (arith, to_near u a (omega (arith, i.least)))
 near_close u i a e (b ∷ bs) n =
     let k : b.at ≤ align_to u a = n.0 in
-    (omega (arith, to_near u a (omega (arith, i.least))), near_close u i _ e bs n.1)
+    (omega (arith, to_near u a (omega (arith, i.least))), near_close u i (b.at + length b.bytes) e bs n.1)
 
 module _ (u : ℕ) (i : IsUnit u) where
   some_unit : 0 < u
@@ -55,7 +55,7 @@ module _ (u : ℕ) (i : IsUnit u) where
   pub near_append : (a b e : ℕ) (xs ys : List Block) → Near u a xs b → Near u b ys e → Near u a (xs ++ ys) e
   unfolding Near
   near_append a b e [] ys n k = near_from a b e ys n k
-  near_append a b e (x ∷ xs) ys n k = (n.0, near_append _ b e xs ys n.1 k)
+  near_append a b e (x ∷ xs) ys n k = (n.0, near_append (x.at + length x.bytes) b e xs ys n.1 k)
 
   -- a block of n bytes at a, then the rest
   pub near_cons : (a n e : ℕ) (b : Block) (bs : List Block) → b.at ≤ align_to u a → length b.bytes ≡ n → Near u (b.at + n) bs e → Near u a (b ∷ bs) e

@@ -270,7 +270,7 @@ run_long s d g r l v = go r.kind refl
     go dt q = ids_long _ _ (rw q (omega arith)) all
     go dv q = ids_long _ _ (let z = v q in rw q (omega arith)) all
 
-runs-long : {s : List ℕ} {rs : List Run} (d g : ℕ) → Sound s (inval_bytes s g) rs
+runs-long : {s : List ℕ} (d g : ℕ) {rs : List Run} → Sound s (inval_bytes s g) rs
     → Long (samples s g + inval_bytes s g) (sorted_records s d g rs)
 unfolding sorted_records
 runs-long d g end = none
@@ -304,7 +304,7 @@ sums r rs = go r.kind refl
     go dt q = rw q (omega arith)
     go dv q = rw q (omega arith)
 
-runs-bytes : {s : List ℕ} {rs : List Run} (d g : ℕ) → Sound s (inval_bytes s g) rs
+runs-bytes : {s : List ℕ} (d g : ℕ) {rs : List Run} → Sound s (inval_bytes s g) rs
     → length (sorted_records s d g rs) * (samples s g + inval_bytes s g) ≤ sum_dt rs + sum_dv rs
 unfolding sorted_records
 runs-bytes {s} d g end = omega (arith, zero-mul (samples s g + inval_bytes s g))
@@ -434,7 +434,7 @@ module _ (s : List ℕ) (dg g : ℕ) (k : Kind) (n : ℕ) (wide : n ≡ id_bytes
         fill_pieces q (drop n d) t rs rest later h,
       )
 
-fill_runs : {s : List ℕ} {rs : List Run} (d g : ℕ) → Sound s (inval_bytes s g) rs → runs_whole s d g rs ≡ fine → 0 < samples s g + inval_bytes s g
+fill_runs : {s : List ℕ} (d g : ℕ) {rs : List Run} → Sound s (inval_bytes s g) rs → runs_whole s d g rs ≡ fine → 0 < samples s g + inval_bytes s g
     → FillSorted s d g (sorted_records s d g rs) (joined_runs s rs) (kinds_runs rs)
 unfolding sorted_records joined_runs kinds_runs run_records FillSorted
 fill_runs d g end e h = refl

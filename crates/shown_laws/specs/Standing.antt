@@ -58,10 +58,10 @@ byte_at {l} {a} b bs s =
 pub read : {l : List ℕ} {a : ℕ} (n x : ℕ) → Stands l a (le n x) → x < 256 ^ n → le_at n l a ≡ x
 unfolding le_at le
 read zero x s h = omega (arith, pow-zero 256)
-read {l} {a} (suc n) x s h =
+read {l = l} {a = a} (suc n) x s h =
     let q : x / 256 < 256 ^ n = (div-lt_iff_lt-mul (lit< tt)).1 (rw pow-suc at h) in
     let t : Stands l (a + 1) (le n (x / 256)) = stands_back (x % 256 ∷ []) (le n (x / 256)) s in
-    let i = read n (x / 256) t q in
+    let i = read {l = l} {a = a + 1} n (x / 256) t q in
     rw (byte_at (x % 256) (le n (x / 256)) s, i) (omega arith)
 
 -- ---- what is copied from another list s
