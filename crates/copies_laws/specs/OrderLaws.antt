@@ -69,7 +69,7 @@ unfolding LaidAt attachment_blocks Ordered
 attached_ordered s chain memo fh a e [] l = l
 attached_ordered s chain memo fh a e (t ∷ ts) l =
     ordered-append a t.to e (copied_blocks s chain memo fh t.own) _ (copied-ordered s chain memo fh a t.to t.own l.0)
-    (le_refl _, rw (length_at s memo t.from (next_attachment ts) l.1) (attached_ordered s chain memo fh _ e ts l.2))
+    (le_refl _, rw (length_at s memo t.from (next_attachment ts) l.1) (attached_ordered s chain memo fh (t.to + size_at s t.from) e ts l.2))
 
 -- ---- columns
 ordered-none : (a n : ℕ) → Ordered a [] (a + n)

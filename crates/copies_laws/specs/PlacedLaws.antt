@@ -67,20 +67,18 @@ pub record Within (s : List ℕ) (size a e : ℕ) (p : Placed) : Type 0 where
   pub begins : a ≤ p.dg
   pub ends : p.dg + structure_size s size p.column ≤ e
 
+-- one of a list is its first or one of the others
+first_or : (P : Placed → Type 0) (d : Placed) (ds : List Placed) {p : Placed} → In p (d ∷ ds) → P d → (In p ds → P p) → P p
+first_or P d ds here a f = a
+first_or P d ds (there i) a f = f i
+
 pub placed-within : {p : Placed} (o : Rules) (s : List ℕ) (size a d : ℕ) (cs : List Column) → In p (placed_from o s size a d cs)
     → Within s size a (structure_end s size a cs) p
 unfolding with_places places_from structures_end sizes_of
 placed-within {p = p} o s size a d [] x' = elim x' [ ]
-placed-within {p = p} o s size a d (c ∷ cs) i = go i (placed-within {p = p} o s size next later cs)
-  where
-    next : ℕ
-    next = a + structure_size s size c
-
-    later : ℕ
-    later = past_data o.unit (column_sizes s size c) d
-
-    go : In p (placed_at c (places_at o.unit a d (column_sizes s size c)) ∷ placed_from o s size next later cs)
-        → (In p (placed_from o s size next later cs) → Within s size next (structure_end s size next cs) p)
-        → Within s size a (structure_end s size next cs) p
-    go here f = record { begins = le_refl a; ends = structure_grows s size next cs }
-    go (there j) f = let w = f j in record { begins = omega arith; ends = w.ends }
+placed-within {p = p} o s size a d (c ∷ cs) i =
+    let next : ℕ = a + structure_size s size c in
+    let later : ℕ = past_data o.unit (column_sizes s size c) d in
+    first_or (Within s size a (structure_end s size next cs)) (placed_at c (places_at o.unit a d (column_sizes s size c))) (placed_from o s size next later cs) i
+    (record { begins = le_refl a; ends = structure_grows s size next cs })
+    (λ j. let w = placed-within {p = p} o s size next later cs j in record { begins = omega arith; ends = w.ends })
