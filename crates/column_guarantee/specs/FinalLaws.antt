@@ -42,6 +42,7 @@ signal_stands s (signal_data fs) a h = rw append-nil (h _ here)
 module _ {f : List ℕ} (x : Args) where
   of-placed : (ps : List Placed) → ((b : Block) → In b (data_blocks x.image x.block_size ps) → Stands f b.at b.bytes)
       → (p : Placed) → In p ps → ColumnFinal x f p
+  of-placed [] h q x3 = elim x3 [ ]
   of-placed (p ∷ ps) h q here =
       record {
         blocks = payloads-stand _ _ _ (λ b i. h b (in_payload x.image x.block_size p ps i));

@@ -60,6 +60,7 @@ signal_starts u h (signal_data fs) e s = to_is u e h
 pub all_start : (o : Rules) → 0 < o.unit → (s : List ℕ) (size a d : ℕ) (cs : List Column) (p : Placed) → In p (placed_from o s size a d cs)
     → Starts o.unit s size p
 unfolding with_places places_from sizes_of
+all_start o h s size a d [] p x' = elim x' [ ]
 all_start o h s size a d (c ∷ cs) p here =
     record {
       blocks = λ b. rw (← first_some o.unit (column_sizes s size c) d b) (to_is o.unit d h);

@@ -45,11 +45,13 @@ block_of s chain memo fh c = block c.to (copied_bytes s chain memo fh c.from)
 module _ (s chain : List ℕ) (memo : List Copy) (fh : ℕ) {c : Copy} where
   pub copied_in : (cs : List Copy) → In c cs → In (block_of s chain memo fh c) (copied_blocks s chain memo fh cs)
   unfolding copied_blocks
+  copied_in [] x' = elim x' [ ]
   copied_in (c ∷ cs) here = here
   copied_in (b ∷ cs) (there i) = there (copied_in cs i)
 
   pub attached_in_lem : (ts : List Attachment) → In c (own_copies ts) → In (block_of s chain memo fh c) (attachment_blocks s chain memo fh ts)
   unfolding own_copies attachment_blocks
+  attached_in_lem [] i = elim i [ ]
   attached_in_lem (t ∷ ts) i =
       in_either t.own i (λ j. in_front_lem _ (copied_in t.own j)) (λ j. in_back (copied_blocks s chain memo fh t.own) (there (attached_in_lem ts j)))
 
@@ -63,6 +65,7 @@ pub record Structured (o : Rules) (s : List ℕ) (size : ℕ) (memo : List Copy)
 pub structured : (o : Rules) (s : List ℕ) (size : ℕ) (memo : List Copy) (ats : List Attachment) (all ps : List Placed) (p : Placed) → In p ps
     → Structured o s size memo ats all (structure_blocks o s size memo ats all ps) p
 unfolding structure_blocks
+structured o s size memo ats all [] p x' = elim x' [ ]
 structured o s size memo ats all (q ∷ ps) p here = record { next = next_dg ps; dg = here; cg = there here; cn = there (there here) }
 structured o s size memo ats all (q ∷ ps) p (there i) =
     let r = structured o s size memo ats all ps p i in

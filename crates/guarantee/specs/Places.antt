@@ -56,6 +56,7 @@ part-short i n l = simp (length-take, length-drop) (omega arith)
 
 pub fragments_few : (fs : List Fragment) (is : List Item) (d : DataGroup) → In d (data_groups_of fs is) → length d.fragments ≤ length fs
 unfolding data_groups_of
+fragments_few fs [] d i = elim i [ ]
 fragments_few fs (dg a n ∷ is) d here = part-short n (up_to (length fs) is - n) fs
 fragments_few fs (dg a n ∷ is) d (there i) = fragments_few fs is d i
 fragments_few fs (cg a ∷ is) d i = fragments_few fs is d i
@@ -121,6 +122,7 @@ pub record DataWithin (d k : ℕ) (p : Placed) : Type 0 where
 pub data_within : (o : Rules) → IsUnit o.unit → (s : List ℕ) (size a d : ℕ) (cs : List Column) (p : Placed) → length s ≤ 4294967296
     → ((c : Column) → In c cs → Sized s c) → In p (placed_from o s size a d cs) → DataWithin d (length cs) p
 unfolding with_places places_from sizes_of
+data_within o u s size a d [] p h z x3 = elim x3 [ ]
 data_within o u s size a d (c ∷ cs) p h z here =
     let w = past-within o.unit u s size d c h (z c here) in
     let m = suc-mul (length cs) 120000000000000 in
@@ -150,5 +152,6 @@ data_ends o u s size d (c ∷ cs) h z =
 
 pub in_column : (o : Rules) (s : List ℕ) (size a d : ℕ) (cs : List Column) (p : Placed) → In p (placed_from o s size a d cs) → In p.column cs
 unfolding with_places places_from sizes_of
+in_column o s size a d [] p x' = elim x' [ ]
 in_column o s size a d (c ∷ cs) p here = here
 in_column o s size a d (c ∷ cs) p (there i) = there (in_column o s size _ _ cs p i)

@@ -128,10 +128,12 @@ LosesChannels (base_checked.ok d) =
 LosesChannels (base_checked.refused number place) = ⊥
 
 in_single : (b a : ℕ) → In a (b ∷ []) → a ≡ b
+in_single b a (there x3) = elim x3 [ ]
 in_single b a here = refl
 
 not_first : (a : ℕ) (g : plan_columns.SrcGroup) (b : ℕ) → g.channels ≡ b ∷ [] → (a ≡ b → ⊥) → (h : plan_columns.SrcGroup) → In h (g ∷ [])
     → In a h.channels → ⊥
+not_first a g b e n h (there x4) i = elim x4 [ ]
 not_first a g b e n h here i = n (in_single b a (subst (In a) e i))
 
 pub loses_channels : LosesChannels (result_result.decided args)
@@ -187,6 +189,7 @@ no_reason gs o k a r (OmissionDue.of_group h i s q e d) = omega (arith, a, q, k 
 
 -- the only member
 pub one_at : (g h : plan_columns.SrcGroup) → In h (g ∷ []) → h.at ≡ g.at
+one_at g h (there x3) = elim x3 [ ]
 one_at g h here = refl
 
 -- whatever omissions, places, bytes and list

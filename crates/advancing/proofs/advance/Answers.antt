@@ -17,7 +17,7 @@ loop-rest-init c =
 pub loop-rest-preserved : goal.loop-rest-preserved
 loop-rest-preserved c =
     let n = c.step-r.auto.k in (
-      going_turn c.loop-rest.invariant.0 c.loop-rest-test.true c.step-r.ensures.1 (record {
+      going_turn c.loop-rest.invariant.0 c.loop-rest-test.true c.step-r.ensures.bounded (record {
         whole = n.1.1.1.1.1.1.1.1.1.1.1.0;
         listed = n.1.1.1.1.1.1.1.1.1.1.1.1.0;
         source = n.1.1.1.1.1.0;
@@ -27,12 +27,9 @@ loop-rest-preserved c =
         stretches = n.1.1.1.1.1.1.1.1.1.0;
         offsets = n.1.1.1.1.1.1.1.1.1.1.0;
       }),
-      λ h l m. right_turn _ _ _ _ c.loop-rest.invariant.0 _ c.loop-rest-test.true c.step-r.ensures.1 c.step-r.ensures.0 (c.loop-rest.invariant.1 h l m) l m,
+      λ h l m. right_turn _ _ _ _ c.loop-rest.invariant.0 _ c.loop-rest-test.true c.step-r.ensures.bounded c.step-r.ensures.right (c.loop-rest.invariant.1 h l m) l m,
     )
 
 pub returns : goal.returns
 returns c =
-    let n = c.least-rest.ensures ∙ ap (min _) c.left.ensures in (
-      λ h l m. right_end _ _ _ _ c.loop-rest.invariant.0 _ n (omega (arith, c.loop-rest-test.false)) h (c.loop-rest.invariant.1 h l m),
-      going_end c.loop-rest.invariant.0 _ n (omega (arith, c.loop-rest-test.false)),
-    )
+    let n = c.least-rest.ensures ∙ ap (min _) c.left.ensures in record { right = λ h l m. right_end _ _ _ _ c.loop-rest.invariant.0 _ n (omega (arith, c.loop-rest-test.false)) h (c.loop-rest.invariant.1 h l m); bounded = going_end c.loop-rest.invariant.0 _ n (omega (arith, c.loop-rest-test.false)) }

@@ -13,20 +13,20 @@ returns-then-memo-lt6400 c = λ t x. c.sought_link-then-memo-lt6400.ensures t
 pub returns-then-left-eq0 : goal.returns-then-left-eq0
 returns-then-left-eq0 c = λ t x.
     let s = c.args in
-    let f = c.place_in-i.ensures.1 (x (omega arith) (omega arith)) in
+    let f = c.place_in-i.ensures.first (x (omega arith) (omega arith)) in
     first-none s.image.now s.memo.now _ s.fh s.a s.chain c.place_in-i.result f (omega arith) (omega arith)
     (omega arith) (c.own_link.ensures t)
 
 pub returns-then-left-eq1 : goal.returns-then-left-eq1
 returns-then-left-eq1 c = λ t x.
     let s = c.args in
-    let f = c.place_in-i.ensures.1 (x (omega arith) (omega arith)) in
+    let f = c.place_in-i.ensures.first (x (omega arith) (omega arith)) in
     first_last s.image.now s.memo.now _ s.fh s.a s.chain c.place_in-i.result f (omega arith) (omega arith)
     (omega arith)
 
 pub returns : goal.returns
 returns c = λ t x.
     let s = c.args in
-    let f = c.place_in-i.ensures.1 (x (omega arith) (omega arith)) in
+    let f = c.place_in-i.ensures.first (x (omega arith) (omega arith)) in
     first_next s.image.now s.memo.now _ s.fh s.a s.chain c.place_in-i.result f (omega arith)
     (omega arith) (omega arith) (c.link_by.ensures t)

@@ -20,7 +20,7 @@ pub returns-then-apart : goal.returns-then-apart
 returns-then-apart c r o k =
     let p = c.width_of-x.ensures.is in
     let q = c.block_count-count.ensures in
-    (k, apart_laid _ r o p q c.if-count-eq0.false _ _ _ (c.size_of-all.ensures.yes (c.if-not-all.false)) (c.apart.ensures c.if-apart.true))
+    (k, apart_laid _ r o p q c.if-count-eq0.false _ _ _ (c.size_of-all.ensures.yes (not-false _ c.if-not-all.false)) (c.apart.ensures c.if-apart.true))
 
 pub lay_own-requires : goal.lay_own-requires
 lay_own-requires c = (c.requires, c.own_of-o.ensures)

@@ -22,7 +22,7 @@ pub returns-in-Refused : goal.returns-in-Refused
 returns-in-Refused c = cleared _ _ _ _ _ _ (work_fine _ _ _ _ c.if-source-lt8192.false c.if-fragments-lt8192.false c.if-columns-lt8192.false c.if-memo-lt8192.false)
     (rest_refused _ _ _ _ _ _ _ _ _ _ _ c.arrange_rest-found.ensures c.in-Refused.is)
     (all-zero c.args.source.now c.args.fragments.now c.args.columns.now c.args.memo.now
-    c.arrange_rest-found.new.1.1.1.1.0 c.arrange_rest-found.new.1.1.1.1.1.0 c.arrange_rest-found.new.1.1.1.1.1.1.0 _ _ _ _
+    c.arrange_rest-found.new.fragments c.arrange_rest-found.new.columns c.arrange_rest-found.new.memo _ _ _ _
     c.arrange_rest-found.auto.fragments c.arrange_rest-found.auto.columns c.arrange_rest-found.auto.memo
     c.clear.ensures c.clear-in-Refused.ensures c.clear-in-Refused-2.ensures c.clear-in-Refused-3.ensures)
 

@@ -20,10 +20,10 @@ pub attach_all-requires : goal.attach_all-requires
 attach_all-requires c = (record { words = omega (arith, c.place_columns-past.auto.memo, c.requires.1); limit = omega arith; few = c.requires.4; near = (placed-at _ _ _ _ _ _ _ _ _ c.place_columns-past.ensures c.in-At-past.is).near }, c.requires.2)
 
 pub returns-in-Over : goal.returns-in-Over
-returns-in-Over c = rest_over c.args.unit c.args.image.now c.args.columns.now c.args.n c.args.out c.args.memo.now c.args.state (c.aligned-a.ensures (omega (arith, c.requires.5))) c.attach_over.new.1.0 c.attach_over.result c.requires.3 c.attach_over.ensures (ends-over _ _ c.structure_end-ends.ensures c.in-Over.is)
+returns-in-Over c = rest_over c.args.unit c.args.image.now c.args.columns.now c.args.n c.args.out c.args.memo.now c.args.state (c.aligned-a.ensures (omega (arith, c.requires.5))) c.attach_over.new.memo c.attach_over.result c.requires.3 c.attach_over.ensures (ends-over _ _ c.structure_end-ends.ensures c.in-Over.is)
 
 pub returns-in-Over-past : goal.returns-in-Over-past
-returns-in-Over-past c = rest-past c.args.unit c.args.image.now c.args.columns.now c.args.n c.args.out c.args.memo.now c.args.state (c.aligned-a.ensures (omega (arith, c.requires.5))) (ends_at _ _ c.structure_end-ends.ensures c.in-At.is).0 c.attach_over-in-Over-past.new.1.0 c.attach_over-in-Over-past.result (placed-over _ _ _ _ _ _ _ _ _ c.place_columns-past.ensures c.in-Over-past.is) c.requires.4 c.attach_over-in-Over-past.ensures
+returns-in-Over-past c = rest-past c.args.unit c.args.image.now c.args.columns.now c.args.n c.args.out c.args.memo.now c.args.state (c.aligned-a.ensures (omega (arith, c.requires.5))) (ends_at _ _ c.structure_end-ends.ensures c.in-At.is).0 c.attach_over-in-Over-past.new.memo c.attach_over-in-Over-past.result (placed-over _ _ _ _ _ _ _ _ _ c.place_columns-past.ensures c.in-Over-past.is) c.requires.4 c.attach_over-in-Over-past.ensures
 
 pub returns-in-At-past : goal.returns-in-At-past
-returns-in-At-past c = rest-placed c.args.unit c.args.image.now c.args.columns.now c.args.n c.args.out c.args.memo.now c.args.state (c.aligned-a.ensures (omega (arith, c.requires.5))) (ends_at _ _ c.structure_end-ends.ensures c.in-At.is).0 (placed-at _ _ _ _ _ _ _ _ _ c.place_columns-past.ensures c.in-At-past.is) c.requires.4 c.attach_all.new.1.0 c.attach_all.result c.attach_all.ensures
+returns-in-At-past c = rest-placed c.args.unit c.args.image.now c.args.columns.now c.args.n c.args.out c.args.memo.now c.args.state (c.aligned-a.ensures (omega (arith, c.requires.5))) (ends_at _ _ c.structure_end-ends.ensures c.in-At.is).0 (placed-at _ _ _ _ _ _ _ _ _ c.place_columns-past.ensures c.in-At-past.is) c.requires.4 c.attach_all.new.memo c.attach_all.result c.attach_all.ensures

@@ -27,10 +27,10 @@ pub put_some-m-requires : goal.put_some-m-requires
 put_some-m-requires c = let p = c.requires in (p.0, omega arith, omega (arith, p.1), refl, running_room c.loop-count.invariant p.2)
 
 pub overflow_mul-index : goal.overflow_mul-index
-overflow_mul-index c = omega (arith, running_some c.loop-count.invariant c.put_some-m.result c.put_some-m.ensures.few c.requires.2, c.well-formed.0)
+overflow_mul-index c = omega (arith, running_some c.loop-count.invariant c.put_some-m.result c.put_some-m.ensures.few c.requires.2, c.well_formed.0)
 
 pub overflow_add-index : goal.overflow_add-index
-overflow_add-index c = omega (arith, running_some c.loop-count.invariant c.put_some-m.result c.put_some-m.ensures.few c.requires.2, c.well-formed.0)
+overflow_add-index c = omega (arith, running_some c.loop-count.invariant c.put_some-m.result c.put_some-m.ensures.few c.requires.2, c.well_formed.0)
 
 pub overflow_add-count : goal.overflow_add-count
 overflow_add-count c = omega (arith, c.put_some-m.ensures.few, c.ranges.n)
@@ -40,7 +40,7 @@ loop-count-smaller c = let e = c.put_some-m.ensures in omega (arith, e.some, e.f
 
 pub loop-count-preserved : goal.loop-count-preserved
 loop-count-preserved c =
-    running_turn c.loop-count.invariant c.put_some-m.result _ c.requires.1 (omega arith) (omega (arith, c.well-formed.1)) (c.reach-near.ensures c.args.image.now)
+    running_turn c.loop-count.invariant c.put_some-m.result _ c.requires.1 (omega arith) (omega (arith, c.well_formed.1)) (c.reach-near.ensures c.args.image.now)
     c.put_some-m.ensures (omega (arith, c.put_some-m.auto.out)) refl refl
 
 pub returns : goal.returns

@@ -5,6 +5,8 @@ use Rattle.places.specs.FacingLaws.{not-false}
 use Rattle.comparing.specs.ComparableLaws.{alike, times-unfit, times_unfitting, times-bytes, times_keep, times_empty, times-by}
 use borrow.Author.Rules.{rules}
 use native.Mathlib.Omega.{arith}
+use Rattle.std.specs.Prelude.{not}
+use Rattle.std.proofs.Common.{ap}
 use Rattle.comparing.proofs.times.times_same.Goals as goal
 
 -- the forms of both masters' cells
@@ -15,10 +17,10 @@ two : (c : tie.After-shape-of2) → ShapeOf c.before.before.before.before.before
 two c = c.shape-of2.ensures (sym c.before.before.before.fits-in2.ensures ∙ not-false _ c.before.before.if2.false)
 
 pub returns-then-not-fits_in : goal.returns-then-not-fits_in
-returns-then-not-fits_in c = times-unfit c.fits_in.ensures c.if-not-fits_in.true
+returns-then-not-fits_in c = times-unfit c.fits_in.ensures (ap not c.if-not-fits_in.true)
 
 pub returns-then-not-fits_in-2 : goal.returns-then-not-fits_in-2
-returns-then-not-fits_in-2 c = times_unfitting c.fits_in-2.ensures c.if-not-fits_in-2.true
+returns-then-not-fits_in-2 c = times_unfitting c.fits_in-2.ensures (ap not c.if-not-fits_in-2.true)
 
 pub returns-then-h-i : goal.returns-then-h-i
 returns-then-h-i c = times-bytes (one c.before.before.before) (two c.before.before.before) (omega arith)

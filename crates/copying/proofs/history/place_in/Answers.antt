@@ -13,16 +13,16 @@ pub loop-i-init : goal.loop-i-init
 loop-i-init c = (omega arith, refl, λ t. chase_begin _ _ _ _ t c.wide-i.ensures refl)
 
 pub returns-then-most-i : goal.returns-then-most-i
-returns-then-most-i c = (omega arith, λ t. let u = c.loop-i.invariant.2 t in absurd (omega (arith, u.order, u.most)))
+returns-then-most-i c = record { within = omega arith; first = λ t. let u = c.loop-i.invariant.2 t in absurd (omega (arith, u.order, u.most)) }
 
 pub returns-then-i-older : goal.returns-then-i-older
-returns-then-i-older c = (
-  omega arith,
-  λ t.
+returns-then-i-older c = record {
+  within = omega arith;
+  first = λ t.
       let u = c.loop-i.invariant.2 t in
       let k = chase_less u c.loop-i-test.true _ t c.wide-older.ensures in
-      absurd (omega arith),
-)
+      absurd (omega arith);
+}
 
 pub loop-i-preserved : goal.loop-i-preserved
 loop-i-preserved c = (
@@ -36,4 +36,4 @@ loop-i-preserved c = (
 )
 
 pub returns : goal.returns
-returns c = (c.loop-i.invariant.0, λ t. chase_end (c.loop-i.invariant.2 t) (omega arith))
+returns c = record { within = c.loop-i.invariant.0; first = λ t. chase_end (c.loop-i.invariant.2 t) (omega arith) }

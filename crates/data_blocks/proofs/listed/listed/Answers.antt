@@ -47,7 +47,7 @@ overflow_sub-f c =
     omega (arith, mod-lt c.loop-at.at r.0)
 
 pub overflow_add-from : goal.overflow_add-from
-overflow_add-from c = omega (arith, c.requires.3, c.well-formed.1)
+overflow_add-from c = omega (arith, c.requires.3, c.well_formed.1)
 
 pub overflow_add-result : goal.overflow_add-result
 overflow_add-result c = let q = turn (c.before.before.before.before.before.before.before) in omega (arith, q.within, c.put_gathered-r.ensures.0, c.ranges.n)

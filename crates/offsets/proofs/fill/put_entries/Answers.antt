@@ -12,7 +12,7 @@ pub loop-j-init : goal.loop-j-init
 loop-j-init c = (omega arith, refl, entries_begin _ _ _ _ _ _)
 
 pub put_entry-requires : goal.put_entry-requires
-put_entry-requires c = omega (arith, c.requires.1, c.loop-j.invariant.1)
+put_entry-requires c = omega (arith, c.requires.groups_in_bounds, c.loop-j.invariant.1)
 
 pub loop-j-preserved : goal.loop-j-preserved
 loop-j-preserved c = (omega arith, omega arith, entries-more c.loop-j.invariant.2 c.put_entry.ensures)

@@ -7,16 +7,16 @@ use native.Mathlib.Omega.{arith}
 use Rattle.offsets.proofs.note.pass.Goals as goal
 
 pub records-init : goal.records-init
-records-init c = going_begin _ _ _ _ _ _ _ _ c.requires.0 c.requires.1
+records-init c = going_begin _ _ _ _ _ _ _ _ c.requires.ordered c.requires.zeros
 
 pub returns-then-not-r : goal.returns-then-not-r
-returns-then-not-r c = going_done _ _ _ _ _ _ _ _ c.requires.0 c.records.invariant
+returns-then-not-r c = going_done _ _ _ _ _ _ _ _ c.requires.ordered c.records.invariant
 
 pub note-requires : goal.note-requires
-note-requires c = rw c.records.invariant.size c.requires.0
+note-requires c = rw c.records.invariant.size c.requires.ordered
 
 pub records-smaller : goal.records-smaller
-records-smaller c = let f = c.next_record-r.ensures.further (c.if-not-r.false) in omega (arith, f.0, f.1)
+records-smaller c = let f = c.next_record-r.ensures.further (not-false _ c.if-not-r.false) in omega (arith, f.0, f.1)
 
 pub records-preserved : goal.records-preserved
-records-preserved c = going_record _ _ _ _ _ _ _ _ c.requires.0 c.records.invariant c.next_record-r.ensures (c.if-not-r.false) c.note.ensures
+records-preserved c = going_record _ _ _ _ _ _ _ _ c.requires.ordered c.records.invariant c.next_record-r.ensures (not-false _ c.if-not-r.false) c.note.ensures

@@ -15,10 +15,10 @@ pub returns-then-not-r : goal.returns-then-not-r
 returns-then-not-r c = passing_done _ _ _ _ _ _ _ _ c.records.invariant.0
 
 pub returns-then-not-kept : goal.returns-then-not-kept
-returns-then-not-kept c = passing_out _ _ _ _ _ _ _ _ c.records.invariant.0 c.next_record-r.ensures (c.if-not-r.false) c.take-kept.ensures.0
+returns-then-not-kept c = passing_out _ _ _ _ _ _ _ _ c.records.invariant.0 c.next_record-r.ensures (not-false _ c.if-not-r.false) c.take-kept.ensures.0
 
 pub records-smaller : goal.records-smaller
-records-smaller c = omega (arith, (c.next_record-r.ensures.further (c.if-not-r.false)).0, (c.next_record-r.ensures.further (c.if-not-r.false)).1)
+records-smaller c = omega (arith, (c.next_record-r.ensures.further (not-false _ c.if-not-r.false)).0, (c.next_record-r.ensures.further (not-false _ c.if-not-r.false)).1)
 
 pub records-preserved : goal.records-preserved
-records-preserved c = (passing_record _ _ _ _ _ _ _ _ c.records.invariant.0 c.next_record-r.ensures (c.if-not-r.false) c.take-kept.ensures.0 c.records.invariant.1 (c.take-kept.ensures.1 (c.if-not-kept.false)), passing_counted _ _ _ _ _ _ _ _ c.records.invariant.0 c.next_record-r.ensures (c.if-not-r.false) c.take-kept.ensures.0 c.records.invariant.1 (c.take-kept.ensures.1 (c.if-not-kept.false)), omega arith)
+records-preserved c = (passing_record _ _ _ _ _ _ _ _ c.records.invariant.0 c.next_record-r.ensures (not-false _ c.if-not-r.false) c.take-kept.ensures.0 c.records.invariant.1 (c.take-kept.ensures.1 (c.if-not-kept.false)), passing_counted _ _ _ _ _ _ _ _ c.records.invariant.0 c.next_record-r.ensures (not-false _ c.if-not-r.false) c.take-kept.ensures.0 c.records.invariant.1 (c.take-kept.ensures.1 (c.if-not-kept.false)), omega arith)

@@ -10,22 +10,22 @@ pub records-init : goal.records-init
 records-init c = going_begin _ _ _ _ _ _ _ _
 
 pub returns-then-not-r : goal.returns-then-not-r
-returns-then-not-r c = next_end _ _ _ _ _ _ _ _ c.records.invariant c.next_record-r.ensures (c.if-not-r.true)
+returns-then-not-r c = next_end _ _ _ _ _ _ _ _ c.records.invariant c.next_record-r.ensures (not-true _ c.if-not-r.true)
 
 pub returns-then-more-stretch : goal.returns-then-more-stretch
 returns-then-more-stretch c = next_stop _ _ _ _ _ _ _ _ c.records.invariant c.next_record-r.ensures c.longer-more.ensures c.if-more-stretch.true
 
 pub returns-then-c : goal.returns-then-c
-returns-then-c c = next-many _ _ _ _ _ _ _ _ c.records.invariant c.next_record-r.ensures (c.if-not-r.false) c.if-r-k.true (omega arith)
+returns-then-c c = next-many _ _ _ _ _ _ _ _ c.records.invariant c.next_record-r.ensures (not-false _ c.if-not-r.false) c.if-r-k.true (omega arith)
 
 pub records-smaller-then-r-k : goal.records-smaller-then-r-k
-records-smaller-then-r-k c = omega (arith, (c.next_record-r.ensures.further (c.if-not-r.false)).0, (c.next_record-r.ensures.further (c.if-not-r.false)).1)
+records-smaller-then-r-k c = omega (arith, (c.next_record-r.ensures.further (not-false _ c.if-not-r.false)).0, (c.next_record-r.ensures.further (not-false _ c.if-not-r.false)).1)
 
 pub records-preserved-then-r-k : goal.records-preserved-then-r-k
-records-preserved-then-r-k c = going_own _ _ _ _ _ _ _ _ c.records.invariant c.next_record-r.ensures (c.if-not-r.false) c.if-r-k.true c.longer-more.ensures c.if-more-stretch.false
+records-preserved-then-r-k c = going_own _ _ _ _ _ _ _ _ c.records.invariant c.next_record-r.ensures (not-false _ c.if-not-r.false) c.if-r-k.true c.longer-more.ensures c.if-more-stretch.false
 
 pub records-smaller : goal.records-smaller
-records-smaller c = omega (arith, (c.next_record-r.ensures.further (c.if-not-r.false)).0, (c.next_record-r.ensures.further (c.if-not-r.false)).1)
+records-smaller c = omega (arith, (c.next_record-r.ensures.further (not-false _ c.if-not-r.false)).0, (c.next_record-r.ensures.further (not-false _ c.if-not-r.false)).1)
 
 pub records-preserved : goal.records-preserved
-records-preserved c = going_other _ _ _ _ _ _ _ _ c.records.invariant c.next_record-r.ensures (c.if-not-r.false) c.if-r-k.false
+records-preserved c = going_other _ _ _ _ _ _ _ _ c.records.invariant c.next_record-r.ensures (not-false _ c.if-not-r.false) c.if-r-k.false

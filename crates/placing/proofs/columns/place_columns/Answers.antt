@@ -37,4 +37,4 @@ loop-left-preserved c = place_next c.loop-left.invariant c.loop-left-test.true c
     c.structure_at-dg.ensures c.put_place.ensures c.signal_end-past.ensures
 
 pub returns : goal.returns
-returns c = (place_ends c.loop-left.invariant (omega arith), place_words_lem c.loop-left.invariant (omega arith))
+returns c = record { end = place_ends c.loop-left.invariant (omega arith); words = place_words_lem c.loop-left.invariant (omega arith) }

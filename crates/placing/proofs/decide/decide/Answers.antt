@@ -64,10 +64,10 @@ returns-in-Refused-found c =
     c.decide_rest-found.ensures
     c.in-Refused-found.is)
     (cleared a.source.now a.fragments.now a.columns.now a.copies.now
-    c.decide_rest-found.new.1.1.1.1.1.0
-    c.decide_rest-found.new.1.1.1.1.1.1.0
-    c.decide_rest-found.new.1.1.1.1.1.1.1.0
-    c.decide_rest-found.new.1.1.1.1.1.1.1.1.0
+    c.decide_rest-found.new.source
+    c.decide_rest-found.new.fragments
+    c.decide_rest-found.new.columns
+    c.decide_rest-found.new.copies
     _ _ _ _ (omega arith) (omega arith) (omega arith) (omega arith)
     c.clear.ensures
     c.clear-in-Refused-found.ensures

@@ -38,7 +38,7 @@ place_rest-rest-requires c =
     let r = columns_ready o
     c.first_copies-begun.auto.memo
     h.1 z in
-    let y = after-at (c.copy_columns-got.ensures.1 r h.0)
+    let y = after-at (c.copy_columns-got.ensures.after r h.0)
     c.in-At-got.is in (
       h.0,
       omega (
@@ -83,14 +83,14 @@ returns-in-At-rest c =
     h.1 z in
     whole_done _ _ _ _ _ _ _ _ _ o i
     c.md_bytes.ensures
-    (c.copy_columns-got.ensures.0 r
+    (c.copy_columns-got.ensures.copied r
     h.0) c.in-At-got.is
     (rests_at _ _ _ _ _ _ _ _ _ _ _ c.place_rest-rest.ensures
     c.in-At-rest.is)
     c.first_copies-begun.auto.memo
     c.copy_columns-got.auto.memo
     c.place_rest-rest.auto.memo h.1
-    (c.copy_columns-got.ensures.1 r
+    (c.copy_columns-got.ensures.after r
     h.0)
 
 pub returns-in-Refused-rest : goal.returns-in-Refused-rest
@@ -112,7 +112,7 @@ returns-in-Refused-rest c =
     h.1 z in
     whole_rest _ _ _ _ _ _ _ _ _ o i
     c.md_bytes.ensures
-    (c.copy_columns-got.ensures.0 r
+    (c.copy_columns-got.ensures.copied r
     h.0) c.in-At-got.is _
     c.place_rest-rest.ensures c.in-Refused-rest.is
 
@@ -129,7 +129,7 @@ returns-in-Refused-got c =
     c.first_copies-begun.auto.memo
     h.1 z in
     whole_columns _ _ _ _ _ _ _ _ _ o i c.md_bytes.ensures
-    (c.copy_columns-got.ensures.0 r h.0) c.in-Refused-got.is
+    (c.copy_columns-got.ensures.copied r h.0) c.in-Refused-got.is
 
 pub returns-in-Refused : goal.returns-in-Refused
 returns-in-Refused c =

@@ -44,8 +44,8 @@ returns-in-At c =
     (c.aligned-a.ensures
     (omega (arith, h.4)))
     c.structure_end-end.ensures
-    c.place_columns-data.ensures.0
-    c.place_columns-data.ensures.1
+    c.place_columns-data.ensures.end
+    c.place_columns-data.ensures.words
     c.link_at.ensures h.3 _
     (c.attachments-moved.ensures
     (record {
@@ -65,8 +65,8 @@ returns-in-Refused c =
     (c.aligned-a.ensures
     (omega (arith, h.4)))
     c.structure_end-end.ensures
-    c.place_columns-data.ensures.0
-    c.place_columns-data.ensures.1
+    c.place_columns-data.ensures.end
+    c.place_columns-data.ensures.words
     c.link_at.ensures h.3 _ _
     (c.attachments-moved.ensures
     (record {

@@ -9,7 +9,7 @@ overflow_sub-count c = omega (
   arith,
   channel_bounds _ _ _ _ _ _ _
       c.decide-decision.result
-      c.decide-decision.new.1.1.1.0
+      c.decide-decision.new.fragments
       c.decide-decision.ensures c.in-Kept.is
       (omega arith),
 )

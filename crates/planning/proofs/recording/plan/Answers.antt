@@ -32,9 +32,9 @@ returns-in-Refused c = λ short. plan_refused _ _ _ _ _ _ (omega (
       arith,
       c.if-columns-lt6144.false,
     ))
-    c.plan_all-answer.new.1.1.1.1.0
-    c.plan_all-answer.new.1.1.1.1.1.0
-    c.plan_all-answer.new.1.1.1.1.1.1.0
+    c.plan_all-answer.new.source
+    c.plan_all-answer.new.fragments
+    c.plan_all-answer.new.columns
     _ (c.plan_all-answer.ensures short)
     c.in-Refused.is
     (search rules) (search rules) (search rules)
@@ -51,7 +51,7 @@ returns c = λ short. plan_done _ _ _ _ _ _ (omega (
       c.if-fragments-lt3072.false,
     )) (omega
     (arith, c.if-columns-lt6144.false))
-    c.plan_all-answer.new.1.1.1.1.0
-    c.plan_all-answer.new.1.1.1.1.1.0
-    c.plan_all-answer.new.1.1.1.1.1.1.0 _
+    c.plan_all-answer.new.source
+    c.plan_all-answer.new.fragments
+    c.plan_all-answer.new.columns _
     (c.plan_all-answer.ensures short) c.in_default.is

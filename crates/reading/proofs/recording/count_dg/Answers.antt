@@ -5,5 +5,5 @@ use Rattle.reading.proofs.recording.count_dg.Goals as goal
 
 pub returns : goal.returns
 returns c =
-    count_lent _ _ _ _ _ _ _ _ _ c.count_groups.result c.count_groups.new.1.1.1.1.0
+    count_lent _ _ _ _ _ _ _ _ _ c.count_groups.result c.count_groups.new.counts
     c.count_groups.ensures

@@ -6,28 +6,22 @@ use borrow.Author.Rules.{rules}
 use Rattle.reading.proofs.recording.met_cg.Goals as goal
 
 pub returns-in-Refused : goal.returns-in-Refused
-returns-in-Refused c = (cg_refused _ _ _ _ _ _ c.visit-met.ensures.0 c.in-Refused.is, tt)
+returns-in-Refused c = record { met = cg_refused _ _ _ _ _ _ c.visit-met.ensures.met c.in-Refused.is; indexed = tt }
 
 pub returns-in-Refused-named : goal.returns-in-Refused-named
-returns-in-Refused-named c = (
-  cg_unnamed _ _ _ _ _ _ c.visit-met.ensures.0 c.in_default.is c.link_at.ensures c.name_at-named.ensures c.in-Refused-named.is,
-  tt,
-)
+returns-in-Refused-named c = record { met = cg_unnamed _ _ _ _ _ _ c.visit-met.ensures.met c.in_default.is c.link_at.ensures c.name_at-named.ensures c.in-Refused-named.is; indexed = tt }
 
 pub overflow_add-source : goal.overflow_add-source
 overflow_add-source c =
-    let l = cg-room _ _ _ _ _ _ c.visit-met.ensures.0 c.in_default.is in omega arith
+    let l = cg-room _ _ _ _ _ _ c.visit-met.ensures.met c.in_default.is in omega arith
 
 pub offset_bounds-source-k : goal.offset_bounds-source-k
 offset_bounds-source-k c =
-    let l = cg-room _ _ _ _ _ _ c.visit-met.ensures.0 c.in_default.is in omega arith
+    let l = cg-room _ _ _ _ _ _ c.visit-met.ensures.met c.in_default.is in omega arith
 
 pub bounds-source-k : goal.bounds-source-k
 bounds-source-k c =
-    let l = cg-room _ _ _ _ _ _ c.visit-met.ensures.0 c.in_default.is in omega arith
+    let l = cg-room _ _ _ _ _ _ c.visit-met.ensures.met c.in_default.is in omega arith
 
 pub returns : goal.returns
-returns c = (
-  cg-named _ _ _ _ _ _ c.visit-met.ensures.0 c.in_default.is c.link_at.ensures c.name_at-named.ensures c.in_default-named.is,
-  indexed_set _ _ _ _ _ (omega arith) (index_fine _ _ _ _ c.visit-met.ensures.1 c.in_default.is),
-)
+returns c = record { met = cg-named _ _ _ _ _ _ c.visit-met.ensures.met c.in_default.is c.link_at.ensures c.name_at-named.ensures c.in_default-named.is; indexed = indexed_set _ _ _ _ _ (omega arith) (index_fine _ _ _ _ c.visit-met.ensures.indexed c.in_default.is) }

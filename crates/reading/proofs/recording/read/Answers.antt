@@ -17,10 +17,10 @@ returns-then-fragments-lt3072 c = lt_no _ _ _ _ (omega arith) (lt_yes _ _ _ _ (o
 
 pub returns-in-Refused : goal.returns-in-Refused
 returns-in-Refused c =
-    read_refused _ _ _ (omega arith) (omega arith) c.read_all-answer.new.fragments c.read_all-answer.new.1.1.0 c.read_all-answer.ensures
+    read_refused _ _ _ (omega arith) (omega arith) c.read_all-answer.new.source c.read_all-answer.new.fragments c.read_all-answer.ensures
     c.in-Refused.is (omega arith) (omega arith) c.clear.ensures c.clear-in-Refused.ensures
 
 pub returns : goal.returns
 returns c =
-    read_done _ _ _ (omega arith) (omega arith) c.read_all-answer.new.fragments c.read_all-answer.new.1.1.0 c.read_all-answer.ensures
+    read_done _ _ _ (omega arith) (omega arith) c.read_all-answer.new.source c.read_all-answer.new.fragments c.read_all-answer.ensures
     c.in_default.is

@@ -13,8 +13,8 @@ count_into-counted-requires c =
 
 pub returns-in-Refused-met : goal.returns-in-Refused-met
 returns-in-Refused-met c =
-    all_stopped _ _ _ c.identify-known.ensures c.in_default.is c.walk-met.new.1.1.0
-    c.walk-met.new.1.1.1.0
+    all_stopped _ _ _ c.identify-known.ensures c.in_default.is c.walk-met.new.source
+    c.walk-met.new.fragments
     c.walk-met.ensures c.in-Refused-met.is
 
 pub returns-in-Refused-counted : goal.returns-in-Refused-counted

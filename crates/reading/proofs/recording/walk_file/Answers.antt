@@ -8,4 +8,4 @@ use Rattle.reading.proofs.recording.walk_file.Goals as goal
 
 pub returns : goal.returns
 returns c =
-    without-pieces file_limits _ _ c.walk.new.1.1.0 [] c.walk.new.1.1.1.0 c.walk.result c.walk.ensures refl c.walk.auto.fragments
+    without-pieces file_limits _ _ c.walk.new.source [] c.walk.new.fragments c.walk.result c.walk.ensures refl c.walk.auto.fragments

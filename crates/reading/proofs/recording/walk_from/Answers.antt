@@ -25,14 +25,14 @@ visit-met-requires c = let r = c.walk.invariant.0.within in (omega (arith, r), r
 pub groups-init : goal.groups-init
 groups-init c = (
   begin _ _ _ _ _ (data_within _ _ _ _ c.take_data-taken.ensures (after_done _ _ c.in-Done.is)
-      (fragments_for c.args.file) (dg-within _ _ _ c.walk.invariant.0.within c.visit-met.ensures.0 (after-fine _ _ c.in_default.is) (omega
+      (fragments_for c.args.file) (dg-within _ _ _ c.walk.invariant.0.within c.visit-met.ensures.met (after-fine _ _ c.in_default.is) (omega
       arith))),
-  index_fine _ _ _ _ c.visit-met.ensures.1 c.in_default.is,
+  index_fine _ _ _ _ c.visit-met.ensures.indexed c.in_default.is,
 )
 
 pub walk-smaller : goal.walk-smaller
 walk-smaller c =
-    let r = dg-within _ _ _ c.walk.invariant.0.within c.visit-met.ensures.0 (after-fine _ _ c.in_default.is)
+    let r = dg-within _ _ _ c.walk.invariant.0.within c.visit-met.ensures.met (after-fine _ _ c.in_default.is)
     (omega arith) in
     omega arith
 
@@ -40,7 +40,7 @@ pub walk-preserved : goal.walk-preserved
 walk-preserved c = (
   turn_on c.walk.invariant.0 c.if-dg-eq0.false c.walk.invariant.0.within.dg-room
       (dg-block _ _ _ _ c.link_at-cg.ensures
-      (dg-gives _ _ _ c.walk.invariant.0.within c.visit-met.ensures.0 (after-fine _ _ c.in_default.is))
+      (dg-gives _ _ _ c.walk.invariant.0.within c.visit-met.ensures.met (after-fine _ _ c.in_default.is))
       (data_gives _ _ _ _ c.take_data-taken.ensures (after_done _ _ c.in-Done.is))
       (turn_end c.groups.invariant.0 c.groups-test.false c.groups.invariant.0.within.cg-room))
       c.link_at-dg.ensures (omega arith) c.groups.invariant.0.within (omega arith) (omega arith),
@@ -53,14 +53,14 @@ met_cg-met-requires c = let r = c.groups.invariant.0.within in (omega (arith, r)
 pub channels-init : goal.channels-init
 channels-init c = (
   begin _ _ _ _ _ (cg-within _ _ _ c.groups.invariant.0.within
-      c.met_cg-met.ensures.0 (after-fine _ _
+      c.met_cg-met.ensures.met (after-fine _ _
       c.in_default-met.is) (omega arith)),
-  index_fine _ _ _ _ c.met_cg-met.ensures.1 c.in_default-met.is,
+  index_fine _ _ _ _ c.met_cg-met.ensures.indexed c.in_default-met.is,
 )
 
 pub groups-smaller : goal.groups-smaller
 groups-smaller c =
-    let r = cg-within _ _ _ c.groups.invariant.0.within c.met_cg-met.ensures.0
+    let r = cg-within _ _ _ c.groups.invariant.0.within c.met_cg-met.ensures.met
     (after-fine _ _ c.in_default-met.is) (omega arith) in
     omega arith
 
@@ -69,7 +69,7 @@ groups-preserved c = (
   turn_on c.groups.invariant.0 c.groups-test.true
       c.groups.invariant.0.within.cg-room
       (cg-block _ _ _ c.link_at-cn.ensures
-      (cg-gives _ _ _ c.groups.invariant.0.within c.met_cg-met.ensures.0
+      (cg-gives _ _ _ c.groups.invariant.0.within c.met_cg-met.ensures.met
       (after-fine _ _ c.in_default-met.is))
       (turn_end c.channels.invariant.0 c.channels-test.false c.channels.invariant.0.within.cn-room))
       c.link_at-cg-in-groups.ensures (omega arith) c.channels.invariant.0.within (omega arith) refl,
@@ -81,7 +81,7 @@ met_cn-met-requires c = let r = c.channels.invariant.0.within in (omega (arith, 
 
 pub channels-smaller : goal.channels-smaller
 channels-smaller c =
-    let r = cn-within _ _ _ c.channels.invariant.0.within c.met_cn-met.ensures.0 (after-fine _
+    let r = cn-within _ _ _ c.channels.invariant.0.within c.met_cn-met.ensures.met (after-fine _
     _ c.in_default-met-2.is) (omega arith) in
     omega arith
 
@@ -89,13 +89,13 @@ pub channels-preserved : goal.channels-preserved
 channels-preserved c = (
   turn_on c.channels.invariant.0 c.channels-test.true
       c.channels.invariant.0.within.cn-room
-      (cn-block _ _ (cn-gives _ _ _ c.channels.invariant.0.within c.met_cn-met.ensures.0
+      (cn-block _ _ (cn-gives _ _ _ c.channels.invariant.0.within c.met_cn-met.ensures.met
       (after-fine _ _ c.in_default-met-2.is)))
       c.link_at-cn-in-channels.ensures (omega arith)
-      (cn-within _ _ _ c.channels.invariant.0.within c.met_cn-met.ensures.0 (after-fine _ _
+      (cn-within _ _ _ c.channels.invariant.0.within c.met_cn-met.ensures.met (after-fine _ _
       c.in_default-met-2.is) (omega arith))
       (omega arith) refl,
-  index_fine _ _ _ _ c.met_cn-met.ensures.1 c.in_default-met-2.is,
+  index_fine _ _ _ _ c.met_cn-met.ensures.indexed c.in_default-met-2.is,
 )
 
 pub returns-then-dg-eq0 : goal.returns-then-dg-eq0
@@ -104,14 +104,14 @@ returns-then-dg-eq0 c = walk-gives _ _ _ _ _ (turn_end c.walk.invariant.0 c.if-d
 pub returns-in-Refused : goal.returns-in-Refused
 returns-in-Refused c =
     walk_stops _ _ _ _ _ (turn_stop c.walk.invariant.0 c.if-dg-eq0.false c.walk.invariant.0.within.dg-room
-    (dg-block_stops _ _ _ (dg_stops _ _ _ c.walk.invariant.0.within c.visit-met.ensures.0 (after_refused _ _
+    (dg-block_stops _ _ _ (dg_stops _ _ _ c.walk.invariant.0.within c.visit-met.ensures.met (after_refused _ _
     c.in-Refused.is))))
 
 pub returns-in-Refused-taken : goal.returns-in-Refused-taken
 returns-in-Refused-taken c =
     walk_stops _ _ _ _ _ (turn_stop c.walk.invariant.0 c.if-dg-eq0.false c.walk.invariant.0.within.dg-room
     (dg_data_stops _ _ _
-    (dg-gives _ _ _ c.walk.invariant.0.within c.visit-met.ensures.0 (after-fine _ _ c.in_default.is))
+    (dg-gives _ _ _ c.walk.invariant.0.within c.visit-met.ensures.met (after-fine _ _ c.in_default.is))
     (data_stops _ _ _ _ c.take_data-taken.ensures (after_stopped _ _ c.in-Refused-taken.is))))
 
 pub shape_of-source-in-Refused-met : goal.shape_of-source-in-Refused-met
@@ -124,11 +124,11 @@ pub returns-in-Refused-met : goal.returns-in-Refused-met
 returns-in-Refused-met c =
     walk_stops _ _ _ _ _ (turn_stop c.walk.invariant.0 c.if-dg-eq0.false c.walk.invariant.0.within.dg-room
     (dg-below_stops _ _ _ _ c.link_at-cg.ensures
-    (dg-gives _ _ _ c.walk.invariant.0.within c.visit-met.ensures.0 (after-fine _ _ c.in_default.is))
+    (dg-gives _ _ _ c.walk.invariant.0.within c.visit-met.ensures.met (after-fine _ _ c.in_default.is))
     (data_gives _ _ _ _ c.take_data-taken.ensures (after_done _ _ c.in-Done.is))
     (turn_stop c.groups.invariant.0 c.groups-test.true
     c.groups.invariant.0.within.cg-room
-    (cg-block_stops _ _ (cg_stops _ _ _ c.groups.invariant.0.within c.met_cg-met.ensures.0
+    (cg-block_stops _ _ (cg_stops _ _ _ c.groups.invariant.0.within c.met_cg-met.ensures.met
     (after_refused _ _ c.in-Refused-met.is))))))
 
 pub shape_of-source-in-Refused-met-2 : goal.shape_of-source-in-Refused-met-2
@@ -157,14 +157,14 @@ pub returns-in-Refused-met-2 : goal.returns-in-Refused-met-2
 returns-in-Refused-met-2 c =
     walk_stops _ _ _ _ _ (turn_stop c.walk.invariant.0 c.if-dg-eq0.false c.walk.invariant.0.within.dg-room
     (dg-below_stops _ _ _ _ c.link_at-cg.ensures
-    (dg-gives _ _ _ c.walk.invariant.0.within c.visit-met.ensures.0 (after-fine _ _ c.in_default.is))
+    (dg-gives _ _ _ c.walk.invariant.0.within c.visit-met.ensures.met (after-fine _ _ c.in_default.is))
     (data_gives _ _ _ _ c.take_data-taken.ensures (after_done _ _ c.in-Done.is))
     (turn_stop c.groups.invariant.0 c.groups-test.true
     c.groups.invariant.0.within.cg-room
     (cg-below_stops _ _ _ c.link_at-cn.ensures
-    (cg-gives _ _ _ c.groups.invariant.0.within c.met_cg-met.ensures.0
+    (cg-gives _ _ _ c.groups.invariant.0.within c.met_cg-met.ensures.met
     (after-fine _ _ c.in_default-met.is))
     (turn_stop c.channels.invariant.0 c.channels-test.true
     c.channels.invariant.0.within.cn-room
-    (cn-block_stops _ _ (cn_stops _ _ _ c.channels.invariant.0.within c.met_cn-met.ensures.0
+    (cn-block_stops _ _ (cn_stops _ _ _ c.channels.invariant.0.within c.met_cn-met.ensures.met
     (after_refused _ _ c.in-Refused-met-2.is))))))))

@@ -8,11 +8,11 @@ put_pages-requires c = few-columns c.open_file-opened.ensures.1
     c.in-Columns.is
 
 pub returns-in-Refused : goal.returns-in-Refused
-returns-in-Refused c = printed_refusal _ c.open_file-opened.new.1.0
+returns-in-Refused c = printed_refusal _ c.open_file-opened.new.source
     (c.open_file-opened.ensures.0 (search rules))
     c.in-Refused.is c.put_refusal.ensures
 
 pub returns-in-Columns : goal.returns-in-Columns
-returns-in-Columns c = printed-pages _ c.open_file-opened.new.1.0
+returns-in-Columns c = printed-pages _ c.open_file-opened.new.source
     (c.open_file-opened.ensures.0 (search rules))
     c.in-Columns.is c.put_pages.ensures

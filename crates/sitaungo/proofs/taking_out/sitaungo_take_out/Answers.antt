@@ -4,7 +4,7 @@ use borrow.Author.Rules.{rules}
 use Rattle.sitaungo.proofs.taking_out.sitaungo_take_out.Goals as goal
 
 pub returns-in-Refused : goal.returns-in-Refused
-returns-in-Refused c = (taken_as_lem _ _ _ _ c.take_out-answer.ensures.0 c.in-Refused.is, c.take_out-answer.ensures.1)
+returns-in-Refused c = record { done = taken_as_lem _ _ _ _ c.take_out-answer.ensures.done c.in-Refused.is; promised = c.take_out-answer.ensures.promised }
 
 pub returns-in-Done : goal.returns-in-Done
-returns-in-Done c = (taken_as_lem _ _ _ _ c.take_out-answer.ensures.0 c.in-Done.is, c.take_out-answer.ensures.1)
+returns-in-Done c = record { done = taken_as_lem _ _ _ _ c.take_out-answer.ensures.done c.in-Done.is; promised = c.take_out-answer.ensures.promised }

@@ -4,7 +4,7 @@ use borrow.Author.Rules.{rules}
 use Rattle.steps.proofs.step.after.Goals as goal
 
 pub overflow_add-k : goal.overflow_add-k
-overflow_add-k c = omega (arith, c.requires, c.well-formed)
+overflow_add-k c = omega (arith, c.requires, c.well_formed)
 
 pub returns : goal.returns
 returns c = c.at_positions.ensures ∙ rw c.positions_of-p.ensures

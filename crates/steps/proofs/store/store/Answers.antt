@@ -7,7 +7,7 @@ use borrow.Author.Rules.{rules}
 use Rattle.steps.proofs.store.store.Goals as goal
 
 pub returns-then-k-eq0 : goal.returns-then-k-eq0
-returns-then-k-eq0 c = (λ h g l. (h.kept, first-stored h _ c.if-k-eq0.true c.zero.ensures), zeros_store _ c.zero.ensures)
+returns-then-k-eq0 c = record { right = λ h g l. (h.kept, first-stored h _ c.if-k-eq0.true c.zero.ensures); bounded = zeros_store _ c.zero.ensures }
 
 pub overflow_sub-k : goal.overflow_sub-k
 overflow_sub-k c = omega (arith, c.if-k-eq0.false)

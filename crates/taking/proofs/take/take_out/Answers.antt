@@ -7,7 +7,7 @@ pub take_opened-requires : goal.take_opened-requires
 take_opened-requires c = few-opened c.open_file-opened.ensures.1 c.in-Columns.is
 
 pub returns-in-Refused : goal.returns-in-Refused
-returns-in-Refused c = taken_unopened _ c.open_file-opened.new.1.0 _ (c.open_file-opened.ensures.0 (search rules)) c.in-Refused.is
+returns-in-Refused c = taken_unopened _ c.open_file-opened.new.source _ (c.open_file-opened.ensures.0 (search rules)) c.in-Refused.is
 
 pub returns-in-Columns : goal.returns-in-Columns
-returns-in-Columns c = taken-opened _ c.open_file-opened.new.1.0 _ (c.open_file-opened.ensures.0 (search rules)) c.in-Columns.is c.take_opened.ensures
+returns-in-Columns c = taken-opened _ c.open_file-opened.new.source _ (c.open_file-opened.ensures.0 (search rules)) c.in-Columns.is c.take_opened.ensures

@@ -21,7 +21,7 @@ pub returns-in-Refused : goal.returns-in-Refused
 returns-in-Refused c =
     let a = c.args in
     let e = refused_left a.out.now (arranges_refused c.arrange-arranged.ensures c.in-Refused.is) in
-    (e, promised_by a.out.now _ _ c.are_bytes.ensures e)
+    record { done = e; promised = promised_by a.out.now _ _ c.are_bytes.ensures e }
 
 -- src/take.rt:28:1
 pub returns-in-Done : goal.returns-in-Done
@@ -29,4 +29,4 @@ returns-in-Done c =
     let a = c.args in
     let r = arranges_done c.arrange-arranged.ensures c.in-Done.is in
     let e = done_left a.out.now r (c.write_file.ensures _ (writer_asks a.out.now c.are_bytes.ensures r)) c.clear.ensures c.clear-in-Done.ensures c.clear-in-Done-2.ensures c.clear-in-Done-3.ensures in
-    (e, promised_by a.out.now _ _ c.are_bytes.ensures e)
+    record { done = e; promised = promised_by a.out.now _ _ c.are_bytes.ensures e }

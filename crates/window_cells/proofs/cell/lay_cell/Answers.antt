@@ -12,7 +12,7 @@ pub returns-then-at-h : goal.returns-then-at-h
 returns-then-at-h c r e p = let m = room-bytes r.shaped in let x = r.shaped.wide in absurd (omega (arith, c.if-at-h.true))
 
 pub returns-then-not-h : goal.returns-then-not-h
-returns-then-not-h c r e p = lay_bare r _ e _ _ _ (c.if-not-h.true) (c.lay_joined.ensures r.ranges r.small (bytes_end r _ e))
+returns-then-not-h c r e p = lay_bare r _ e _ _ _ (not-true _ c.if-not-h.true) (c.lay_joined.ensures r.ranges r.small (bytes_end r _ e))
 
 pub returns : goal.returns
-returns c r e p = let q = c.if-not-h.false in lay_kept r _ e _ _ _ _ q (c.kept_at.ensures r q e) (c.lay_joined.ensures r.ranges r.small (bytes_end r _ e)) c.lay.ensures
+returns c r e p = let q = not-false _ c.if-not-h.false in lay_kept r _ e _ _ _ _ q (c.kept_at.ensures r q e) (c.lay_joined.ensures r.ranges r.small (bytes_end r _ e)) c.lay.ensures

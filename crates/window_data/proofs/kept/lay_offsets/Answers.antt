@@ -8,6 +8,8 @@ use Rattle.window_data.specs.Kept.{ListFilledIn}
 use Rattle.window_data.specs.KeptLaws.{listed-none, listed_turn, listed-past}
 use borrow.Author.Rules.{rules}
 use native.Mathlib.Omega.{arith}
+use Rattle.std.specs.Prelude.{not}
+use Rattle.std.proofs.Common.{ap}
 use Rattle.window_data.proofs.kept.lay_offsets.Goals as goal
 
 pub returns-then-all-count : goal.returns-then-all-count
@@ -37,7 +39,7 @@ returns-then-not-usable c = let v = c.loop-at.invariant in (v.0, v.1, v.3)
 pub lay_piece-requires : goal.lay_piece-requires
 lay_piece-requires c =
     let p = c.requires in
-    let u = if_usable _ c.usable.ensures c.if-not-usable.false in
+    let u = if_usable _ c.usable.ensures (ap not c.if-not-usable.false) in
     (p.0, p.1, usable_in u p.2)
 
 pub loop-at-preserved : goal.loop-at-preserved

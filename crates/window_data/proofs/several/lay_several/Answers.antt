@@ -10,6 +10,8 @@ use Rattle.window_data.specs.RegionLaws.{block_in_lem}
 use Rattle.window_data.specs.FilledLaws.{Filling, filling_begin, filling_stop, filling_turn, filling_past, filling_end}
 use borrow.Author.Rules.{rules}
 use native.Mathlib.Omega.{arith}
+use Rattle.std.specs.Prelude.{not}
+use Rattle.std.proofs.Common.{ap}
 use Rattle.window_data.proofs.several.lay_several.Goals as goal
 
 pub loop-at-init : goal.loop-at-init
@@ -33,29 +35,29 @@ pub returns-then-not-usable : goal.returns-then-not-usable
 returns-then-not-usable c =
     let p = c.requires in
     let v = c.loop-at.invariant in
-    filling_stop v.0 p.0 (λ y z. c.several_next-next.ensures _ v.2 p.4 (v.1 y) y z) p.2 c.usable.ensures c.if-not-usable.true c.loop-at-test.true
+    filling_stop v.0 p.0 (λ y z. c.several_next-next.ensures _ v.2 p.4 (v.1 y) y z) p.2 c.usable.ensures (ap not c.if-not-usable.true) c.loop-at-test.true
 
 pub lay_rest-requires : goal.lay_rest-requires
 lay_rest-requires c =
     let p = c.requires in
-    let u = if_usable _ c.usable.ensures c.if-not-usable.false in
+    let u = if_usable _ c.usable.ensures (ap not c.if-not-usable.false) in
     (p.0, p.1, usable_in u p.2)
 
 pub overflow_add-at : goal.overflow_add-at
 overflow_add-at c =
     let t = c.several_next-next.result.stretch in
-    let u : Usable c.args.size c.args.f c.loop-at.at t = if_usable _ c.usable.ensures c.if-not-usable.false in
+    let u : Usable c.args.size c.args.f c.loop-at.at t = if_usable _ c.usable.ensures (ap not c.if-not-usable.false) in
     let n : c.loop-at.at + t.count ≤ c.args.f.records = omega (arith, u.next, u.few) in
     omega (arith, n, c.struct_known-1.given)
 
 pub loop-at-smaller : goal.loop-at-smaller
-loop-at-smaller c = let u = if_usable _ c.usable.ensures c.if-not-usable.false in omega (arith, u.next, u.few, u.lying.some)
+loop-at-smaller c = let u = if_usable _ c.usable.ensures (ap not c.if-not-usable.false) in omega (arith, u.next, u.few, u.lying.some)
 
 pub loop-at-preserved : goal.loop-at-preserved
 loop-at-preserved c =
     let p = c.requires in
     let v = c.loop-at.invariant in
-    let u = if_usable _ c.usable.ensures c.if-not-usable.false in
+    let u = if_usable _ c.usable.ensures (ap not c.if-not-usable.false) in
     (filling_turn v.0 p.0 (λ y z. c.several_next-next.ensures _ v.2 p.4 (v.1 y) y z) u (omega (arith, c.lay_rest.auto.w)) c.lay_rest.ensures refl, v.1, v.2)
 
 pub returns : goal.returns

@@ -14,12 +14,12 @@ finish-answer-requires c = (
 pub returns-in-Refused : goal.returns-in-Refused
 returns-in-Refused c = let e = refused_left _ _ _ _ _ _ _ _ _ _ _ _ (decides_refused
     c.decide-decision.ensures
-    c.in-Refused.is) in (
-      e,
-      promised_by _ _ _ _
+    c.in-Refused.is) in record {
+      done = e;
+      promised = promised_by _ _ _ _
           c.are_bytes.ensures
-          e,
-    )
+          e;
+    }
 
 -- src/convert.rt:99:1
 pub shape_of-source-in-Done : goal.shape_of-source-in-Done
@@ -50,10 +50,10 @@ returns-in-Done c = let e = done_left _ _ _ _ _ _ _ _ _ _ _ _ _ _ _ (decides_don
     c.finish-answer.ensures
     c.clear.ensures
     (c.clear-in-Done.ensures ∙ ap (λ (n : ℕ). replicate n 0) c.finish-answer.auto.fragments)
-    c.clear-in-Done-2.ensures c.clear-in-Done-3.ensures in (
-      e,
-      promised_by
+    c.clear-in-Done-2.ensures c.clear-in-Done-3.ensures in record {
+      done = e;
+      promised = promised_by
           _ _ _ _
           c.are_bytes.ensures
-          e,
-    )
+          e;
+    }

@@ -22,7 +22,7 @@ write_history-c-requires c =
     c.first_history-history.ensures
     c.next_place-attachment.ensures
     c.comment_of-comment.ensures)
-    c.write_front-a.ensures.1 in
+    c.write_front-a.ensures.wrote in
     let b2 = history_done s _ b1 c.write_copies-b.ensures in
     new_asks s _ b2
 
@@ -38,7 +38,7 @@ write_structure-e-requires c =
     c.first_history-history.ensures
     c.next_place-attachment.ensures
     c.comment_of-comment.ensures)
-    c.write_front-a.ensures.1
+    c.write_front-a.ensures.wrote
     in
     let b2 = history_done s _ b1
     c.write_copies-b.ensures in
@@ -64,7 +64,7 @@ write_data-f-requires c =
     c.first_history-history.ensures
     c.next_place-attachment.ensures
     c.comment_of-comment.ensures)
-    c.write_front-a.ensures.1
+    c.write_front-a.ensures.wrote
     in
     let b2 = history_done s _ b1
     c.write_copies-b.ensures
@@ -87,7 +87,7 @@ shape_of-out c =
     c.first_history-history.ensures
     c.next_place-attachment.ensures
     c.comment_of-comment.ensures)
-    c.write_front-a.ensures.1
+    c.write_front-a.ensures.wrote
     in
     let b2 = history_done s _ b1
     c.write_copies-b.ensures
@@ -118,7 +118,7 @@ returns c =
     c.first_history-history.ensures
     c.next_place-attachment.ensures
     c.comment_of-comment.ensures)
-    c.write_front-a.ensures.1
+    c.write_front-a.ensures.wrote
     in
     let b2 = history_done s _ b1
     c.write_copies-b.ensures

@@ -4,9 +4,9 @@ use Rattle.writing.specs.FrontLaws.{wrote_front}
 use Rattle.writing.proofs.front.write_front.Goals as goal
 
 pub returns : goal.returns
-returns c = (
-  refl,
-  wrote_front _ _ _ _ _ _ c.requires.0 _ _
+returns c = record {
+  past = refl;
+  wrote = wrote_front _ _ _ _ _ _ c.requires.0 _ _
       _
-      c.copy.ensures c.put_hd.ensures,
-)
+      c.copy.ensures c.put_hd.ensures;
+}

@@ -9,10 +9,10 @@ pub returns-then-words-n : goal.returns-then-words-n
 returns-then-words-n c h i = absurd (omega (arith, c.if-words-lt4096.false, c.if-words-n.true, i))
 
 pub overflow_mul-n : goal.overflow_mul-n
-overflow_mul-n c = omega (arith, c.if-words-lt4096.false, c.if-words-n.false, c.well-formed)
+overflow_mul-n c = omega (arith, c.if-words-lt4096.false, c.if-words-n.false, c.well_formed)
 
 pub overflow_add-n : goal.overflow_add-n
-overflow_add-n c = omega (arith, c.if-words-lt4096.false, c.if-words-n.false, c.well-formed)
+overflow_add-n c = omega (arith, c.if-words-lt4096.false, c.if-words-n.false, c.well_formed)
 
 pub returns-then-list-n : goal.returns-then-list-n
 returns-then-list-n c h i = absurd (omega (arith, c.if-list-n.true, h))
