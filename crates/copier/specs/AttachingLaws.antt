@@ -1,5 +1,4 @@
 -- The ways of the attachment chain.
-use Prim.{tt}
 use Rattle.std.specs.Prelude.{ℕ, zero, suc, ◌+◌, ◌*◌, ◌-◌, ◌≤◌, ◌<◌, List, [], ◌∷◌, ◌++◌, ◌≡◌, refl, Bool, true, false, eqb, ltb, set, get_or}
 use Rattle.std.proofs.Math.Path.{sym, ap}
 use Rattle.std.proofs.Common.{◌∙◌, sub-one, eq-eqb, ne_eqb, length-drop, length-set, get_or-drop, get_or-set_same, get_or-set_other}
@@ -17,7 +16,6 @@ use Rattle.work_words.specs.CopyWords.{attachment_words, attachments_at}
 use Rattle.copier.specs.declared.memo.Copying.{Copying}
 use Rattle.copier.specs.declared.copies.Got.{Got}
 use Rattle.copier.specs.declared.copies.Got.TheVariants as got
-use Rattle.copier.specs.declared.attachments.Moved.TheVariants.{At, Refused}
 use Rattle.copier.specs.Standing.{copies_from, copies_in, standing, Room, Ready, Past}
 use Rattle.copier.specs.StandingLaws.{length-copies, copies-set, align_near, past_more, past_then, past_same}
 use Rattle.copier.specs.Got.{Copied, AfterGot}

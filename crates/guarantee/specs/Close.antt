@@ -1,4 +1,5 @@
 -- Columns start on the unit, and fewer than its bytes lie between two blocks of the file (document 02, requests 5 and 13).
+use Rattle.mdf.specs.Block.{size_at}
 use Rattle.std.specs.Prelude.{ℕ, ◌+◌, ◌%◌, ◌≤◌, ◌<◌, ◌≡◌, refl, length, drop}
 use mathlib.Core.List.{List, [], ◌∷◌}
 use Rattle.std.proofs.Common.{sym}
@@ -66,7 +67,7 @@ all_start o h s size a d (c ∷ cs) p here =
       blocks = λ b. rw (← first_some o.unit (column_sizes s size c) d b) (to_is o.unit d h);
       signal = λ b. signal_starts o.unit h c.signal_of _ b;
     }
-all_start o h s size a d (c ∷ cs) p (there i) = all_start o h s size _ _ cs p i
+all_start o h s size a d (c ∷ cs) p (there i) = all_start o h s size (a + structure_size s size c) (past_data o.unit (column_sizes s size c) d) cs p i
 
 module _ (u : ℕ) (i : IsUnit u) where
   pub here_near : (a : ℕ) → a ≤ align_to u a
@@ -79,7 +80,7 @@ module _ (u : ℕ) (i : IsUnit u) where
   copied_near s chain memo fh a e [] l t = let k : e ≤ align8 a = t in omega (arith, eight_within u i a)
   copied_near s chain memo fh a e (c ∷ cs) l t =
       let k : c.to ≤ align8 a = t.0 in
-      (omega (arith, eight_within u i a), rw (length-copied s chain memo fh c.from l.1) (copied_near s chain memo fh _ e cs l.2 t.1))
+      (omega (arith, eight_within u i a), rw (length-copied s chain memo fh c.from l.1) (copied_near s chain memo fh (c.to + size_at s c.from) e cs l.2 t.1))
 
   pub attached_near : (s chain : List ℕ) (memo : List Copy) (fh a e : ℕ) (ts : List Attachment) → LaidAt s a ts e → TightAt s a ts e
       → Near u a (attachment_blocks s chain memo fh ts) e
@@ -87,7 +88,7 @@ module _ (u : ℕ) (i : IsUnit u) where
   attached_near s chain memo fh a e [] l t = let k : e ≤ align8 a = t in omega (arith, eight_within u i a)
   attached_near s chain memo fh a e (x ∷ ts) l t =
       near_append u i a x.to e (copied_blocks s chain memo fh x.own) _ (copied_near s chain memo fh a x.to x.own l.0 t.0)
-      (here_near x.to, rw (length_at s memo x.from (next_attachment ts) l.1) (attached_near s chain memo fh _ e ts l.2 t.1))
+      (here_near x.to, rw (length_at s memo x.from (next_attachment ts) l.1) (attached_near s chain memo fh (x.to + size_at s x.from) e ts l.2 t.1))
 
   -- ---- columns
   dl_near : (s : List ℕ) (size : ℕ) (p : Placed) → Near u (dl_of p) (dl_blocks s size p) (dl_of p + dl_size (column_blocks s size p.column))

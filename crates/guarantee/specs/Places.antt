@@ -12,7 +12,7 @@ use Rattle.mdf.specs.Records.{size_of}
 use Rattle.plan.specs.Columns.{Column, Signal, no_signal, signal_data, size_of_signal}
 use Rattle.plan.specs.Data.{signal_in}
 use Rattle.plan.specs.Rules.{Rules}
-use Rattle.plan.specs.Layout.{Sizes, first_at, blocks_end, signal_at, signal_end, past_data, places_from, places_end, Placed, signal_sizes, column_sizes, sizes_of, with_places, placed_from, data_end, column_blocks, payload_size}
+use Rattle.plan.specs.Layout.{structure_size, Sizes, first_at, blocks_end, signal_at, signal_end, past_data, places_from, places_end, Placed, signal_sizes, column_sizes, sizes_of, with_places, placed_from, data_end, column_blocks, payload_size}
 use Rattle.result.specs.Payload.{signal_bytes}
 use Rattle.result.specs.Guarantee.{In, here, there}
 use Rattle.copies_laws.specs.AnswerLaws.{then_ok, whole_fits, refused≢ok}
@@ -154,4 +154,4 @@ pub in_column : (o : Rules) (s : List ℕ) (size a d : ℕ) (cs : List Column) (
 unfolding with_places places_from sizes_of
 in_column o s size a d [] p x' = elim x' [ ]
 in_column o s size a d (c ∷ cs) p here = here
-in_column o s size a d (c ∷ cs) p (there i) = there (in_column o s size _ _ cs p i)
+in_column o s size a d (c ∷ cs) p (there i) = there (in_column o s size (a + structure_size s size c) (past_data o.unit (column_sizes s size c) d) cs p i)

@@ -39,26 +39,23 @@ runs_cons f (h ∷ fs) = ap (in_front f) (runs_cons h fs) ∙ go h.kind f.kind r
     go : (j k : Kind) → h.kind ≡ j → f.kind ≡ k → runs (h ∷ fs) ≡ run h.kind (h ∷ of_kind h.kind fs) ∷ runs (past_kind h.kind fs)
         → in_front f (run h.kind (h ∷ of_kind h.kind fs) ∷ runs (past_kind h.kind fs))
         ≡ run f.kind (f ∷ of_kind f.kind (h ∷ fs)) ∷ runs (past_kind f.kind (h ∷ fs))
-    go dt dt p q ih = rw (p, q)
+    go dt dt p q ih = rw (p, q) (ap (λ (k : Kind). run dt (like f dt ∷ like h dt ∷ of_kind k fs) ∷ runs (past_kind k fs)) (sym q))
     go dt dv p q ih = rw (p, q) (ap (λ (rs : List Run). run dv (like f dv ∷ []) ∷ rs) (sym (rw p at ih)))
     go dv dt p q ih = rw (p, q) (ap (λ (rs : List Run). run dt (like f dt ∷ []) ∷ rs) (sym (rw p at ih)))
-    go dv dv p q ih = rw (p, q)
+    go dv dv p q ih = rw (p, q) (ap (λ (k : Kind). run dv (like f dv ∷ like h dv ∷ of_kind k fs) ∷ runs (past_kind k fs)) (sym q))
+
+-- a kind is the same as itself
+if_same : {A : Type 0} (k : Kind) (x y : A) → if_kind k k x y ≡ x
+if_same dt x y = refl
+if_same dv x y = refl
 
 pub of-first : (f : Fragment) (fs : List Fragment) → of_kind f.kind (f ∷ fs) ≡ f ∷ of_kind f.kind fs
 unfolding of_kind
-of-first f fs = go f.kind refl
-  where
-    go : (k : Kind) → f.kind ≡ k → of_kind f.kind (f ∷ fs) ≡ f ∷ of_kind f.kind fs
-    go dt q = rw q
-    go dv q = rw q
+of-first f fs = if_same f.kind (f ∷ of_kind f.kind fs) []
 
 past_first : (f : Fragment) (fs : List Fragment) → past_kind f.kind (f ∷ fs) ≡ past_kind f.kind fs
 unfolding past_kind
-past_first f fs = go f.kind refl
-  where
-    go : (k : Kind) → f.kind ≡ k → past_kind f.kind (f ∷ fs) ≡ past_kind f.kind fs
-    go dt q = rw q
-    go dv q = rw q
+past_first f fs = if_same f.kind (past_kind f.kind fs) (f ∷ fs)
 
 runs-first : (f : Fragment) (fs : List Fragment) → runs (f ∷ fs) ≡ run f.kind (of_kind f.kind (f ∷ fs)) ∷ runs (past_kind f.kind (f ∷ fs))
 runs-first f fs = runs_cons f fs ∙ rw (of-first f fs, past_first f fs)

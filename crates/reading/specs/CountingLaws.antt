@@ -167,6 +167,8 @@ facing {s} {n = n} {h = h} {i = i} {g = g} a l = go a.rest a.starts a.rising a.s
         let b = h.blocks in
         let p = a.passed in
         absurd (omega (arith, ap length e, length-append a.before []))
+    go (cg _ ∷ is) x {lo = lo} r e m = elim x [ ]
+    go (cn _ ∷ is) x {lo = lo} r e m = elim x [ ]
     go (dg x k ∷ is) first-dg (next-dg u r) e m = record {
       before = a.before;
       own-items = is;
@@ -242,6 +244,8 @@ module _ {s w f : List ℕ} {n nf : ℕ} {h : Holding w f n nf} {i g : ℕ} {don
           let c = count_is in
           let u : up_to (length h.st.fragments) mine ≡ length h.st.fragments = later_up_to _ mine ∙ ap (up_to (length h.st.fragments)) e in
           sym (lt_no _ _ _ _ (omega (arith, ap length (mine_split [] e), length-append (own mine) [])) (u ∙ sym h.pieces))
+      go (cg _ ∷ is) e x = elim x [ ]
+      go (cn _ ∷ is) e x = elim x [ ]
       go (dg x k ∷ is) e first-dg =
           let c = count_is in
           let m = mark-after x k is e in

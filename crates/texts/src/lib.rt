@@ -1,4 +1,6 @@
 // Numbers and refusals as texts, laid over a lent slice. What would lie past the slice's end is lost.
+#![tactic(auto)]
+
 ghost use Rattle.std.specs.Prelude.{[], ◌∷◌, ◌+◌, ◌≤◌, ◌<◌};
 ghost use Rattle.result.specs.Listing.{digits_of, decimal, refusal_text};
 ghost use Rattle.texts.specs.Laid.{Laid};

@@ -1,7 +1,6 @@
 -- One store.
 use native.Mathlib.Omega.{arith}
 use Rattle.texts.specs.LaidLaws.{laid_byte}
-use borrow.Author.Rules.{rules}
 use Rattle.texts.proofs.put_byte.Goals as goal
 
 pub returns : goal.returns

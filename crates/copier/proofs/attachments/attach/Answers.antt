@@ -1,7 +1,6 @@
 -- Three stores are the three words of the AT.
 use native.Mathlib.Omega.{arith}
 use lib.ListN.{length-set}
-use borrow.Author.Rules.{rules}
 use Rattle.copier.specs.StandingLaws.{align_near}
 use Rattle.copier.specs.AttachingLaws.{three_stores, attached_state}
 use Rattle.copier.proofs.attachments.attach.Goals as goal
@@ -22,4 +21,4 @@ pub returns : goal.returns
 returns c =
     let e = c.aligned-to.ensures (omega arith) in
     let n = align_near c.args.state.next in
-    (three_stores _ _ _ _ _ _ e, attached_state _ _ _ e (c.aligned-next.ensures (omega arith)))
+    record { words = three_stores _ _ _ _ _ _ e; state = attached_state _ _ _ e (c.aligned-next.ensures (omega arith)) }

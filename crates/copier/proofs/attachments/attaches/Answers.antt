@@ -1,5 +1,4 @@
 -- Whether it was met, then whether the chain goes on.
-use borrow.Author.Rules.{rules}
 use Rattle.copier.specs.AttachingLaws.{goes_by}
 use Rattle.copier.proofs.attachments.attaches.Goals as goal
 

@@ -1,10 +1,8 @@
 -- The attachments that are left give what all give.
-use Prim.Native.Nat.{◌+◌, ◌*◌}
-use mathlib.Core.Path.{◌≡◌, refl}
+use mathlib.Core.Path.{refl}
 use native.Mathlib.Omega.{arith}
 use borrow.Author.Rules.{rules}
 use Rattle.copier.specs.AttachingLaws.{attached_end, attached_hit, attached_miss}
-use Rattle.copier.specs.Attaching.{attached_in}
 use Rattle.copier.proofs.attachments.is_attached.Goals as goal
 
 pub loop-left-init : goal.loop-left-init

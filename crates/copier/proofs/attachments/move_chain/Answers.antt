@@ -1,24 +1,10 @@
 -- What is left of the chain gives what the whole gives.
 use native.Mathlib.Omega.{arith}
 use borrow.Author.Rules.{rules}
-use Rattle.copier.specs.AttachingLaws.{indexed_attached, Chaining, chain_begin, chain-out, chain-ends, chain_refused, chain_stopped, chain_next}
-use Rattle.photos.specs.FollowedLaws.{Fitting, goes_fits}
+use Rattle.copier.specs.AttachingLaws.{indexed_attached, chain_begin, chain-out, chain-ends, chain_refused, chain_stopped, chain_next}
+use Rattle.photos.specs.FollowedLaws.{goes_fits}
 use Rattle.copier.specs.TurnLaws.{indexed_at, so_begun, after-at}
-use Rattle.copier.specs.Index.{Indexed}
-use Rattle.copier.specs.Got.{After}
 use Rattle.copier.proofs.attachments.move_chain.Goals as goal
-
--- where the chain goes on
-at_links : (c : tie.After-enum-told2 invariant_loop decreases_loop) → Fitting
-    c.before.before.before.before.before.before.before.before.args.image.now
-    c.before.before.before.before.before.loop.at c.before.before.before.before.before.loop.count
-at_links c = goes_fits _ _ _ _ (so_begun c.before.before.attaches.ensures c.enum-told2.given.1)
-
--- the state after the links
-at_own : (c : tie.After-known-told2 invariant_loop decreases_loop) → After 0
-    c.before.before.before.before.before.before.before.before.before.before.before.before.before.before.loop.st
-    c.before.got.given.0.0
-at_own c = after-at c.before.before.before.before.before.follow.ensures.1.0 c.before.got.given.1
 
 pub loop-turns-init : goal.loop-turns-init
 loop-turns-init c = (
@@ -37,27 +23,27 @@ returns-in-Refused c = chain_refused c.loop-turns.invariant.0
     c.in-Refused.is)
 
 pub overflow_sub-links_at : goal.overflow_sub-links_at
-overflow_sub-links_at c = let f = at_links c.before.before.before in omega arith
+overflow_sub-links_at c = let f = goes_fits _ _ _ _ (so_begun c.attaches-begun.ensures c.in-Links.is) in omega arith
 
 pub overflow_add-at : goal.overflow_add-at
-overflow_add-at c = let f = at_links c.before.before.before in omega arith
+overflow_add-at c = let f = goes_fits _ _ _ _ (so_begun c.attaches-begun.ensures c.in-Links.is) in omega arith
 
 pub follow-got-requires : goal.follow-got-requires
-follow-got-requires c = let f = at_links c.before.before.before in search rules
+follow-got-requires c = let f = goes_fits _ _ _ _ (so_begun c.attaches-begun.ensures c.in-Links.is) in search rules
 
 pub overflow_sub-t : goal.overflow_sub-t
-overflow_sub-t c = let f = at_own c.before.before.before.before in omega arith
+overflow_sub-t c = let f = after-at c.follow-got.ensures.after c.in-At.is in omega arith
 
 pub attach-st-requires : goal.attach-st-requires
 attach-st-requires c =
-    let f = at_links c.before.before.before.before.before.before.before.before.before.before.before.before.before in (
+    let f = goes_fits _ _ _ _ (so_begun c.attaches-begun.ensures c.in-Links.is) in (
       f.few,
       omega (
         arith,
         c.follow-got.auto.memo,
         c.loop-turns.invariant.0.words,
       ),
-      (at_own c.before.before.before.before).room,
+      (after-at c.follow-got.ensures.after c.in-At.is).room,
       omega (
         arith,
         c.size_at-size.ensures,
@@ -73,7 +59,7 @@ returns-in-Refused-got c = chain_stopped
     (so_begun c.attaches-begun.ensures
     c.in-Links.is)
     c.links_at.ensures
-    c.follow-got.ensures.0 c.in-Refused-got.is
+    c.follow-got.ensures.copied c.in-Refused-got.is
 
 pub overflow_add-count : goal.overflow_add-count
 overflow_add-count c = let m = c.loop-turns.invariant.0.moving.few in search rules
@@ -93,13 +79,13 @@ loop-turns-preserved c = (
       c.attaches-begun.ensures
       c.in-Links.is)
       c.links_at.ensures
-      c.follow-got.ensures.0
-      c.follow-got.ensures.1.0
+      c.follow-got.ensures.copied
+      c.follow-got.ensures.after
       c.in-At.is
       c.follow-got.auto.memo
       c.size_at-size.ensures
-      c.attach-st.ensures.0 c.attach-st.ensures.1 c.first_link-at.ensures,
-  indexed_attached _ _ _ c.in-At.t c.attach-st.ensures.0 c.attach-st.ensures.1 (let k = at_own c.before.before.before.before.before.before.before.before in omega arith) (indexed_at c.follow-got.ensures.1.1 c.in-At.is),
+      c.attach-st.ensures.words c.attach-st.ensures.state c.first_link-at.ensures,
+  indexed_attached _ _ _ c.in-At.t c.attach-st.ensures.words c.attach-st.ensures.state (let k = after-at c.follow-got.ensures.after c.in-At.is in omega arith) (indexed_at c.follow-got.ensures.indexed c.in-At.is),
 )
 
 pub returns : goal.returns

@@ -1,11 +1,6 @@
 -- What is left of the chain gives what the whole gives.
-use native.Mathlib.Omega.{arith}
-use borrow.Author.Rules.{rules}
-use Rattle.copier.specs.AttachingLaws.{indexed_attached, Chaining, chain_begin, chain-out, chain-ends, chain_refused, chain_stopped, chain_next}
-use Rattle.photos.specs.FollowedLaws.{Fitting, goes_fits}
-use Rattle.copier.specs.TurnLaws.{indexed_at, so_begun, after-at}
+use Rattle.copier.specs.AttachingLaws.{Chaining}
 use Rattle.copier.specs.Index.{Indexed}
-use Rattle.copier.specs.Got.{After}
 use Rattle.copier.proofs.attachments.move_chain.Given as goal
 
 abbrev pub invariant-loop-turns : goal.invariant-loop-turns

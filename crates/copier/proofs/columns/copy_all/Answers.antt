@@ -1,9 +1,7 @@
 -- What is left of the columns gives what all of them give.
-use Rattle.copier.specs.RootsLaws.{CopyingOf, copying_begin, copying_end, copying_refused, copying_next}
+use Rattle.copier.specs.RootsLaws.{copying_begin, copying_end, copying_refused, copying_next}
 use Rattle.copier.specs.TurnLaws.{indexed_at}
-use Rattle.copier.specs.Index.{Indexed}
 use native.Mathlib.Omega.{arith}
-use borrow.Author.Rules.{rules}
 use Rattle.copier.proofs.columns.copy_all.Goals as goal
 
 pub loop-left-init : goal.loop-left-init
@@ -13,16 +11,16 @@ loop-left-init c = (
 )
 
 pub returns-in-Refused : goal.returns-in-Refused
-returns-in-Refused c = (
-  copying_refused
+returns-in-Refused c = record {
+  copied = copying_refused
       c.loop-left.invariant.0
       c.loop-left-test.true
       c.word-dg.ensures
       c.word-cg.ensures
       c.word-cn.ensures
-      c.column_roots-got.ensures.0 c.in-Refused.is,
-  tt,
-)
+      c.column_roots-got.ensures.copied c.in-Refused.is;
+  after = tt;
+}
 
 pub loop-left-preserved : goal.loop-left-preserved
 loop-left-preserved c = (
@@ -32,11 +30,11 @@ loop-left-preserved c = (
       c.word-dg.ensures
       c.word-cg.ensures
       c.word-cn.ensures
-      c.column_roots-got.ensures.0
-      c.column_roots-got.ensures.1.0 c.in-At.is
+      c.column_roots-got.ensures.copied
+      c.column_roots-got.ensures.after c.in-At.is
       c.column_roots-got.auto.memo,
-  indexed_at c.column_roots-got.ensures.1.1 c.in-At.is,
+  indexed_at c.column_roots-got.ensures.indexed c.in-At.is,
 )
 
 pub returns : goal.returns
-returns c = (copying_end c.loop-left.invariant.0 (omega arith), c.loop-left.invariant.0.held.after)
+returns c = record { copied = copying_end c.loop-left.invariant.0 (omega arith); after = c.loop-left.invariant.0.held.after }

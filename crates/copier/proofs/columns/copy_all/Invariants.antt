@@ -1,9 +1,6 @@
 -- What is left of the columns gives what all of them give.
-use Rattle.copier.specs.RootsLaws.{CopyingOf, copying_begin, copying_end, copying_refused, copying_next}
-use Rattle.copier.specs.TurnLaws.{indexed_at}
+use Rattle.copier.specs.RootsLaws.{CopyingOf}
 use Rattle.copier.specs.Index.{Indexed}
-use native.Mathlib.Omega.{arith}
-use borrow.Author.Rules.{rules}
 use Rattle.copier.proofs.columns.copy_all.Given as goal
 
 abbrev pub invariant-loop-left : goal.invariant-loop-left

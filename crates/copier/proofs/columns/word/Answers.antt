@@ -1,7 +1,6 @@
 -- A word in the slice is read, and one past it is 0.
 use Rattle.copier.specs.RootsLaws.{past_end}
 use native.Mathlib.Omega.{arith}
-use borrow.Author.Rules.{rules}
 use Rattle.copier.proofs.columns.word.Goals as goal
 
 pub returns : goal.returns

@@ -1,7 +1,6 @@
 -- Each way through the checks is a way through the definition.
 use native.Mathlib.Omega.{arith}
 use lib.ListN.{length-drop}
-use borrow.Author.Rules.{rules}
 use Rattle.blocks.specs.AnswerLaws.{so_fine, so_refused}
 use Rattle.copier.specs.StandingLaws.{length-copies}
 use Rattle.copier.specs.BeginLaws.{so_some, so_none, on_way, so_copied, begin_none, begin_found, begin_deep, begin_circle, begin_refused, begin_other, begin_full, begin_links}

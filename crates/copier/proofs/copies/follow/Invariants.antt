@@ -1,11 +1,9 @@
 -- What is left of the links gives what all give; each is copied from outside.
 use Prim.Native.Nat.{◌+◌, ◌*◌, ◌≤◌}
-use mathlib.Core.Path.{◌≡◌, refl}
-use native.Mathlib.Omega.{arith}
+use mathlib.Core.Path.{◌≡◌}
 use lib.ListN.{length}
-use borrow.Author.Rules.{rules}
 use Rattle.plan.specs.Copies.{copy_links, copy_root}
-use Rattle.copier.specs.TurnLaws.{indexed_at, Held, held_begin, held_next, follow_next, follow_refused, follow_end}
+use Rattle.copier.specs.TurnLaws.{Held}
 use Rattle.copier.specs.Standing.{standing}
 use Rattle.copier.specs.Index.{Indexed}
 use Rattle.copier.proofs.copies.follow.Given as goal

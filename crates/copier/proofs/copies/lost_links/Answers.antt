@@ -1,7 +1,6 @@
 -- Only an FH loses a link.
 use mathlib.Core.Path.{refl}
 use native.Mathlib.Omega.{arith}
-use borrow.Author.Rules.{rules}
 use Rattle.base.specs.ChoiceLaws.{eq_yes, eq_no}
 use Rattle.plan.specs.Copies.{lost_links}
 use Rattle.copier.proofs.copies.lost_links.Goals as goal

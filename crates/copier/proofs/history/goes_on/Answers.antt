@@ -1,7 +1,6 @@
 -- Each way through the checks is a way through the definition.
 use mathlib.Core.Path.{sym, ◌∙◌}
 use native.Mathlib.Omega.{arith}
-use borrow.Author.Rules.{rules}
 use Rattle.blocks.specs.AnswerLaws.{so_fine, so_refused}
 use Rattle.copier.specs.HistoryLaws.{ends-none, ends_met, ends-other, goes_refused, goes_unlinked, goes_on_lem}
 use Rattle.copier.specs.BeginLaws.{so_copied}

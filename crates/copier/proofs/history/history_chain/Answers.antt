@@ -1,11 +1,8 @@
 -- What is left of the chain gives what the whole gives.
 use native.Mathlib.Omega.{arith}
-use borrow.Author.Rules.{rules}
-use Rattle.copier.specs.HistoryLaws.{copied_begin, copied_next, Walked, walk_begin, walk-out, walk_ends, walk_refused, walk_stopped, walk-next}
+use Rattle.copier.specs.HistoryLaws.{copied_begin, copied_next, walk_begin, walk-out, walk_ends, walk_refused, walk_stopped, walk-next}
 use Rattle.copier.specs.TurnLaws.{indexed_at, so_begun, after-at}
-use Rattle.copier.specs.Index.{Indexed}
 use Rattle.copier.specs.IndexLaws.{indexed_set}
-use Rattle.copier.specs.History.{ChainCopied}
 use Rattle.copier.proofs.history.history_chain.Goals as goal
 
 pub loop-turns-init : goal.loop-turns-init
@@ -33,7 +30,7 @@ returns-in-Refused-got c =
     c.loop-turns-test.true (so_begun
     c.goes_on-begun.ensures
     c.in-Links.is)
-    c.copy_root-got.ensures.0 c.in-Refused-got.is
+    c.copy_root-got.ensures.copied c.in-Refused-got.is
 
 pub loop-turns-preserved : goal.loop-turns-preserved
 loop-turns-preserved c = (
@@ -42,13 +39,13 @@ loop-turns-preserved c = (
       c.loop-turns-test.true
       (so_begun c.goes_on-begun.ensures
       c.in-Links.is)
-      c.copy_root-got.ensures.0
-      c.copy_root-got.ensures.1.0 c.in-At.is
+      c.copy_root-got.ensures.copied
+      c.copy_root-got.ensures.after c.in-At.is
       c.copy_root-got.auto.memo c.first_link-at.ensures,
-  indexed_set _ _ _ _ _ (let u = c.loop-turns.invariant.0 in let k = after-at c.copy_root-got.ensures.1.0 c.in-At.is in omega arith)
-      (indexed_at c.copy_root-got.ensures.1.1 c.in-At.is),
+  indexed_set _ _ _ _ _ (let u = c.loop-turns.invariant.0 in let k = after-at c.copy_root-got.ensures.after c.in-At.is in omega arith)
+      (indexed_at c.copy_root-got.ensures.indexed c.in-At.is),
   copied_next c.loop-turns.invariant.0 c.loop-turns-test.true c.loop-turns.invariant.2 (so_begun c.goes_on-begun.ensures c.in-Links.is)
-      c.copy_root-got.ensures.0 c.copy_root-got.ensures.1.0 c.in-At.is c.copy_root-got.auto.memo,
+      c.copy_root-got.ensures.copied c.copy_root-got.ensures.after c.in-At.is c.copy_root-got.auto.memo,
 )
 
 pub returns : goal.returns

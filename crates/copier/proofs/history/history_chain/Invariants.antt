@@ -1,10 +1,6 @@
 -- What is left of the chain gives what the whole gives.
-use native.Mathlib.Omega.{arith}
-use borrow.Author.Rules.{rules}
-use Rattle.copier.specs.HistoryLaws.{copied_begin, copied_next, Walked, walk_begin, walk-out, walk_ends, walk_refused, walk_stopped, walk-next}
-use Rattle.copier.specs.TurnLaws.{indexed_at, so_begun, after-at}
+use Rattle.copier.specs.HistoryLaws.{Walked}
 use Rattle.copier.specs.Index.{Indexed}
-use Rattle.copier.specs.IndexLaws.{indexed_set}
 use Rattle.copier.specs.History.{ChainCopied}
 use Rattle.copier.proofs.history.history_chain.Given as goal
 

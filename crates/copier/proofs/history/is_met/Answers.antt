@@ -1,6 +1,5 @@
 -- A block that is found may be one of the chain, any other is none of it.
 use mathlib.Core.Path.{refl, sym}
-use borrow.Author.Rules.{rules}
 use Rattle.copier.specs.BeginLaws.{so_none}
 use Rattle.copier.specs.HistoryLaws.{in_chain, unmet}
 use Rattle.copier.proofs.history.is_met.Goals as goal

@@ -1,7 +1,6 @@
 -- The sum fits, and its multiple of 8 is the definition's.
 use mathlib.Core.Path.{refl}
 use native.Mathlib.Omega.{arith}
-use borrow.Author.Rules.{rules}
 use Rattle.plan.specs.Geometry.{align8}
 use Rattle.copier.proofs.memo.aligned.Goals as goal
 

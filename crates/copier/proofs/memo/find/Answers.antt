@@ -1,11 +1,8 @@
 -- The copies that are left give what all give; a hit or the end answers.
-use Prim.Native.Nat.{◌+◌, ◌*◌}
-use mathlib.Core.Path.{◌≡◌, refl}
+use mathlib.Core.Path.{refl}
 use native.Mathlib.Omega.{arith}
 use borrow.Author.Rules.{rules}
-use Rattle.plan.specs.Copies.{copy_of}
 use Rattle.copier.specs.StandingLaws.{find_end, find_hit, find_miss}
-use Rattle.copier.specs.Standing.{copies_from}
 use Rattle.copier.proofs.memo.find.Goals as goal
 
 pub loop-left-init : goal.loop-left-init

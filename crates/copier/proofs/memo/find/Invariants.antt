@@ -1,10 +1,7 @@
 -- The copies that are left give what all give; a hit or the end answers.
 use Prim.Native.Nat.{◌+◌, ◌*◌}
-use mathlib.Core.Path.{◌≡◌, refl}
-use native.Mathlib.Omega.{arith}
-use borrow.Author.Rules.{rules}
+use mathlib.Core.Path.{◌≡◌}
 use Rattle.plan.specs.Copies.{copy_of}
-use Rattle.copier.specs.StandingLaws.{find_end, find_hit, find_miss}
 use Rattle.copier.specs.Standing.{copies_from}
 use Rattle.copier.proofs.memo.find.Given as goal
 

@@ -1,9 +1,6 @@
 -- What is left of the chain, and the last that was met, give the copy.
-use Prim.Native.Nat.{◌≤◌}
-use mathlib.Core.Path.{◌≡◌, refl}
-use Rattle.copier.specs.Index.{Indexed}
-use Rattle.copier.specs.IndexLaws.{Chasing, chase_begin, chase_none, chase_hit, chase_next, chase_less, met_most}
-use borrow.Author.Rules.{rules}
+use mathlib.Core.Path.{refl}
+use Rattle.copier.specs.IndexLaws.{chase_begin, chase_none, chase_hit, chase_next, chase_less, met_most}
 use native.Mathlib.Omega.{arith}
 use Rattle.copier.proofs.memo.find_in.Goals as goal
 

@@ -1,10 +1,8 @@
 -- What is left of the chain, and the last that was met, give the copy.
 use Prim.Native.Nat.{◌≤◌}
-use mathlib.Core.Path.{◌≡◌, refl}
+use mathlib.Core.Path.{◌≡◌}
 use Rattle.copier.specs.Index.{Indexed}
-use Rattle.copier.specs.IndexLaws.{Chasing, chase_begin, chase_none, chase_hit, chase_next, chase_less, met_most}
-use borrow.Author.Rules.{rules}
-use native.Mathlib.Omega.{arith}
+use Rattle.copier.specs.IndexLaws.{Chasing}
 use Rattle.copier.proofs.memo.find_in.Given as goal
 
 abbrev pub invariant-loop-i : goal.invariant-loop-i

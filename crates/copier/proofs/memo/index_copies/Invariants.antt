@@ -1,10 +1,6 @@
 -- The copies enter one after the other.
 use Prim.Native.Nat.{◌-◌, ◌≤◌}
-use mathlib.Core.Path.{◌≡◌, refl}
 use Rattle.copier.specs.Index.{Indexed}
-use Rattle.copier.specs.IndexLaws.{index_begin, index_more}
-use borrow.Author.Rules.{rules}
-use native.Mathlib.Omega.{arith}
 use Rattle.copier.proofs.memo.index_copies.Given as goal
 
 abbrev pub invariant-loop-n : goal.invariant-loop-n

@@ -1,11 +1,8 @@
 -- The words that are left give what all give; a hit or the end answers.
 use Prim.Native.Nat.{◌-◌, ◌≤◌}
-use mathlib.Core.Path.{◌≡◌, refl}
-use native.Mathlib.Omega.{arith}
-use borrow.Author.Rules.{rules}
+use mathlib.Core.Path.{◌≡◌}
 use Rattle.base.specs.Blit.{part}
 use Rattle.mdf.specs.Chain.{is_in}
-use Rattle.copier.specs.StandingLaws.{in_end, in_hit, in_miss}
 use Rattle.copier.proofs.memo.is_in.Given as goal
 
 abbrev pub invariant-loop-i : goal.invariant-loop-i

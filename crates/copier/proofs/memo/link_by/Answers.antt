@@ -1,6 +1,5 @@
 -- The copy that is found by the index, or by the search where the index has no room.
 use Rattle.copier.specs.StandingLaws.{link_at, link-none}
-use borrow.Author.Rules.{rules}
 use native.Mathlib.Omega.{arith}
 use Rattle.copier.proofs.memo.link_by.Goals as goal
 

@@ -1,5 +1,4 @@
 -- The search's answer, 0 for none.
-use borrow.Author.Rules.{rules}
 use Rattle.copier.specs.StandingLaws.{link_at, link-none}
 use Rattle.copier.proofs.memo.link_in.Goals as goal
 

@@ -1,6 +1,5 @@
 -- Its own copy, or the one met before.
 use mathlib.Core.Path.{refl}
-use borrow.Author.Rules.{rules}
 use Rattle.base.specs.ChoiceLaws.{eq_yes, eq_no}
 use Rattle.copier.proofs.memo.met.Goals as goal
 

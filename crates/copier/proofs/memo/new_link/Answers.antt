@@ -1,6 +1,5 @@
 -- Copies that don't lie in the words whole lead to 0.
 use native.Mathlib.Omega.{arith}
-use borrow.Author.Rules.{rules}
 use Rattle.copier.specs.StandingLaws.{link-words}
 use Rattle.copier.proofs.memo.new_link.Goals as goal
 

@@ -3,7 +3,6 @@ use Prim.Native.Nat.{◌+◌, ◌*◌, ◌<◌}
 use mathlib.Core.Path.{refl}
 use native.Mathlib.Omega.{arith}
 use lib.ListN.{length, length-set}
-use borrow.Author.Rules.{rules}
 use Rattle.copier.specs.StandingLaws.{place_is, place_past, align_near}
 use Rattle.copier.specs.IndexLaws.{index_placed}
 use Rattle.copier.proofs.memo.place.Goals as goal
@@ -17,11 +16,8 @@ overflow_add-result-2 c = omega (arith, c.aligned-to.ensures (omega arith), alig
 pub returns : goal.returns
 returns c =
     let a = c.args in
-    let h : a.state.used * 2 + 1 < length a.memo.now = omega arith in (
-      place_is a.memo.now a.a a.size c.aligned-to.result a.state h (c.aligned-to.ensures (omega arith)),
-      (
-        place_past a.memo.now
-            a.a a.size c.aligned-to.result a.state h,
-        rw c.enter.ensures (index_placed a.memo.now a.index.now a.state.used (a.state.used * 2) a.a c.aligned-to.result refl h (omega arith) c.requires.4),
-      ),
-    )
+    let h : a.state.used * 2 + 1 < length a.memo.now = omega arith in record {
+      copied = place_is a.memo.now a.a a.size c.aligned-to.result a.state h (c.aligned-to.ensures (omega arith));
+      past = place_past a.memo.now a.a a.size c.aligned-to.result a.state h;
+      indexed = rw c.enter.ensures (index_placed a.memo.now a.index.now a.state.used (a.state.used * 2) a.a c.aligned-to.result refl h (omega arith) c.requires.4);
+    }

@@ -1,15 +1,9 @@
 -- What is left of the nine links gives what all give.
-use Prim.Native.Nat.{◌-◌, ◌≤◌}
-use mathlib.Core.Path.{◌≡◌, refl}
+use mathlib.Core.Path.{refl}
 use native.Mathlib.Omega.{arith}
-use lib.ListN.{drop}
-use lib.ListN.{length}
 use borrow.Author.Rules.{rules}
-use Rattle.plan.specs.Copies.{copy_roots}
-use Rattle.copier.specs.TurnLaws.{indexed_at, Held, held_begin, held_next, roots-next, roots_refused, roots_end}
+use Rattle.copier.specs.TurnLaws.{indexed_at, held_begin, held_next, roots-next, roots_refused, roots_end}
 use Rattle.copier.specs.Roots.{roots, roots_nine}
-use Rattle.copier.specs.Standing.{standing}
-use Rattle.copier.specs.Index.{Indexed}
 use Rattle.copier.proofs.roots.column_roots.Goals as goal
 
 pub loop-i-init : goal.loop-i-init
@@ -18,14 +12,15 @@ loop-i-init c = (search rules, held_begin _ _ c.requires.2, search rules, refl, 
 pub returns-in-Refused : goal.returns-in-Refused
 returns-in-Refused c =
     let a = c.args in
-    let n = roots_nine a.image.now a.dg a.cg a.cn in (
-      roots_refused _ _ (roots a.image.now a.dg a.cg a.cn)
+    let n = roots_nine a.image.now a.dg a.cg a.cn in record {
+      copied = roots_refused _ _ (roots a.image.now a.dg a.cg a.cn)
           c.loop-i.i _ _ _
           c.loop-i.invariant.3 (omega arith)
-          c.copy_root-got.ensures.0 c.in-Refused.is
-          c.root-link.ensures,
-      (tt, tt),
-    )
+          c.copy_root-got.ensures.copied c.in-Refused.is
+          c.root-link.ensures;
+      after = tt;
+      indexed = tt;
+    }
 
 pub loop-i-preserved : goal.loop-i-preserved
 loop-i-preserved c =
@@ -33,8 +28,8 @@ loop-i-preserved c =
     let n = roots_nine a.image.now a.dg a.cg a.cn in (
       search rules,
       held_next c.loop-i.invariant.1
-          c.copy_root-got.ensures.0
-          c.copy_root-got.ensures.1.0 c.in-At.is
+          c.copy_root-got.ensures.copied
+          c.copy_root-got.ensures.after c.in-At.is
           c.copy_root-got.auto.memo,
       omega (
         arith,
@@ -44,16 +39,17 @@ loop-i-preserved c =
       roots-next _ _ (roots a.image.now a.dg a.cg a.cn)
           c.loop-i.i _ _ _
           c.loop-i.invariant.3 (omega arith)
-          c.copy_root-got.ensures.0 c.in-At.is
+          c.copy_root-got.ensures.copied c.in-At.is
           c.root-link.ensures,
-      indexed_at c.copy_root-got.ensures.1.1 c.in-At.is,
+      indexed_at c.copy_root-got.ensures.indexed c.in-At.is,
     )
 
 pub returns : goal.returns
 returns c =
     let a = c.args in
     let i = c.loop-i.invariant in
-    let n = roots_nine a.image.now a.dg a.cg a.cn in (
-      roots_end _ _ (roots a.image.now a.dg a.cg a.cn) c.loop-i.i _ _ i.3 (omega arith) i.1,
-      (i.1.after, i.4),
-    )
+    let n = roots_nine a.image.now a.dg a.cg a.cn in record {
+      copied = roots_end _ _ (roots a.image.now a.dg a.cg a.cn) c.loop-i.i _ _ i.3 (omega arith) i.1;
+      after = i.1.after;
+      indexed = i.4;
+    }

@@ -1,13 +1,11 @@
 -- What is left of the nine links gives what all give.
 use Prim.Native.Nat.{◌-◌, ◌≤◌}
-use mathlib.Core.Path.{◌≡◌, refl}
-use native.Mathlib.Omega.{arith}
+use mathlib.Core.Path.{◌≡◌}
 use lib.ListN.{drop}
 use lib.ListN.{length}
-use borrow.Author.Rules.{rules}
 use Rattle.plan.specs.Copies.{copy_roots}
-use Rattle.copier.specs.TurnLaws.{indexed_at, Held, held_begin, held_next, roots-next, roots_refused, roots_end}
-use Rattle.copier.specs.Roots.{roots, roots_nine}
+use Rattle.copier.specs.TurnLaws.{Held}
+use Rattle.copier.specs.Roots.{roots}
 use Rattle.copier.specs.Standing.{standing}
 use Rattle.copier.specs.Index.{Indexed}
 use Rattle.copier.proofs.roots.column_roots.Given as goal

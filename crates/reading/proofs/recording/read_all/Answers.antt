@@ -8,7 +8,7 @@ returns-in-Refused c = all_unknown _ _ _ c.identify-known.ensures c.in-Refused.i
 
 pub count_into-counted-requires : goal.count_into-counted-requires
 count_into-counted-requires c =
-    let m = (walk_met _ _ _ c.walk.new.1.1.0 c.walk.new.1.1.1.0 c.walk.ensures c.met2.given.1) in
+    let m = (walk_met _ _ _ c.walk-met.new.source c.walk-met.new.fragments c.walk-met.ensures c.in-Done.is) in
     (met_holding m c.requires.0 c.requires.1, met_few m)
 
 pub returns-in-Refused-met : goal.returns-in-Refused-met
@@ -19,12 +19,12 @@ returns-in-Refused-met c =
 
 pub returns-in-Refused-counted : goal.returns-in-Refused-counted
 returns-in-Refused-counted c =
-    all_uncounted _ _ _ c.identify-known.ensures c.enum_told.given.1
-    (walk_met _ _ _ c.walk.new.1.1.0 c.walk.new.1.1.1.0 c.walk.ensures c.met2.given.1) c.requires.0 c.requires.1
+    all_uncounted _ _ _ c.identify-known.ensures c.in_default.is
+    (walk_met _ _ _ c.walk-met.new.source c.walk-met.new.fragments c.walk-met.ensures c.in-Done.is) c.requires.0 c.requires.1
     c.count_into-counted.ensures c.in-Refused-counted.is
 
 pub returns-in-Fine : goal.returns-in-Fine
 returns-in-Fine c =
-    all_read _ _ _ c.identify-known.ensures c.enum_told.given.1
-    (walk_met _ _ _ c.walk.new.1.1.0 c.walk.new.1.1.1.0 c.walk.ensures c.met2.given.1) c.requires.0 c.requires.1
+    all_read _ _ _ c.identify-known.ensures c.in_default.is
+    (walk_met _ _ _ c.walk-met.new.source c.walk-met.new.fragments c.walk-met.ensures c.in-Done.is) c.requires.0 c.requires.1
     c.count_into-counted.ensures c.in-Fine.is

@@ -115,10 +115,10 @@ returns-in-Refused-taken c =
     (data_stops _ _ _ _ c.take_data-taken.ensures (after_stopped _ _ c.in-Refused-taken.is))))
 
 pub shape_of-source-in-Refused-met : goal.shape_of-source-in-Refused-met
-shape_of-source-in-Refused-met c = omega (arith, c.walk.invariant.0.words_same, c.visit-met.auto.image, c.groups.invariant.0.words_same, c.met_cg-met.auto.image)
+shape_of-source-in-Refused-met c = omega (arith, c.walk.invariant.0.words_same, c.visit-met.auto.source, c.groups.invariant.0.words_same, c.met_cg-met.auto.source)
 
 pub shape_of-fragments-in-Refused-met : goal.shape_of-fragments-in-Refused-met
-shape_of-fragments-in-Refused-met c = omega (arith, c.walk.invariant.0.frags-same, c.take_data-taken.auto.file, c.groups.invariant.0.frags-same)
+shape_of-fragments-in-Refused-met c = omega (arith, c.walk.invariant.0.frags_same, c.take_data-taken.auto.fragments, c.groups.invariant.0.frags_same)
 
 pub returns-in-Refused-met : goal.returns-in-Refused-met
 returns-in-Refused-met c =
@@ -136,21 +136,21 @@ shape_of-source-in-Refused-met-2 c =
     omega (
       arith,
       c.walk.invariant.0.words_same,
-      c.visit-met.auto.image,
+      c.visit-met.auto.source,
       c.groups.invariant.0.words_same,
-      c.met_cg-met.auto.image,
+      c.met_cg-met.auto.source,
       c.channels.invariant.0.words_same,
-      c.met_cn-met.auto.image,
+      c.met_cn-met.auto.source,
     )
 
 pub shape_of-fragments-in-Refused-met-2 : goal.shape_of-fragments-in-Refused-met-2
 shape_of-fragments-in-Refused-met-2 c =
     omega (
       arith,
-      c.walk.invariant.0.frags-same,
-      c.take_data-taken.auto.file,
-      c.groups.invariant.0.frags-same,
-      c.channels.invariant.0.frags-same,
+      c.walk.invariant.0.frags_same,
+      c.take_data-taken.auto.fragments,
+      c.groups.invariant.0.frags_same,
+      c.channels.invariant.0.frags_same,
     )
 
 pub returns-in-Refused-met-2 : goal.returns-in-Refused-met-2
