@@ -14,7 +14,7 @@ unfolding part
 part_whole n l e = take_all n l (omega arith)
 
 -- cells one after the other, all of one width: number r
-pub cell-part : {rs : List (List ℕ)} (s : List ℕ) (g c : ℕ) → fits s g c ≡ true → Long (samples s g + inval_bytes s g) rs → (r : ℕ) → r < length rs
+pub cell-part : (s : List ℕ) (g c : ℕ) {rs : List (List ℕ)} → fits s g c ≡ true → Long (samples s g + inval_bytes s g) rs → (r : ℕ) → r < length rs
     → part (r * width s g c) (width s g c) (cells s g c rs) ≡ cell s g c (get_or rs r [])
 unfolding cells
 cell-part s g c f none r h = absurd (omega arith)

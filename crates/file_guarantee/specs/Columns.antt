@@ -164,6 +164,7 @@ pub columns_read : {f : List ℕ} (o : Rules) (s : List ℕ) (size : ℕ) (memo 
     → ((b : Block) → In b (structure_blocks o s size memo ats all ps) → Stands f b.at b.bytes)
     → ((b : Block) → In b (data_blocks s size ps) → Stands f b.at b.bytes) → (p : Placed) → In p ps → ColumnRead f s size p
 unfolding structure_blocks
+columns_read {f = f} o s size memo ats all [] good made filled p x4 = elim x4 [ ]
 columns_read {f} o s size memo ats all (q ∷ ps) good made filled p here =
     let k : ColumnSound s size p = (good p here).sound in
     let list : (b : Block) → In b (dl_blocks s size p) → Stands f b.at b.bytes = λ b i. made b (in_list o s size memo ats all p ps i) in

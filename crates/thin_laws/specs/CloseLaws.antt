@@ -56,12 +56,13 @@ use Rattle.thin_laws.specs.LengthLaws.{length-kept_dg, length-kept_cg, length-ke
 -- ---- starts
 all_start : (u : ℕ) → 0 < u → (a d : ℕ) (cs : List Column) (p : Placed) → In p (placed_kept u a d cs) → StartsOn u p
 unfolding with_places places_from kept_sizes
+all_start u h a d [] p x' = elim x' [ ]
 all_start u h a d (c ∷ cs) p here =
     record {
       blocks = λ b. rw (← first_some u (kept_size c) d b) (to_is u d h);
       signal = λ b. signal_starts u h c.signal_of _ b;
     }
-all_start u h a d (c ∷ cs) p (there i) = all_start u h _ _ cs p i
+all_start u h a d (c ∷ cs) p (there i) = all_start u h (a + (kept_size c).structure) (past_data u (kept_size c) d) cs p i
 
 pub kept-starts : {u : ℕ} {s : List ℕ} {cs : List Column} {l : Layout} → LaidKept u s cs l → IsUnit u
     → (p : Placed) → In p l.placed → StartsOn u p

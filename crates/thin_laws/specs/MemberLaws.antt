@@ -40,6 +40,7 @@ pub record Structured (s : List ℕ) (memo : List Copy) (ats : List Attachment) 
 pub structured : (s : List ℕ) (memo : List Copy) (ats : List Attachment) (all ps : List Placed) (p : Placed) → In p ps
     → Structured s memo ats all ps (kept_structure s memo ats all ps) p
 unfolding kept_structure
+structured s memo ats all [] p x' = elim x' [ ]
 structured s memo ats all (q ∷ ps) p here = record {
   before = [];
   after = ps;
@@ -78,11 +79,13 @@ module _ {b : Block} (s : List ℕ) (p : Placed) (ps : List Placed) where
 -- of any column
 pub in_moved : {b : Block} (s : List ℕ) (p : Placed) (ps : List Placed) → In p ps
     → In b (moved_blocks s p.first p.column.group.data_group.fragments) → In b (kept_blocks s ps)
+in_moved {b = b} s p [] x'' j = elim x'' [ ]
 in_moved s p (q ∷ ps) here j = in_first-moved s p ps j
 in_moved s p (q ∷ ps) (there i) j = in_data_later s q ps (in_moved s p ps i j)
 
 pub in_sd : {b : Block} (s : List ℕ) (p : Placed) (ps : List Placed) → In p ps
     → In b (sd_blocks s p.column.signal_of p.sd) → In b (kept_blocks s ps)
+in_sd {b = b} s p [] x'' j = elim x'' [ ]
 in_sd s p (q ∷ ps) here j = in_first_sd s p ps j
 in_sd s p (q ∷ ps) (there i) j = in_data_later s q ps (in_sd s p ps i j)
 

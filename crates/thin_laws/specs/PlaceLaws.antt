@@ -82,6 +82,7 @@ pub record Lies (a e d f : ℕ) (p : Placed) : Type 0 where
 pub column_lies : (u : ℕ) → IsUnit u → (a d : ℕ) (cs : List Column) (p : Placed) → In p (placed_kept u a d cs)
     → Lies a (structures_end a (kept_sizes cs)) d (places_end u d (kept_sizes cs)) p
 unfolding with_places places_from structures_end places_end kept_sizes
+column_lies u i a d [] p x' = elim x' [ ]
 column_lies u i a d (c ∷ cs) p here =
     let z : Sizes = kept_size c in
     let w = past u i z d in
@@ -110,13 +111,14 @@ column_lies u i a d (c ∷ cs) p (there j) =
 -- it is one of those that were to be placed
 pub in_columns_lem : (u a d : ℕ) (cs : List Column) (p : Placed) → In p (placed_kept u a d cs) → In p.column cs
 unfolding with_places places_from kept_sizes
+in_columns_lem u a d [] p x' = elim x' [ ]
 in_columns_lem u a d (c ∷ cs) p here = here
-in_columns_lem u a d (c ∷ cs) p (there i) = there (in_columns_lem u _ _ cs p i)
+in_columns_lem u a d (c ∷ cs) p (there i) = there (in_columns_lem u (a + (kept_size c).structure) (past_data u (kept_size c) d) cs p i)
 
 pub placed-columns : (u a d : ℕ) (cs : List Column) → columns_placed (placed_kept u a d cs) ≡ cs
 unfolding with_places places_from kept_sizes columns_placed
 placed-columns u a d [] = refl
-placed-columns u a d (c ∷ cs) = ap (λ (l : List Column). c ∷ l) (placed-columns u _ _ cs)
+placed-columns u a d (c ∷ cs) = ap (λ (l : List Column). c ∷ l) (placed-columns u (a + (kept_size c).structure) (past_data u (kept_size c) d) cs)
 
 -- ---- all columns: each DG begins at or past the end of the structure before it
 unfoldable pub Ascending : ℕ → List Placed → ℕ → Type 0
@@ -140,7 +142,7 @@ module _ {u : ℕ} {s : List ℕ} {cs : List Column} {l : Layout} (o : LaidKept 
   data_before_lem = omega (arith, o.file_size_lem, laid_at_ends s _ _ l.attached.attachments (attachments-laid o).laid)
 
   pub kept-columns : columns_placed l.placed ≡ cs
-  kept-columns = rw o.placed (placed-columns u _ _ cs)
+  kept-columns = rw o.placed (placed-columns u (a + (kept_size c).structure) (past_data u (kept_size c) d) cs)
 
   pub kept_in_lem : (p : Placed) → In p l.placed → In p.column cs
   kept_in_lem p i = in_columns_lem u _ _ cs p (subst (In p) o.placed i)

@@ -7,4 +7,4 @@ pub returns-then-n-eq0 : goal.returns-then-n-eq0
 returns-then-n-eq0 c = dl-none _ c.if-n-eq0.true
 
 pub returns : goal.returns
-returns c = dl-some _ _ (omega arith) c.wrapping_add_u64.ensures
+returns c = dl-some _ _ (omega arith) c.wrapping_add_u64.ensures.value

@@ -6,7 +6,7 @@ use Rattle.filling.proofs.put_dl.Goals as goal
 pub returns : goal.returns
 returns c = dl-laid _ _ _ _ _ _ _ _ _ _
     c.dl_size.ensures
-    c.wrapping_add_u64.ensures
+    c.wrapping_add_u64.ensures.value
     c.header.ensures
     c.put_u64.ensures
     c.put_links.ensures c.put_dl_past.ensures

@@ -21,8 +21,8 @@ loop-left-preserved c = (
       c.loop-left-test.true
       c.loop-left.invariant.2
       c.put_u64.ensures
-      c.wrapping_add_u64-step.ensures
-      c.wrapping_add_u64-b.ensures,
+      c.wrapping_add_u64-step.ensures.value
+      c.wrapping_add_u64-b.ensures.value,
 )
 
 pub returns : goal.returns

@@ -5,6 +5,6 @@ use Rattle.filling.proofs.put_md.Goals as goal
 
 pub returns : goal.returns
 returns c = md_laid _ _ _ _ _ _ _ refl
-    c.wrapping_add_u64.ensures
+    c.wrapping_add_u64.ensures.value
     c.header.ensures
     c.copy.ensures c.put_padding.ensures

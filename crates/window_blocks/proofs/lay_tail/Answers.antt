@@ -8,5 +8,5 @@ returns-then-n-i c = c.lay_dl_data.ensures ∙ tail_past _ _ _ _ _ c.if-n-i.true
 
 pub returns : goal.returns
 returns c =
-    tail_inside _ _ _ _ _ _ _ _ _ _ _ c.if-n-i.false c.wrapping_add_u64-step.ensures c.times.ensures c.wrapping_add_u64-b.ensures c.wrapping_add_u64-next.ensures
+    tail_inside _ _ _ _ _ _ _ _ _ _ _ c.if-n-i.false c.wrapping_add_u64-step.ensures.value c.times.ensures c.wrapping_add_u64-b.ensures.value c.wrapping_add_u64-next.ensures.value
     c.lay_u64.ensures c.put_tail.ensures

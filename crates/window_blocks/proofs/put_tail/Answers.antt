@@ -16,8 +16,8 @@ pub loop-left-preserved : goal.loop-left-preserved
 loop-left-preserved c = (
   omega arith,
   omega arith,
-  tail_turn _ _ _ _ _ _ _ _ _ _ c.loop-left-test.true c.loop-left.invariant.2 c.put_u64.ensures c.wrapping_add_u64-step.ensures
-      c.wrapping_add_u64-next.ensures,
+  tail_turn _ _ _ _ _ _ _ _ _ _ c.loop-left-test.true c.loop-left.invariant.2 c.put_u64.ensures c.wrapping_add_u64-step.ensures.value
+      c.wrapping_add_u64-next.ensures.value,
 )
 
 pub returns : goal.returns

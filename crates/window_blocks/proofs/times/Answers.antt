@@ -13,4 +13,4 @@ pub overflow_mul-low : goal.overflow_mul-low
 overflow_mul-low c = omega (arith, half_product (c.args.x % 4294967296) (c.args.y % 4294967296) (omega arith) (omega arith))
 
 pub returns : goal.returns
-returns c = times_wrap _ _ _ _ refl c.wrapping_add_u64.ensures
+returns c = times_wrap _ _ _ _ refl c.wrapping_add_u64.ensures.value

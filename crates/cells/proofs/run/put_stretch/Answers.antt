@@ -17,10 +17,6 @@ use Rattle.cells.specs.SpotLaws.{Stretching, readable_roomy, roomy_next, stretch
 use borrow.Author.Rules.{rules}
 use Rattle.cells.proofs.run.put_stretch.Goals as goal
 
--- the image's bytes can be counted
-short : (c : tie.After-reach invariant_loop decreases_loop) → length c.before.before.before.before.before.before.before.args.image.now ≤ most64
-short c = omega arith
-
 pub returns-then-not-is_roomy : goal.returns-then-not-is_roomy
 returns-then-not-is_roomy c w t y r = absurd (false≢true (sym (c.if-not-is_roomy.true) ∙ c.is_roomy.ensures.1 (readable_roomy w y r)))
 
@@ -35,7 +31,7 @@ put_some-m-requires c =
 pub returns-then-m-left : goal.returns-then-m-left
 returns-then-m-left c w t y r =
     let v = c.loop-left.invariant.2 w t y in
-    let x = stretching_some v w c.put_some-m.result (short c.before.before.before.before.before) c.reach-k.ensures c.put_some-m.ensures.2 in
+    let x = stretching_some v w c.put_some-m.result (omega arith) c.reach-k.ensures c.put_some-m.ensures.2 in
     (x.0, stretching_end v w c.put_some-m.result c.if-m-left.true x.1)
 
 pub overflow_sub-left : goal.overflow_sub-left
@@ -65,6 +61,6 @@ loop-left-preserved c =
       omega (arith, i.1, c.put_some-m.auto.out),
       λ w t y.
           let v = i.2 w t y in
-          let x = stretching_some v w m (short c.before.before.before.before.before.before) c.reach-k.ensures c.put_some-m.ensures.2 in
+          let x = stretching_some v w m (omega arith) c.reach-k.ensures c.put_some-m.ensures.2 in
           stretching_turn v w m x.0 (omega (arith, f)) x.1,
     )

@@ -3,9 +3,6 @@ use borrow.Author.Rules.{rules}
 use Rattle.listing.specs.LinesLaws.{columns-laid}
 use Rattle.listing.proofs.lines.put_columns.Goals as goal
 
-slice-aggregate-put-text : tie.Need-slice-aggregate-put-text
-slice-aggregate-put-text c = search rules
-
 pub returns : goal.returns
 returns c = columns-laid _ _ _ _ _
     c.put_text-p.ensures

@@ -3,9 +3,6 @@ use borrow.Author.Rules.{rules}
 use Rattle.listing.specs.LinesLaws.{omissions_laid}
 use Rattle.listing.proofs.lines.put_omissions.Goals as goal
 
-slice-aggregate-put-text : tie.Need-slice-aggregate-put-text
-slice-aggregate-put-text c = search rules
-
 pub returns : goal.returns
 returns c = omissions_laid _ _
     c.put_text-p.ensures

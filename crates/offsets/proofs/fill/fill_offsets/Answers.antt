@@ -20,7 +20,7 @@ pub returns-then-kept-n : goal.returns-then-kept-n
 returns-then-kept-n c = fills_none _ _ _ _ refl
 
 pub frame_all-room-requires : goal.frame_all-room-requires
-frame_all-room-requires c = (omega arith, (refl, zeros-all 512 refl))
+frame_all-room-requires c = record { in_bounds = omega arith; bounds_len = refl; zeros = zeros-all 512 refl }
 
 pub returns-then-not-room : goal.returns-then-not-room
 returns-then-not-room c = fills_none _ _ _ _ (c.frame_all-room.ensures.1 (c.if-not-room.true))

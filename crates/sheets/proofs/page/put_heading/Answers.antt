@@ -3,12 +3,6 @@ use Rattle.sheets.specs.PageLaws.{heading_put}
 use borrow.Author.Rules.{rules}
 use Rattle.sheets.proofs.page.put_heading.Goals as goal
 
-slice-aggregate-copy : tie.Need-slice-aggregate-copy
-slice-aggregate-copy c = search rules
-
-slice-aggregate-copy-2 : tie.Need-slice-aggregate-copy-2
-slice-aggregate-copy-2 c = search rules
-
 pub returns : goal.returns
 returns c = heading_put _ _
     c.copy.ensures

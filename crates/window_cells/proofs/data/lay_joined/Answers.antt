@@ -8,10 +8,6 @@ use native.Mathlib.Omega.{arith}
 use borrow.Author.Rules.{rules}
 use Rattle.window_cells.proofs.data.lay_joined.Goals as goal
 
--- the image's bytes can be counted
-short : (c : tie.After-reach) → length c.before.before.before.before.before.before.before.before.before.before.before.args.image.now ≤ most64
-short c = omega (arith, c.before.before.before.before.before.before.before.before.before.before.before.well-formed)
-
 pub returns-then-v-eq0 : goal.returns-then-v-eq0
 returns-then-v-eq0 c r m e = lays_none c.args.image.now c.args.fragments.now _ _ _ _ _ r e _ c.seen_in-v.ensures c.if-v-eq0.true
 
@@ -23,6 +19,6 @@ returns c r m e =
     let a = c.args in
     let v = c.seen_in-v.ensures in
     let b = c.begin.ensures in
-    let k = c.reach-k.ensures a.image.now (short c.before.before.before.before) (rw b (spot_front _ _ r)) r (omega (arith, v.within)) in
+    let k = c.reach-k.ensures a.image.now (omega arith) (rw b (spot_front _ _ r)) r (omega (arith, v.within)) in
     lays_some a.image.now a.fragments.now a.a a.at a.offset a.n a.w.now r e _ _ v k.0 k.1
     (c.copy_joined.ensures k.0.ranges (left_there a.image.now a.fragments.now a.a a.at a.offset a.n a.w.now r e _ _ v k.0 k.1) v.fits)

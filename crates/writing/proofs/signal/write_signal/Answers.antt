@@ -6,5 +6,5 @@ use Rattle.writing.proofs.signal.write_signal.Goals as goal
 pub returns : goal.returns
 returns c = signal_is _ _ _ _ _ _ _
     c.joined_size.ensures
-    c.wrapping_add_u64-size.ensures
+    c.wrapping_add_u64-size.ensures.value
     c.header.ensures c.copy_all.ensures
