@@ -1,8 +1,11 @@
 // Holds the conversion to the Rust's answers: converts each image of the file `answers`, prints a line for each answer that differs, then how many
 // are the same. `tools/differ/run answers` writes the file; tools/differ/src/answers.rs says what stands in it.
+#![tactic(auto)]
+
 use choices::Choices;
 use fields::{u8_at, u64_at};
-use libc::STDOUT_FILENO;
+use std::io::{Read, Write};
+use std::{fs, io};
 use writing::convert::{Converted, Report, convert};
 
 // What comparing an answer gives.
@@ -15,27 +18,24 @@ enum Compared {
 }
 
 // A label and a number.
-fn print(label: &[u8], x: u64) {
-    io::write_all(STDOUT_FILENO, label);
-    io::print_decimal(STDOUT_FILENO, x);
+fn print<W: Write>(out: &mut W, label: &str, x: u64) -> io::Result<()> {
+    write!(out, "{label}{x}")
 }
 
 // The line of answer k.
-fn differs(k: u64, what: &[u8]) -> Compared {
-    print(b"answer ", k);
-    io::write_all(STDOUT_FILENO, what);
-    io::write_all(STDOUT_FILENO, b"\n");
-    Compared::Differs
+fn differs<W: Write>(out: &mut W, k: u64, what: &str) -> io::Result<Compared> {
+    print(out, "answer ", k)?;
+    writeln!(out, "{what}")?;
+    Ok(Compared::Differs)
 }
 
-// Fills the first n bytes of a slice; false where it or the file is too short.
-fn fill(fd: i32, to: &mut [u8], n: u64) -> bool {
+// Fills the first n bytes of a slice; false where it or the file is too short, or a read fails.
+fn fill<F: Read>(file: &mut F, to: &mut [u8], n: u64) -> bool {
     let k = n as usize;
     if to.len() < k {
         return false;
     }
-    let got = io::read_full(fd, &mut to[..k]);
-    got == k
+    file.read_exact(&mut to[..k]).is_ok()
 }
 
 // The first n bytes of a slice, or all of it.
@@ -57,12 +57,10 @@ fn word_of(s: &[u64], i: usize) -> u64 {
 
 // Whether two slices have the same first n bytes.
 fn same_bytes(a: &[u8], b: &[u8], n: u64) -> bool {
-    let mut i: u64 = 0;
-    while i < n {
+    for i in 0..n {
         if u8_at(a, i) != u8_at(b, i) {
             return false;
         }
-        i += 1;
     }
     true
 }
@@ -75,12 +73,10 @@ fn same_list(list: &[u64], words: &[u8], n: u64) -> bool {
     if 1024 < n {
         return false;
     }
-    let mut i: u64 = 0;
-    while i < 2 * n {
+    for i in 0..2 * n {
         if word_of(list, i as usize + 1) != u64_at(words, 8 * i) {
             return false;
         }
-        i += 1;
     }
     true
 }
@@ -109,26 +105,33 @@ fn same_report(head: &[u8], r: Report) -> bool {
 }
 
 // A refusal beside a record's: its number and, where that is known, its place.
-fn refused(k: u64, head: &[u8], number: u64, place: u64) -> Compared {
+fn refused<W: Write>(
+    to: &mut W,
+    k: u64,
+    head: &[u8],
+    number: u64,
+    place: u64,
+) -> io::Result<Compared> {
     if u64_at(head, 16) == 0 {
         if u64_at(head, 24) == number {
             if u64_at(head, 32) == 0 {
-                return Compared::Refused;
+                return Ok(Compared::Refused);
             }
             if u64_at(head, 40) == place {
-                return Compared::Refused;
+                return Ok(Compared::Refused);
             }
         }
     }
-    print(b"answer ", k);
-    print(b": refused ", number);
-    print(b" place ", place);
-    io::write_all(STDOUT_FILENO, b"\n");
-    Compared::Differs
+    print(to, "answer ", k)?;
+    print(to, ": refused ", number)?;
+    print(to, " place ", place)?;
+    writeln!(to)?;
+    Ok(Compared::Differs)
 }
 
 // An accepted image beside a record's: report, bytes and omissions.
-fn accepted(
+fn accepted<W: Write>(
+    to: &mut W,
     k: u64,
     head: &[u8],
     r: Report,
@@ -136,24 +139,25 @@ fn accepted(
     list: &[u64],
     res: &[u8],
     omitted: &[u8],
-) -> Compared {
+) -> io::Result<Compared> {
     if u64_at(head, 16) == 0 {
-        return differs(k, b": accepted");
+        return differs(to, k, ": accepted");
     }
     if !same_report(head, r) {
-        return differs(k, b": another report");
+        return differs(to, k, ": another report");
     }
     if !same_bytes(out, res, u64_at(head, 64)) {
-        return differs(k, b": other bytes");
+        return differs(to, k, ": other bytes");
     }
     if !same_list(list, omitted, u64_at(head, 72)) {
-        return differs(k, b": other omissions");
+        return differs(to, k, ": other omissions");
     }
-    Compared::Accepted
+    Ok(Compared::Accepted)
 }
 
 // The conversion of a record's image beside its answer.
-fn compare(
+fn compare<W: Write>(
+    to: &mut W,
     k: u64,
     head: &[u8],
     ident: &[u8],
@@ -161,7 +165,7 @@ fn compare(
     text: &[u8],
     res: &[u8],
     omitted: &[u8],
-) -> Compared {
+) -> io::Result<Compared> {
     let mut source = [0u64; 8192];
     let mut fragments = [0u64; 8192];
     let mut columns = [0u64; 8192];
@@ -190,45 +194,46 @@ fn compare(
         &mut list,
     );
     match answer {
-        Converted::Refused { number, place } => refused(k, head, number, place),
-        Converted::Done(r) => accepted(k, head, r, &out, &list, res, omitted),
+        Converted::Refused { number, place } => refused(to, k, head, number, place),
+        Converted::Done(r) => accepted(to, k, head, r, &out, &list, res, omitted),
     }
 }
 
 // The file's next record, the one of answer k.
-fn next(fd: i32, k: u64) -> Compared {
+fn next<W: Write, F: Read>(to: &mut W, file: &mut F, k: u64) -> io::Result<Compared> {
     let mut head = [0u8; 136];
     let mut ident = [0u8; 64];
     let mut image = [0u8; 4096];
     let mut text = [0u8; 4096];
     let mut result = [0u8; 16384];
     let mut omitted = [0u8; 16384];
-    if !fill(fd, &mut head, 136) {
-        return Compared::Unread;
+    if !fill(file, &mut head, 136) {
+        return Ok(Compared::Unread);
     }
-    if !fill(fd, &mut ident, 64) {
-        return Compared::Unread;
+    if !fill(file, &mut ident, 64) {
+        return Ok(Compared::Unread);
     }
     let images = u64_at(&head, 0);
-    if !fill(fd, &mut image, images) {
-        return Compared::Unread;
+    if !fill(file, &mut image, images) {
+        return Ok(Compared::Unread);
     }
     let texts = u64_at(&head, 48);
-    if !fill(fd, &mut text, texts) {
-        return Compared::Unread;
+    if !fill(file, &mut text, texts) {
+        return Ok(Compared::Unread);
     }
     let results = u64_at(&head, 64);
-    if !fill(fd, &mut result, results) {
-        return Compared::Unread;
+    if !fill(file, &mut result, results) {
+        return Ok(Compared::Unread);
     }
     let omissions = u64_at(&head, 72);
     if 1024 < omissions {
-        return Compared::Unread;
+        return Ok(Compared::Unread);
     }
-    if !fill(fd, &mut omitted, 16 * omissions) {
-        return Compared::Unread;
+    if !fill(file, &mut omitted, 16 * omissions) {
+        return Ok(Compared::Unread);
     }
     compare(
+        to,
         k,
         &head,
         &ident,
@@ -239,51 +244,41 @@ fn next(fd: i32, k: u64) -> Compared {
     )
 }
 
-fn cut_short(k: u64) {
-    print(b"cut short at answer ", k);
-    io::write_all(STDOUT_FILENO, b"\n");
+fn cut_short<W: Write>(to: &mut W, k: u64) -> io::Result<()> {
+    print(to, "cut short at answer ", k)?;
+    writeln!(to)
 }
 
-fn summary(n: u64, same: u64, accepted: u64, refused: u64) {
-    io::print_decimal(STDOUT_FILENO, n);
-    print(b" answers, ", same);
-    print(b" the same: ", accepted);
-    print(b" accepted, ", refused);
-    io::write_all(STDOUT_FILENO, b" refused\n");
+fn summary<W: Write>(to: &mut W, n: u64, same: u64, accepted: u64, refused: u64) -> io::Result<()> {
+    writeln!(
+        to,
+        "{n} answers, {same} the same: {accepted} accepted, {refused} refused"
+    )
 }
 
 // The answers of a file.
-fn all(fd: i32) {
+fn all<W: Write, F: Read>(to: &mut W, file: &mut F) -> io::Result<()> {
     let mut head = [0u8; 8];
-    if !fill(fd, &mut head, 8) {
-        return;
+    if !fill(file, &mut head, 8) {
+        return Ok(());
     }
     let n = u64_at(&head, 0);
     let mut accepted: u64 = 0;
     let mut refused: u64 = 0;
-    let mut k: u64 = 0;
-    while k < n {
-        let compared = next(fd, k);
-        k += 1;
-        match compared {
-            Compared::Unread => {
-                cut_short(k - 1);
-                return;
-            }
+    for k in 0..n {
+        match next(to, file, k)? {
+            Compared::Unread => return cut_short(to, k),
             Compared::Differs => {}
             Compared::Accepted => accepted += 1,
             Compared::Refused => refused += 1,
         }
     }
-    summary(n, accepted + refused, accepted, refused);
+    summary(to, n, accepted + refused, accepted, refused)
 }
 
-fn main() {
-    let fd = os::open_read(b"answers");
-    if fd < 0 {
-        os::fail(b"answers");
-        return;
+fn main(rt: HostRuntime) -> io::Result<()> {
+    match fs::open(&rt, "answers") {
+        Ok(mut file) => all(&mut io::writer(&rt), &mut file),
+        Err(error) => eprintln!(rt; "answers: {error}"),
     }
-    all(fd);
-    libc::close(fd);
 }

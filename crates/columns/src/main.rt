@@ -1,11 +1,19 @@
 // Prints the columns and omissions that a conversion plans, or its refusal: of the recording on standard input, then of each that an argument names.
+#![tactic(auto)]
+
 use choices::Choices;
-use libc::{STDIN_FILENO, STDOUT_FILENO};
 use listing::recording::list;
+use std::alloc::Global;
+use std::io::{Input, Read, Write};
+use std::rt::Files;
+use std::{env, fs, io};
 use writing::convert::convert;
 
+// An image has at most so many bytes.
+const IMAGE_BYTES: u64 = 65536;
+
 // The lines of an image's conversion.
-fn show(image: &[u8]) {
+fn show<W: Write>(to: &mut W, image: &[u8]) -> io::Result<()> {
     let ident =
         b"MDF     4.20    sitaungo\0\0\0\0\xa4\x01\0\0\0\0\0\0\0\0\0\0\0\0\0\0\0\0\0\0\0\0\0\0\0\0\0\0\0\0\0\0\0\0\0\0";
     let mut source = [0u64; 8192];
@@ -53,41 +61,38 @@ fn show(image: &[u8]) {
         &mut columns,
         &mut copies,
     );
-    io::write_all(STDOUT_FILENO, &lines[..n]);
+    to.write_all(&lines[..n])
 }
 
-// The lines of what a file descriptor gives, up to 65,536 bytes.
-fn show_input(fd: i32) {
-    let mut image = [0u8; 65537];
-    let n = io::read_full(fd, &mut image);
-    if 65536 < n {
-        io::write_all(STDOUT_FILENO, b"input too long\n");
-        return;
+// The lines of what a reader gives, up to 65,536 bytes.
+fn show_input<W: Write, I: Read + Drop>(to: &mut W, alloc: Global, input: I) -> io::Result<()> {
+    let mut image = Vec::new(alloc);
+    let mut first = input.take(IMAGE_BYTES + 1);
+    first.read_to_end(&mut image)?;
+    if IMAGE_BYTES < image.len() as u64 {
+        return writeln!(to, "input too long");
     }
-    show(&image[..n]);
+    show(to, image.as_slice())
 }
 
-// The recording named by argument i.
-fn show_named(i: usize) {
-    let mut name = io::buffer();
-    let n = os::arg(i, &mut name);
-    io::write_all(STDOUT_FILENO, &name[..n]);
-    io::write_all(STDOUT_FILENO, b"\n");
-    let fd = os::open_read(&name[..n]);
-    if fd < 0 {
-        os::fail(&name[..n]);
-        return;
+// The recording of this name. One that cannot be opened gets a line on standard error.
+fn show_named<R: Files + Eprint + AllocGlobal, W: Write>(
+    rt: &R,
+    to: &mut W,
+    name: &str,
+) -> io::Result<()> {
+    writeln!(to, "{name}")?;
+    match fs::open(rt, name) {
+        Ok(file) => show_input(to, rt.alloc(), file),
+        Err(error) => eprintln!(rt; "{name}: {error}"),
     }
-    show_input(fd);
-    libc::close(fd);
 }
 
-fn main() {
-    show_input(STDIN_FILENO);
-    let mut i: usize = 1;
-    let n = os::arg_count();
-    while i < n {
-        show_named(i);
-        i += 1;
+fn main(rt: HostRuntime) -> io::Result<()> {
+    let mut to = io::writer(&rt);
+    show_input(&mut to, rt.alloc(), rt.reader())?;
+    for name in env::args(&rt)?.skip(1) {
+        show_named(&rt, &mut to, name.as_str())?;
     }
+    Ok(())
 }

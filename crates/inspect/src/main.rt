@@ -1,72 +1,82 @@
 // Prints what reading finds in each recording that an argument names.
-use libc::STDOUT_FILENO;
+#![tactic(auto)]
+
 use reading::answer::Read;
 use reading::recording::read;
+use std::alloc::Global;
+use std::io::{Read as _, Write};
+use std::rt::Files;
+use std::{env, fs, io};
+
+// At most so many bytes of a recording are read.
+const IMAGE_BYTES: u64 = 65536;
 
 // A label and a number.
-fn print(label: &[u8], x: u64) {
-    io::write_all(STDOUT_FILENO, label);
-    io::print_decimal(STDOUT_FILENO, x);
+fn print<W: Write>(out: &mut W, label: &str, x: u64) -> io::Result<()> {
+    write!(out, "{label}{x}")
 }
 
 // The counts of so many groups.
-fn print_counts(source: &[u64; 4096], groups: u64) {
-    io::write_all(STDOUT_FILENO, b" counts");
-    let mut g: usize = 0;
-    while g < 512 {
+fn print_counts<W: Write>(out: &mut W, source: &[u64; 4096], groups: u64) -> io::Result<()> {
+    write!(out, " counts")?;
+    for g in 0..512usize {
         if g as u64 == groups {
-            return;
+            return Ok(());
         }
-        print(b" ", source[3584 + g]);
-        g += 1;
+        print(out, " ", source[3584 + g])?;
     }
+    Ok(())
 }
 
 // What reading finds in an image.
-fn show(image: &[u8]) {
+fn show<W: Write>(out: &mut W, image: &[u8]) -> io::Result<()> {
     let mut source = [0u64; 4096];
     let mut fragments = [0u64; 3072];
     let found = read(image, &mut source, &mut fragments);
     match found {
         Read::Refused { number, place } => {
-            print(b" refused ", number);
-            print(b" place ", place);
+            print(out, " refused ", number)?;
+            print(out, " place ", place)?;
         }
         Read::Done {
             items,
             groups,
             fragments: count,
         } => {
-            print(b" items ", items);
-            print(b" groups ", groups);
-            print(b" fragments ", count);
-            print_counts(&source, groups);
+            print(out, " items ", items)?;
+            print(out, " groups ", groups)?;
+            print(out, " fragments ", count)?;
+            print_counts(out, &source, groups)?;
         }
     }
-    io::write_all(STDOUT_FILENO, b"\n");
+    writeln!(out)
 }
 
-// The recording named by argument i.
-fn inspect(i: usize) {
-    let mut name = io::buffer();
-    let n = os::arg(i, &mut name);
-    io::write_all(STDOUT_FILENO, &name[..n]);
-    let fd = os::open_read(&name[..n]);
-    if fd < 0 {
-        os::fail(&name[..n]);
-        return;
-    }
-    let mut image = io::large_buffer();
-    let k = io::read_full(fd, &mut image);
-    libc::close(fd);
-    show(&image[..k]);
+// What reading finds in a file's first bytes.
+fn show_file<W: Write, F: io::Read + Drop>(out: &mut W, alloc: Global, file: F) -> io::Result<()> {
+    let mut image = Vec::new(alloc);
+    let mut first = file.take(IMAGE_BYTES);
+    first.read_to_end(&mut image)?;
+    show(out, image.as_slice())
 }
 
-fn main() {
-    let mut i: usize = 1;
-    let n = os::arg_count();
-    while i < n {
-        inspect(i);
-        i += 1;
+// The recording of this name. One that cannot be opened gets a line on standard error.
+fn inspect<R: Files + Eprint + AllocGlobal, W: Write>(
+    rt: &R,
+    out: &mut W,
+    name: &str,
+) -> io::Result<()> {
+    write!(out, "{name}")?;
+    match fs::open(rt, name) {
+        Ok(file) => show_file(out, rt.alloc(), file),
+        Err(error) => eprintln!(rt; "{name}: {error}"),
     }
+}
+
+fn main(rt: HostRuntime) -> io::Result<()> {
+    let mut out = io::writer(&rt);
+    for name in env::args(&rt)?.skip(1) {
+        inspect(&rt, &mut out, name.as_str())?;
+    }
+    Ok(())
 }

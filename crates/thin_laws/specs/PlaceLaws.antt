@@ -142,7 +142,7 @@ module _ {u : ℕ} {s : List ℕ} {cs : List Column} {l : Layout} (o : LaidKept 
   data_before_lem = omega (arith, o.file_size_lem, laid_at_ends s _ _ l.attached.attachments (attachments-laid o).laid)
 
   pub kept-columns : columns_placed l.placed ≡ cs
-  kept-columns = rw o.placed (placed-columns u (a + (kept_size c).structure) (past_data u (kept_size c) d) cs)
+  kept-columns = rw o.placed (placed-columns u _ _ cs)
 
   pub kept_in_lem : (p : Placed) → In p l.placed → In p.column cs
   kept_in_lem p i = in_columns_lem u _ _ cs p (subst (In p) o.placed i)

@@ -9,13 +9,6 @@ use Rattle.std.specs.Prelude.{not}
 use Rattle.std.proofs.Common.{ap}
 use Rattle.comparing.proofs.times.times_same.Goals as goal
 
--- the forms of both masters' cells
-one : (c : tie.After-shape-of2) → ShapeOf c.before.before.before.before.before.before.before.before.before.before.before.args.image.now c.before.before.before.before.before.before.before.before.before.before.before.args.a.at c.before.before.before.before.before.before.before.before.before.before.before.args.a.master c.before.shape_of.result
-one c = c.before.shape_of.ensures (sym c.before.before.before.before.before.fits_in.ensures ∙ not-false _ c.before.before.before.before.if1.false)
-
-two : (c : tie.After-shape-of2) → ShapeOf c.before.before.before.before.before.before.before.before.before.before.before.args.image.now c.before.before.before.before.before.before.before.before.before.before.before.args.b.at c.before.before.before.before.before.before.before.before.before.before.before.args.b.master c.shape-of2.result
-two c = c.shape-of2.ensures (sym c.before.before.before.fits-in2.ensures ∙ not-false _ c.before.before.if2.false)
-
 pub returns-then-not-fits_in : goal.returns-then-not-fits_in
 returns-then-not-fits_in c = times-unfit c.fits_in.ensures (ap not c.if-not-fits_in.true)
 
@@ -23,16 +16,16 @@ pub returns-then-not-fits_in-2 : goal.returns-then-not-fits_in-2
 returns-then-not-fits_in-2 c = times_unfitting c.fits_in-2.ensures (ap not c.if-not-fits_in-2.true)
 
 pub returns-then-h-i : goal.returns-then-h-i
-returns-then-h-i c = times-bytes (one c.before.before.before) (two c.before.before.before) (omega arith)
+returns-then-h-i c = times-bytes (c.shape_of-h.ensures (sym c.fits_in.ensures ∙ c.if-not-fits_in.false)) (c.shape_of-i.ensures (sym c.fits_in-2.ensures ∙ c.if-not-fits_in-2.false)) (omega arith)
 
 pub returns-then-h-i-2 : goal.returns-then-h-i-2
-returns-then-h-i-2 c = times_keep (one c.before.before.before.before.before.before) (two c.before.before.before.before.before.before) c.if-h-i-2.true
+returns-then-h-i-2 c = times_keep (c.shape_of-h.ensures (sym c.fits_in.ensures ∙ c.if-not-fits_in.false)) (c.shape_of-i.ensures (sym c.fits_in-2.ensures ∙ c.if-not-fits_in-2.false)) c.if-h-i-2.true
 
 pub returns-then-h-eq0 : goal.returns-then-h-eq0
-returns-then-h-eq0 c = times_empty (one c.before.before.before.before.before.before.before.before) (two c.before.before.before.before.before.before.before.before) (omega arith)
+returns-then-h-eq0 c = times_empty (c.shape_of-h.ensures (sym c.fits_in.ensures ∙ c.if-not-fits_in.false)) (c.shape_of-i.ensures (sym c.fits_in-2.ensures ∙ c.if-not-fits_in-2.false)) (omega arith)
 
 pub records_same-requires : goal.records_same-requires
-records_same-requires c = ((one c.before.before.before.before.before.before.before.before).shaped, (two c.before.before.before.before.before.before.before.before).shaped, omega arith, alike _ _ c.if-h-i-2.false)
+records_same-requires c = ((c.shape_of-h.ensures (sym c.fits_in.ensures ∙ c.if-not-fits_in.false)).shaped, (c.shape_of-i.ensures (sym c.fits_in-2.ensures ∙ c.if-not-fits_in-2.false)).shaped, omega arith, alike _ _ c.if-h-i-2.false)
 
 pub returns : goal.returns
-returns c = times-by (one c.before.before.before.before.before.before.before.before.before) (two c.before.before.before.before.before.before.before.before.before) (omega arith) (omega arith) (alike _ _ c.if-h-i-2.false) c.records_same.ensures
+returns c = times-by (c.shape_of-h.ensures (sym c.fits_in.ensures ∙ c.if-not-fits_in.false)) (c.shape_of-i.ensures (sym c.fits_in-2.ensures ∙ c.if-not-fits_in-2.false)) (omega arith) (omega arith) (alike _ _ c.if-h-i-2.false) c.records_same.ensures

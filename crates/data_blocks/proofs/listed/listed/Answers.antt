@@ -10,24 +10,6 @@ use borrow.Author.Rules.{rules}
 use native.Mathlib.Omega.{arith}
 use Rattle.data_blocks.proofs.listed.listed.Goals as goal
 
--- the records of a turn are of one block
-turn : (c : tie.After-least invariant_loop decreases_loop) → Piece c.before.before.before.before.before.before.before.before.before.before.before.before.before.before.before.args.f.per c.before.before.before.before.before.before.before.before.loop.at c.least.result (c.before.before.before.before.before.before.before.before.before.before.before.before.before.before.before.args.n - c.before.before.before.before.before.before.before.before.loop.at)
-turn c =
-    let r = begin_room c.before.before.before.before.before.before.before.before.before.before.before.before.before.before.before.requires.1 c.before.before.before.before.before.before.before.before.loop.at (omega (arith, c.before.before.before.before.before.before.before.before.before.before.before.before.before.before.before.requires.5)) in
-    piece_of _ _ _ _ r.0 (omega arith) c.least.ensures
-
--- the words are there, and the block has room for the cells
-put : (c : tie.After-put-gathered invariant_loop decreases_loop)
-    → FewOrAll c.before.before.before.before.before.before.before.before.before.before.before.before.before.before.before.before.before.args.image.now c.before.before.before.before.before.before.before.before.before.before.before.before.before.before.before.before.before.args.fragments.now c.before.before.before.before.before.before.before.before.before.before.before.before.before.before.before.before.before.args.f.shape c.before.before.before.before.before.before.before.before.before.before.before.before.before.before.before.before.before.args.words.now c.before.before.before.before.before.before.before.before.before.before.before.before.before.before.before.before.before.args.size (c.before.before.before.before.before.before.before.before.before.before.before.before.before.before.before.before.before.args.first + c.before.before.before.before.before.before.before.before.before.before.loop.at) c.before.before.least.result
-    c.before.before.before.before.before.before.before.begin-block.result c.put-gathered.result c.before.before.before.before.before.before.before.begin-block.new.0 c.put-gathered.new.0
-put c =
-    let p = c.before.before.before.before.before.before.before.before.before.before.before.before.before.before.before.before.before.requires in
-    let v = c.before.before.before.before.before.before.before.before.before.before.loop.invariant in
-    let q = turn (c.before.before) in
-    let r = piece_room p.1 c.before.before.before.before.before.before.before.before.before.before.loop.at c.before.before.least.result q.some q.block (omega (arith, q.within, p.5)) in
-    c.put-gathered.ensures.1 p.0 v.spot p.2 (omega (arith, q.within, p.3))
-    (omega (arith, r, c.before.before.before.before.before.before.before.begin-block.ensures.0, v.same, c.before.before.before.before.before.before.before.begin-block.auto))
-
 pub loop-at-init : goal.loop-at-init
 loop-at-init c = let a = c.args in listing_begin a.f a.words.now a.first a.a a.out.now c.requires.4 (rw c.begin-k.ensures (spot_front _ _ c.requires.0.ranges))
 
@@ -50,7 +32,7 @@ pub overflow_add-from : goal.overflow_add-from
 overflow_add-from c = omega (arith, c.requires.3, c.well_formed.1)
 
 pub overflow_add-result : goal.overflow_add-result
-overflow_add-result c = let q = turn (c.before.before.before.before.before.before.before) in omega (arith, q.within, c.put_gathered-r.ensures.0, c.ranges.n)
+overflow_add-result c = let q : Piece c.args.f.per c.loop-at.at c.least-c.result (c.args.n - c.loop-at.at) = (let r = begin_room c.requires.1 c.loop-at.at (omega (arith, c.requires.5)) in piece_of _ _ _ _ r.0 (omega arith) c.least-c.ensures) in omega (arith, q.within, c.put_gathered-r.ensures.0, c.ranges.n)
 
 pub shape_of-out-then-r-c : goal.shape_of-out-then-r-c
 shape_of-out-then-r-c c = omega (arith, c.begin_block-body.auto.out, c.put_gathered-r.auto.out, c.loop-at.invariant.same)
@@ -60,8 +42,10 @@ returns-then-r-c c =
     let p = c.requires in
     let a = c.args in
     let v = c.loop-at.invariant in
-    let q = turn (c.before.before.before.before.before.before.before) in
-    let r = put (c.before.before.before.before.before) in (
+    let q : Piece c.args.f.per c.loop-at.at c.least-c.result (c.args.n - c.loop-at.at) = (let r = begin_room c.requires.1 c.loop-at.at (omega (arith, c.requires.5)) in piece_of _ _ _ _ r.0 (omega arith) c.least-c.ensures) in
+    let x = piece_room p.1 c.loop-at.at c.least-c.result q.some q.block (omega (arith, q.within, p.5)) in
+    let r = c.put_gathered-r.ensures.1 p.0 v.spot p.2 (omega (arith, q.within, p.3))
+        (omega (arith, x, c.begin_block-body.ensures.0, v.same, c.begin_block-body.auto)) in (
       omega (arith, v.number),
       omega (arith, q.within),
       listed_stop _ _ _ a.words.now a.first a.n a.a _ (c.loop-at.at + c.put_gathered-r.result.count) p.0.shaped p.0.ranges p.2
@@ -69,18 +53,20 @@ returns-then-r-c c =
     )
 
 pub overflow_add-at : goal.overflow_add-at
-overflow_add-at c = let q = turn (c.before.before.before.before.before.before.before.before) in omega (arith, q.within, c.put_gathered-r.ensures.0, c.ranges.n)
+overflow_add-at c = let q : Piece c.args.f.per c.loop-at.at c.least-c.result (c.args.n - c.loop-at.at) = (let r = begin_room c.requires.1 c.loop-at.at (omega (arith, c.requires.5)) in piece_of _ _ _ _ r.0 (omega arith) c.least-c.ensures) in omega (arith, q.within, c.put_gathered-r.ensures.0, c.ranges.n)
 
 pub loop-at-smaller : goal.loop-at-smaller
-loop-at-smaller c = let q = turn (c.before.before.before.before.before.before.before.before) in omega (arith, q.some, q.within, c.put_gathered-r.ensures.0)
+loop-at-smaller c = let q : Piece c.args.f.per c.loop-at.at c.least-c.result (c.args.n - c.loop-at.at) = (let r = begin_room c.requires.1 c.loop-at.at (omega (arith, c.requires.5)) in piece_of _ _ _ _ r.0 (omega arith) c.least-c.ensures) in omega (arith, q.some, q.within, c.put_gathered-r.ensures.0)
 
 pub loop-at-preserved : goal.loop-at-preserved
 loop-at-preserved c =
     let p = c.requires in
     let v = c.loop-at.invariant in
-    let q = turn (c.before.before.before.before.before.before.before.before) in
+    let q : Piece c.args.f.per c.loop-at.at c.least-c.result (c.args.n - c.loop-at.at) = (let r = begin_room c.requires.1 c.loop-at.at (omega (arith, c.requires.5)) in piece_of _ _ _ _ r.0 (omega arith) c.least-c.ensures) in
     let b = c.begin_block-body.ensures in
-    let r = put (c.before.before.before.before.before.before) in
+    let x = piece_room p.1 c.loop-at.at c.least-c.result q.some q.block (omega (arith, q.within, p.5)) in
+    let r = c.put_gathered-r.ensures.1 p.0 v.spot p.2 (omega (arith, q.within, p.3))
+        (omega (arith, x, c.begin_block-body.ensures.0, v.same, c.begin_block-body.auto)) in
     let n = c.put_gathered-r.ensures.0 in
     listing_turn v p.3 c.put_gathered-r.result.count (omega (arith, q.within, n))
     (piece_block _ _ _ p.1 _ _ _ _ (omega (arith, q.some)) (omega (arith, q.block, n)) (omega (arith, q.within, n, p.5)) b.0 b.1 r.bytes)

@@ -6,14 +6,6 @@ use borrow.Author.Rules.{rules}
 use native.Mathlib.Omega.{arith}
 use Rattle.data_blocks.proofs.piece.put_piece.Goals as goal
 
--- the records of a turn are of one block
-turn : (c : tie.After-least invariant_loop decreases_loop) → Piece c.before.before.before.before.before.before.before.before.before.before.before.before.args.f.per c.before.before.before.before.before.before.before.loop.at c.least.result c.before.before.before.before.before.before.before.loop.left
-turn c =
-    let p = c.before.before.before.before.before.before.before.before.before.before.before.before.requires in
-    let v = c.before.before.before.before.before.before.before.loop.invariant.0 in
-    let r = begin_room p.1 c.before.before.before.before.before.before.before.loop.at (omega (arith, piecing_few v p.3, v.lying.some)) in
-    piece_of _ _ _ _ r.0 v.lying.some c.least.ensures
-
 pub loop-left-init : goal.loop-left-init
 loop-left-init c =
     let p = c.requires in
@@ -44,7 +36,7 @@ pub returns-then-c-left : goal.returns-then-c-left
 returns-then-c-left c =
     let p = c.requires in
     let v = c.loop-left.invariant.0 in
-    let q = turn (c.before.before.before.before.before) in
+    let q : Piece c.args.f.per c.loop-left.at c.least-c.result c.loop-left.left = (let r = begin_room c.requires.1 c.loop-left.at (omega (arith, piecing_few c.loop-left.invariant.0 c.requires.3, c.loop-left.invariant.0.lying.some)) in piece_of _ _ _ _ r.0 c.loop-left.invariant.0.lying.some c.least-c.ensures) in
     let b = c.begin_block-body.ensures in
     let g = piece_ready v p.3 p.1 q b.0 b.1 in
     let r = c.put_stretch-k.ensures p.0 c.loop-left.invariant.1 g.0 g.1 in
@@ -53,34 +45,34 @@ returns-then-c-left c =
 pub overflow_add-at : goal.overflow_add-at
 overflow_add-at c =
     let p = c.requires in
-    let q = turn (c.before.before.before.before.before) in
+    let q : Piece c.args.f.per c.loop-left.at c.least-c.result c.loop-left.left = (let r = begin_room c.requires.1 c.loop-left.at (omega (arith, piecing_few c.loop-left.invariant.0 c.requires.3, c.loop-left.invariant.0.lying.some)) in piece_of _ _ _ _ r.0 c.loop-left.invariant.0.lying.some c.least-c.ensures) in
     omega (arith, piecing_few c.loop-left.invariant.0 p.3, q.within)
 
 pub overflow_mul-offset : goal.overflow_mul-offset
 overflow_mul-offset c =
     let p = c.requires in
-    let q = turn (c.before.before.before.before.before.before) in
+    let q : Piece c.args.f.per c.loop-left.at c.least-c.result c.loop-left.left = (let r = begin_room c.requires.1 c.loop-left.at (omega (arith, piecing_few c.loop-left.invariant.0 c.requires.3, c.loop-left.invariant.0.lying.some)) in piece_of _ _ _ _ r.0 c.loop-left.invariant.0.lying.some c.least-c.ensures) in
     let y = lying_past c.least-c.result c.loop-left.invariant.0.lying (omega (arith, q.within)) in
     omega (arith, y.within, p.0.small)
 
 pub overflow_add-offset : goal.overflow_add-offset
 overflow_add-offset c =
     let p = c.requires in
-    let q = turn (c.before.before.before.before.before.before) in
+    let q : Piece c.args.f.per c.loop-left.at c.least-c.result c.loop-left.left = (let r = begin_room c.requires.1 c.loop-left.at (omega (arith, piecing_few c.loop-left.invariant.0 c.requires.3, c.loop-left.invariant.0.lying.some)) in piece_of _ _ _ _ r.0 c.loop-left.invariant.0.lying.some c.least-c.ensures) in
     let y = lying_past c.least-c.result c.loop-left.invariant.0.lying (omega (arith, q.within)) in
     omega (arith, y.within, p.0.small)
 
 pub overflow_sub-left : goal.overflow_sub-left
-overflow_sub-left c = let q = turn (c.before.before.before.before.before.before) in omega (arith, q.within)
+overflow_sub-left c = let q : Piece c.args.f.per c.loop-left.at c.least-c.result c.loop-left.left = (let r = begin_room c.requires.1 c.loop-left.at (omega (arith, piecing_few c.loop-left.invariant.0 c.requires.3, c.loop-left.invariant.0.lying.some)) in piece_of _ _ _ _ r.0 c.loop-left.invariant.0.lying.some c.least-c.ensures) in omega (arith, q.within)
 
 pub loop-left-smaller : goal.loop-left-smaller
-loop-left-smaller c = let q = turn (c.before.before.before.before.before.before) in omega (arith, q.some, q.within)
+loop-left-smaller c = let q : Piece c.args.f.per c.loop-left.at c.least-c.result c.loop-left.left = (let r = begin_room c.requires.1 c.loop-left.at (omega (arith, piecing_few c.loop-left.invariant.0 c.requires.3, c.loop-left.invariant.0.lying.some)) in piece_of _ _ _ _ r.0 c.loop-left.invariant.0.lying.some c.least-c.ensures) in omega (arith, q.some, q.within)
 
 pub loop-left-preserved : goal.loop-left-preserved
 loop-left-preserved c =
     let p = c.requires in
     let v = c.loop-left.invariant.0 in
-    let q = turn (c.before.before.before.before.before.before) in
+    let q : Piece c.args.f.per c.loop-left.at c.least-c.result c.loop-left.left = (let r = begin_room c.requires.1 c.loop-left.at (omega (arith, piecing_few c.loop-left.invariant.0 c.requires.3, c.loop-left.invariant.0.lying.some)) in piece_of _ _ _ _ r.0 c.loop-left.invariant.0.lying.some c.least-c.ensures) in
     let b = c.begin_block-body.ensures in
     let g = piece_ready v p.3 p.1 q b.0 b.1 in
     let r = c.put_stretch-k.ensures p.0 c.loop-left.invariant.1 g.0 g.1 in (

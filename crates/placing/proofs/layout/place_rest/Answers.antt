@@ -7,16 +7,6 @@ use Rattle.placing.specs.InWordsLaws.{all-few}
 use Rattle.placing.specs.LayingLaws.{rest-moved, rest_refused, rest_near}
 use Rattle.placing.proofs.layout.place_rest.Goals as goal
 
--- past the columns' data there is room for the attachments
-near : (c : tie.After-place-columns) → c.place-columns.result ≤ 576460752303423488
-near c =
-    let a = c.before.before.before.before.before.before.before.before.args in
-    let h = c.before.before.before.before.before.before.before.before.requires in
-    (rest_near a.unit a.photos a.image.now a.size a.columns.now a.fragments.now a.n a.state
-    (c.before.before.before.aligned.ensures (omega (arith, h.4))) c.before.before.structure-end.ensures
-    c.place-columns.ensures.0 h.0 h.4 h.5 h.6
-    h.7).2
-
 pub structure_end-end-requires : goal.structure_end-end-requires
 structure_end-end-requires c =
     let a = c.args in
@@ -52,8 +42,8 @@ returns-in-At c =
       words = omega (arith, h.1, l);
       limit = omega arith;
       few = h.3;
-      near = near
-          c.before.before.before.before.before.before.before.before.before.before;
+      near = (rest_near c.args.unit c.args.photos c.args.image.now c.args.size c.args.columns.now c.args.fragments.now c.args.n c.args.state
+          (c.aligned-a.ensures (omega (arith, h.4))) c.structure_end-end.ensures c.place_columns-data.ensures.end h.0 h.4 h.5 h.6 h.7).2;
     }) (omega (arith, h.2)))
     c.in-At.is
 
@@ -73,7 +63,7 @@ returns-in-Refused c =
       words = omega (arith, h.1, l);
       limit = omega arith;
       few = h.3;
-      near = near
-          c.before.before.before.before.before.before.before.before.before.before;
+      near = (rest_near c.args.unit c.args.photos c.args.image.now c.args.size c.args.columns.now c.args.fragments.now c.args.n c.args.state
+          (c.aligned-a.ensures (omega (arith, h.4))) c.structure_end-end.ensures c.place_columns-data.ensures.end h.0 h.4 h.5 h.6 h.7).2;
     }) (omega (arith, h.2)))
     c.in-Refused.is
