@@ -50,6 +50,7 @@ wide_one n w e h = ltb-true 0 w (go (ltb 0 n) (lt-ltb 0 n h) e)
     go false q e = absurd (false≢true q)
 
 pub all_wide : (s : List ℕ) (cs : List Column) → are_wide s cs ≡ true → Wide s cs
+all_wide s [] e c x3 h = elim x3 [ ]
 all_wide s (k ∷ cs) e c here h = wide_one c.group.records (column_width s c) (test_first (is_wide s c) (are_wide s cs) e) h
 all_wide s (k ∷ cs) e c (there i) h = all_wide s cs (test_rest (is_wide s k) (are_wide s cs) e) c i h
 

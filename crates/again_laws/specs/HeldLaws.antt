@@ -82,6 +82,7 @@ pub shown-each : {f : List ℕ} (o : Rules) (s : List ℕ) (size : ℕ) (memo : 
     → ((b : Block) → In b (data_blocks s size ps) → Stands f b.at b.bytes)
     → (p : Placed) → In p ps → shown_at f p.dg ≡ due o s size all p
 unfolding structure_blocks
+shown-each {f = f} o s size memo ats all [] sound refers below made filled p x6 = elim x6 [ ]
 shown-each o s size memo ats all (q ∷ ps) sound refers below made filled p here =
     column-shown o s size memo ats all p (next_dg ps) (sound p here) (refers p here) below (made _ here) (made _ (there here)) (made _ (there (there here)))
     (λ b i. made b (in_list o s size memo ats all p ps i)) (λ b i. filled b (in_payload s size p ps i)) (λ b i. filled b (in_signal s size p ps i))
@@ -101,6 +102,7 @@ data_each : {f : List ℕ} (o : Rules) (s : List ℕ) (size : ℕ) (memo : List 
     → ((b : Block) → In b (data_blocks s size ps) → Stands f b.at b.bytes)
     → (p : Placed) → In p ps → DataHeld f s size p
 unfolding structure_blocks
+data_each {f = f} o s size memo ats all [] sound made filled p x4 = elim x4 [ ]
 data_each o s size memo ats all (q ∷ ps) sound made filled p here =
     record {
       payload = column-joined s size p (sound p here) (λ b i. made b (in_list o s size memo ats all p ps i)) (λ b i. filled b (in_payload s size p ps i));
@@ -117,6 +119,7 @@ record StandsBefore (f s : List ℕ) (size : ℕ) (p : Placed) : Type 0 where
 
 stands_each : (f s : List ℕ) (size a : ℕ) (ps : List Placed) → AllStand f a (file_columns s size ps) → (p : Placed) → In p ps → StandsBefore f s size p
 unfolding AllStand file_columns file_column
+stands_each f s size a [] h p x'' = elim x'' [ ]
 stands_each f s size a (q ∷ ps) h p here = record { after = first_dg (file_columns s size ps); stands = h.1 }
 stands_each f s size a (q ∷ ps) h p (there i) = stands_each f s size _ ps h.2 p i
 

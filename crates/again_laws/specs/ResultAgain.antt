@@ -67,6 +67,7 @@ photo_links_lem f o s size all p h b =
 again_in : (photos : Bool) (f s : List ℕ) (size : ℕ) (ps : List Placed) (c : Column) → In c (columns_again photos f s size ps)
     → (p : Placed) × In p ps × (c ≡ column_again photos f s size p)
 unfolding columns_again
+again_in photos f s size [] c x' = elim x' [ ]
 again_in photos f s size (p ∷ ps) c here = (p, here, refl)
 again_in photos f s size (p ∷ ps) c (there i) = let r = again_in photos f s size ps c i in (r.0, there r.1, r.2)
 

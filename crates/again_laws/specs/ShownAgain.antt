@@ -29,6 +29,7 @@ pub record NumberIn (ps : List Placed) (p : Placed) : Type 0 where
 
 pub in_number : (ps : List Placed) (p : Placed) → In p ps → NumberIn ps p
 unfolding placed_number
+in_number [] p x' = elim x' [ ]
 in_number (q ∷ ps) p here = record { number = 0; at = refl }
 in_number (q ∷ ps) p (there i) = let n = in_number ps p i in record { number = suc n.number; at = n.at }
 

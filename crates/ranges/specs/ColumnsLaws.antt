@@ -5,7 +5,7 @@ use mathlib.Core.List.{List, [], ◌∷◌, ◌++◌, append_assoc}
 use Rattle.std.proofs.Math.Bool.{true, false}
 use Rattle.std.proofs.Math.Option.{Option, none, some}
 use Rattle.std.proofs.Math.Path.{◌≡◌, refl, sym}
-use Rattle.std.proofs.Common.{◌∙◌, le_refl, length-append, ltb-true, ltb-false}
+use Rattle.std.proofs.Common.{◌∙◌, subst, le_refl, length-append, ltb-true, ltb-false}
 use native.Mathlib.Omega.{arith}
 use Rattle.std.proofs.Math.Seq.{take-length}
 use Rattle.base.specs.Blit.{part}
@@ -13,7 +13,7 @@ use Rattle.base.specs.Choice.{pick}
 use Rattle.base.specs.ChoiceLaws.{lt_yes, lt_no}
 use Rattle.base.specs.Checked.{Checked, ok, refused, and_then, fine}
 use Rattle.mdf.specs.Block.{link_at}
-use Rattle.mdf.specs.Chain.{Fragment, file_limits}
+use Rattle.mdf.specs.Chain.{Fragment, records, found, chain, file_limits}
 use Rattle.mdf.specs.Walk.{Item, dg, cg, cn}
 use Rattle.mdf.specs.Group.{Group, DataGroup, channels_of, groups_of, up_to, data_groups_of}
 use Rattle.mdf.specs.Records.{ranges_in}
@@ -83,6 +83,10 @@ module _ {s : List ℕ} {n k' n' : ℕ} {is : List Item} {fs gs : List Fragment}
       let u : up_to (length all) is ≡ n + length fs = rw (← end) (up_to_met m) in
       let d : n + length fs - n ≡ length fs = omega arith in
       rw (u, d, e, ← long) (own_fragments pre fs gs)
+
+own_of : {s : List ℕ} {n n1 k' n' : ℕ} {is : List Item} {fs gs : List Fragment} (all pre : List Fragment) → Met file_limits s 1 n1 is gs k' n' → n1 ≡ n + length fs
+    → length pre ≡ n → all ≡ pre ++ (fs ++ gs) → n' ≡ length all → part n (up_to (length all) is - n) all ≡ fs
+own_of {s} {n} {n1} {k'} {n'} {is} {fs} {gs} all pre m q = dg-own all pre (subst (λ (x : ℕ). Met file_limits s 1 x is gs k' n') q m)
 
 -- ---- the form
 -- at the end, or at a DG
@@ -197,42 +201,50 @@ some-own : (a b c : ℕ) {fs gs : List Fragment} → fs ≡ gs
 some-own a b c e = rw e
 
 module _ (s w : List ℕ) where
-  pub met_columns : {k n k' n' : ℕ} {is : List Item} {gs : List Fragment} (all pre : List Fragment) (j : ℕ) → Met file_limits s k n is gs k' n' → AtDG is
-      → length pre ≡ n → all ≡ pre ++ gs → n' ≡ length all → Stands w (3 * j) (address_words is) → Stands w (marks_at + 3 * j) (mark_words is)
-      → columns_in s (data_groups_of all is) ≡ form_from s w (length is) j
+  -- from a DG on, with what the walk met after it: n1 fragments were found when its own, fs, were
+  after_dg : {n1 k' n' : ℕ} {is : List Item} {gs : List Fragment} (all pre fs : List Fragment) (n a j : ℕ)
+      → chain records file_limits s n (link_at s a 2) ≡ found fs → Met file_limits s 1 n1 is gs k' n' → n1 ≡ n + length fs
+      → length pre ≡ n → all ≡ pre ++ (fs ++ gs) → n' ≡ length all → Stands w (3 * j) (a ∷ address_words is) → Stands w (marks_at + 3 * j) ((2 + n) ∷ mark_words is)
+      → columns_in s (data_groups_of all (dg a n ∷ is)) ≡ form_from s w (suc (length is)) j
   unfolding data_groups_of groups_of channels_of address_words mark_words alone up_to
-  met_columns all pre j met_none h p e f x y = no_columns s w j
-  met_columns all pre j (met_dg c met_none) h p e f x y = none_in s _ _ refl ∙ sym (form_few s w 1 j (omega arith) (omega arith))
-  met_columns all pre j (met_dg {n = n} c (met_dg {n = m} {is = is} c2 m2)) h p e f x y =
+  after_dg all pre fs n a j c met_none q p e f x y = none_in s _ _ refl ∙ sym (form_few s w 1 j (omega arith) (omega arith))
+  after_dg all pre fs n a j c (met_dg {n = m} {is = is} c2 m2) q p e f x y =
       none_in s _ _ refl ∙ sym (bad_second s w j (2 + n) (2 + m) (mark_words is) y (omega arith) _ (λ z. omega arith) (omega arith))
-  met_columns all pre j (met_dg c (met_cn_lem g m2)) h p e f x y = absurd (omega arith)
-  met_columns all pre j (met_dg c (met_cg_lem g met_none)) h p e f x y = none_in s _ _ refl ∙ sym (form_few s w 2 j (omega arith) (omega arith))
-  met_columns all pre j (met_dg {n = n} c (met_cg_lem g (met_dg {n = m} {is = is} c2 m2))) h p e f x y =
+  after_dg all pre fs n a j c (met_cn_lem g m2) q p e f x y = absurd (omega arith)
+  after_dg all pre fs n a j c (met_cg_lem g met_none) q p e f x y = none_in s _ _ refl ∙ sym (form_few s w 2 j (omega arith) (omega arith))
+  after_dg all pre fs n a j c (met_cg_lem g (met_dg {n = m} {is = is} c2 m2)) q p e f x y =
       none_in s _ _ refl ∙ sym (bad_third s w j (2 + n) (2 + m) (mark_words is) y (omega arith) _ (λ z. omega arith) (omega arith))
-  met_columns all pre j (met_dg {n = n} c (met_cg_lem g (met_cg_lem {is = is} g2 m2))) h p e f x y =
+  after_dg all pre fs n a j c (met_cg_lem g (met_cg_lem {is = is} g2 m2)) q p e f x y =
       none_in s _ _ refl ∙ sym (bad_third s w j (2 + n) 1 (mark_words is) y (omega arith) _ (λ z. omega arith) (omega arith))
-  met_columns all pre j (met_dg {n = n} c (met_cg_lem g (met_cn_lem g2 (met_cg_lem {is = is} g3 m3)))) h p e f x y =
+  after_dg all pre fs n a j c (met_cg_lem g (met_cn_lem g2 (met_cg_lem {is = is} g3 m3))) q p e f x y =
       let z : marks_at + 3 * j + 1 + 1 + 1 ≡ marks_at + 3 * (j + 1) = omega arith in
       none_in s _ _ refl
       ∙ sym (dead s w j _ (bad_first s w (j + 1) 1 (mark_words is)
       (stands_at (stands_next 0 (1 ∷ mark_words is) (stands_next 1 (0 ∷ 1 ∷ mark_words is) (stands_next (2 + n) (1 ∷ 0 ∷ 1 ∷ mark_words is) y))) z)
       _ (omega arith) (omega arith)))
-  met_columns all pre j (met_dg {n = n} {a = a} c (met_cg_lem {a = b} g (met_cn_lem {a = c1} g2 (met_cn_lem {a = c2} {is = is} g3 m3)))) h p e f x y =
+  after_dg all pre fs n a j c (met_cg_lem {a = b} g (met_cn_lem {a = c1} g2 (met_cn_lem {a = c2} {is = is} g3 m3))) q p e f x y =
       let z : marks_at + 3 * j + 1 + 1 + 1 ≡ marks_at + 3 * (j + 1) = omega arith in
       none_in s _ _ (pair_none a b c1 c2 (part n (up_to (length all) (cg b ∷ cn c1 ∷ cn c2 ∷ is) - n) all) (channels_of is) (groups_of is))
       ∙ sym (dead s w j _ (bad_first s w (j + 1) 0 (mark_words is)
       (stands_at (stands_next 0 (0 ∷ mark_words is) (stands_next 1 (0 ∷ 0 ∷ mark_words is) (stands_next (2 + n) (1 ∷ 0 ∷ 0 ∷ mark_words is) y))) z)
       _ (omega arith) (omega arith)))
-  met_columns all pre j (met_dg {n = n} {a = a} {fs = fs} {gs = gs} c (met_cg_lem {a = b} g (met_cn_lem {a = d} g2 met_none))) h p e f x y =
-      let own = dg-own {s = s} {is = cg b ∷ cn d ∷ []} all pre (met_cg_lem {a = b} g (met_cn_lem {a = d} g2 met_none)) p e f in
+  after_dg all pre fs n a j c (met_cg_lem {a = b} g (met_cn_lem {a = d} g2 met_none)) q p e f x y =
+      let own : part n (up_to (length all) (cg b ∷ cn d ∷ []) - n) all ≡ fs = own_of {s = s} all pre (met_cg_lem {a = b} g (met_cn_lem {a = d} g2 met_none)) q p e f in
       good s w j a n b d [] [] x y fs _ 0 _ (some-own a b d own) (same_form s a b d fs 258 (found-chained file_limits s n (link_at s a 2) c)) (no_columns s w (j + 1))
-  met_columns all pre j (met_dg {n = n} {a = a} {fs = fs} {gs = gs} c (met_cg_lem {a = b} g (met_cn_lem {a = d} g2 (met_dg {a = a2} {is = is} c2 m2)))) h p e f x y =
-      let own = dg-own {s = s} all pre (met_cg_lem {a = b} g (met_cn_lem {a = d} g2 (met_dg {a = a2} c2 m2))) p e f in
+  after_dg {n1 = n1} all pre fs n a j c (met_cg_lem {a = b} g (met_cn_lem {a = d} g2 (met_dg {a = a2} {is = is} {fs = fs2} {gs = gs2} c2 m2))) q p e f x y =
+      let own : part n (up_to (length all) (cg b ∷ cn d ∷ dg a2 n1 ∷ is) - n) all ≡ fs = own_of {s = s} all pre (met_cg_lem {a = b} g (met_cn_lem {a = d} g2 (met_dg {a = a2} c2 m2))) q p e f in
       let z : marks_at + 3 * j + 1 + 1 + 1 ≡ marks_at + 3 * (j + 1) = omega arith in
       let z2 : 3 * j + 1 + 1 + 1 ≡ 3 * (j + 1) = omega arith in
       good s w j a n b d _ _ x y fs _ _ _ (some-own a b d own) (same_form s a b d fs 258 (found-chained file_limits s n (link_at s a 2) c))
-      (met_columns {k = 2} all (pre ++ fs) (j + 1) (met_dg {a = a2} c2 m2) tt (rw (length-append pre fs, p)) (e ∙ sym (append_assoc pre fs gs)) f
+      (after_dg all (pre ++ fs) fs2 n1 a2 (j + 1) c2 m2 refl (rw (length-append pre fs, p) (sym q)) (e ∙ sym (append_assoc pre fs (fs2 ++ gs2))) f
       (stands_at (stands_next d _ (stands_next b _ (stands_next a _ x))) z2)
       (stands_at (stands_next 0 _ (stands_next 1 _ (stands_next (2 + n) _ y))) z))
+
+  pub met_columns : {k n k' n' : ℕ} {is : List Item} {gs : List Fragment} (all pre : List Fragment) (j : ℕ) → Met file_limits s k n is gs k' n' → AtDG is
+      → length pre ≡ n → all ≡ pre ++ gs → n' ≡ length all → Stands w (3 * j) (address_words is) → Stands w (marks_at + 3 * j) (mark_words is)
+      → columns_in s (data_groups_of all is) ≡ form_from s w (length is) j
+  unfolding data_groups_of groups_of channels_of address_words mark_words alone up_to
+  met_columns all pre j met_none h p e f x y = no_columns s w j
+  met_columns all pre j (met_dg {n = n} {a = a} {fs = fs} c m) h p e f x y = after_dg all pre fs n a j c m refl p e f x y
   met_columns all pre j (met_cg_lem g m) h p e f x y = absurd h
   met_columns all pre j (met_cn_lem g m) h p e f x y = absurd h

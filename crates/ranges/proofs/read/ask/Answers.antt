@@ -4,10 +4,10 @@ use borrow.Author.Rules.{rules}
 use Rattle.ranges.proofs.read.ask.Goals as goal
 
 pub ask_opened-requires : goal.ask_opened-requires
-ask_opened-requires c = ask_holds _ c.open_columns-opened.last.1.0 (c.open_columns-opened.ensures (search rules)) c.in-Fine.is
+ask_opened-requires c = ask_holds _ c.open_columns-opened.new.source (c.open_columns-opened.ensures (search rules)) c.in-Fine.is
 
 pub returns-in-Refused : goal.returns-in-Refused
-returns-in-Refused c = ask_refused _ c.open_columns-opened.last.1.0 _ _ _ (c.open_columns-opened.ensures (search rules)) c.in-Refused.is
+returns-in-Refused c = ask_refused _ c.open_columns-opened.new.source _ _ _ (c.open_columns-opened.ensures (search rules)) c.in-Refused.is
 
 pub returns-in-Fine : goal.returns-in-Fine
 returns-in-Fine c = c.ask_opened.ensures

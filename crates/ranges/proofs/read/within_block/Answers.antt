@@ -17,7 +17,7 @@ pub overflow_add-result-2 : goal.overflow_add-result-2
 overflow_add-result-2 c = let a = block_place _ _ _ _ _ c.requires c.link_at-a.ensures c.links_of-links.ensures c.seek-found.result c.seek-found.ensures c.link_at-x.ensures c.bytes_at.ensures in let b = block_inside _ _ _ _ _ c.requires c.link_at-a.ensures c.links_of-links.ensures c.seek-found.result c.seek-found.ensures c.link_at-x.ensures c.bytes_at.ensures in omega arith
 
 pub overflow_mul-result : goal.overflow_mul-result
-overflow_mul-result c = let b = not_many _ _ _ c.requires.some c.if-left-w.false in omega (arith, c.bytes_at.ok)
+overflow_mul-result c = let b = not_many _ _ _ c.requires.some c.if-left-w.false in omega (arith, c.bytes_at.type_inv)
 
 pub returns : goal.returns
 returns c = block_at _ _ _ _ _ c.requires c.link_at-a.ensures c.links_of-links.ensures c.seek-found.result c.seek-found.ensures c.link_at-x.ensures c.bytes_at.ensures (not_many _ _ _ c.requires.some c.if-left-w.false)

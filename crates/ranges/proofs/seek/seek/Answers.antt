@@ -9,10 +9,10 @@ pub loop-i-init : goal.loop-i-init
 loop-i-init c = seek_begin _ _ _ _ _ (omega arith)
 
 pub overflow_mul-result : goal.overflow_mul-result
-overflow_mul-result c = omega (arith, c.take_off-rest.ensures.yes c.if-rest.true, c.bytes_at-z.type-inv)
+overflow_mul-result c = omega (arith, c.take_off-rest.ensures.yes c.if-rest.true, c.bytes_at-z.type_inv)
 
 pub overflow_add-result : goal.overflow_add-result
-overflow_add-result c = omega (arith, c.take_off-rest.ensures.yes c.if-rest.true, c.bytes_at-z.type-inv)
+overflow_add-result c = omega (arith, c.take_off-rest.ensures.yes c.if-rest.true, c.bytes_at-z.type_inv)
 
 pub returns-then-rest : goal.returns-then-rest
 returns-then-rest c = seek_here c.loop-i.invariant c.loop-i-test.true c.link_at.ensures c.bytes_at-z.ensures c.take_off-rest.ensures c.if-rest.true
