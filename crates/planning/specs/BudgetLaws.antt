@@ -68,6 +68,7 @@ waiting-plain s cs c (g ∷ gs) e = rw (time_plain g.at 0 cs c e, waiting-plain 
 pub waiting_fewer : (s : List ℕ) (cs : List Column) (c : Column) (gs : List SrcGroup) {t : SrcGroup} {m : ℕ} → In t gs → master_of s t ≡ some m
     → time_column t.at 0 cs ≡ none → c.is_time_lem ≡ true → c.group.at ≡ t.at → waiting s (cs ++ (c ∷ [])) gs + 1 ≤ waiting s cs gs
 unfolding waiting
+waiting_fewer s cs c [] {t = t} {m = m} x5 e q y a = elim x5 [ ]
 waiting_fewer s cs c (g ∷ gs) here e q y a =
     let z : lack (master_of s g) (time_column g.at 0 (cs ++ (c ∷ []))) ≡ 0 = rw (e, time_added g.at 0 cs c q y a) in
     let l : lack (master_of s g) (time_column g.at 0 cs) ≡ 1 = rw (e, q) in

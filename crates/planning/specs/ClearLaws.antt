@@ -45,6 +45,7 @@ fragments_few fs (cn a ∷ is) d i = fragments_few fs is d i
 -- ---- the DG of a compared group is checked
 any_in : (s : List ℕ) (all gs : List SrcGroup) (g : SrcGroup) → In g gs → is_compared s all g ≡ true → any_compared s all g.data_group.at gs ≡ true
 unfolding any_compared
+any_in s all [] g x'' e = elim x'' [ ]
 any_in s all (h ∷ gs) g here e = rw (eq-eqb g.data_group.at g.data_group.at refl, e)
 any_in s all (h ∷ gs) g (there i) e = rw (any_in s all gs g i e) (go (both (eqb h.data_group.at g.data_group.at) (is_compared s all h)))
   where
@@ -55,6 +56,7 @@ any_in s all (h ∷ gs) g (there i) e = rw (any_in s all gs g i e) (go (both (eq
 stream_checked : (s : List ℕ) (all : List SrcGroup) (ds : List DataGroup) (d : DataGroup) → compared_in s all ds ≡ fine → In d ds
     → any_compared s all d.at all ≡ true → streams_in s d.at (addresses d.groups) d.fragments ≡ fine
 unfolding compared_in
+stream_checked s all [] d e x3 q = elim x3 [ ]
 stream_checked s all (b ∷ ds) d e here q =
     let read = streams_in s d.at (addresses d.groups) d.fragments in
     under (any_compared s all d.at all) read (then_fine (pick (any_compared s all d.at all) read fine) (λ _. compared_in s all ds) e).0 q

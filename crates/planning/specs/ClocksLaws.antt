@@ -180,6 +180,7 @@ with_append s key (g ∷ gs) hs = omega (arith, with_append s key gs hs)
 
 with_in : (s key : List ℕ) (gs : List SrcGroup) (g : SrcGroup) (m : ℕ) → In g gs → master_of s g ≡ some m → time_key s g m ≡ key → 0 < with_key s key gs
 unfolding with_key
+with_in s key [] g m x3 e k = elim x3 [ ]
 with_in s key (h ∷ gs) g m here e k = rw (e, k, same_self) (omega arith)
 with_in s key (h ∷ gs) g m (there i) e k = omega (arith, with_in s key gs g m i e k)
 

@@ -296,6 +296,7 @@ several_of s d (g ∷ []) fs e n = absurd (n refl)
 several_of s d (g ∷ h ∷ gs) fs e n = with_ok (unsorted_frames s d (g ∷ h ∷ gs) fs) _ e (λ rs i k. rw i)
 
 pub several_counted : (s : List ℕ) (ds : List DataGroup) (ns : List ℕ) → Counted s ds ns → (d : DataGroup) → In d ds → Several s d
+several_counted s [] ns _ d' x3 = elim x3 [ ]
 several_counted s (d ∷ ds) ns (and_more ms rest e c r) d' here = several_of s d.at (addresses d.groups) d.fragments c
 several_counted s (d ∷ ds) ns (and_more ms rest e c r) d' (there i) = several_counted s ds rest r d' i
 

@@ -31,6 +31,7 @@ one c own = pick-few (eqb c own)
 
 others_in_lem : (own : ℕ) (cs : List ℕ) → In own cs → others own cs + 1 ≤ length cs
 unfolding others
+others_in_lem own [] x' = elim x' [ ]
 others_in_lem own (c ∷ cs) here =
     let e : ◌≡◌ {A = ℕ} 0 (if_eq c c 0 1) = eq_yes _ _ _ _ refl refl in
     let b = others-few c cs in

@@ -22,7 +22,7 @@ use Rattle.window_copies.specs.Laying.{Wholes, Apart, Laying, Passed}
 pub laid_wholes : (s : List ℕ) (a : ℕ) (cs : List Copy) (e : ℕ) → Laid s a cs e → Wholes s cs
 unfolding Laid Wholes
 laid_wholes s a [] e l = tt
-laid_wholes s a (c ∷ cs) e l = (l.1, laid_wholes s _ cs e l.2)
+laid_wholes s a (c ∷ cs) e l = (l.1, laid_wholes s (c.to + size_at s c.from) cs e l.2)
 
 -- ---- a block that ends before the window, or begins past it
 pub apart_before : (s : List ℕ) (a n b at : ℕ) {z : ℕ} → at < a → z ≡ size_at s b → ltb (a - at) z ≡ false → Apart s a n b at
