@@ -28,7 +28,7 @@ drop-front : (n : ℕ) (xs ys : List ℕ) → length xs ≡ n → drop n (xs ++ 
 drop-front n xs ys e = ap (λ (k : ℕ). drop k (xs ++ ys)) (sym e) ∙ drop-append_seam xs ys
 
 -- joined cells, cut where each ends
-pub pieces-cells : {rs : List (List ℕ)} (s : List ℕ) (g c : ℕ) → fits s g c ≡ true → Long (samples s g + inval_bytes s g) rs
+pub pieces-cells : (s : List ℕ) (g c : ℕ) {rs : List (List ℕ)} → fits s g c ≡ true → Long (samples s g + inval_bytes s g) rs
     → pieces (length rs) (width s g c) (cells s g c rs) ≡ cell_rows s g c rs
 unfolding pieces cells cell_rows
 pieces-cells s g c f none = refl

@@ -149,6 +149,8 @@ record ToldAt (s w f t : List ℕ) (gs : List SrcGroup) (k i : ℕ) : Type 0 whe
 told-from : (s w f t : List ℕ) (k n i : ℕ) (gs : List SrcGroup) → Tabled s w f k (entries_at t k n) gs → i < n → ToldAt s w f t gs k i
 unfolding entries_at
 told-from s w f t k zero i gs b h = absurd (omega arith)
+told-from s w f t k (suc n) zero [] b h = elim b [ ]
+told-from s w f t k (suc n) (suc i) [] b h = elim b [ ]
 told-from s w f t k (suc n) zero (g ∷ gs) (an_entry x more) h = record { group = g; at = at_first_lem g gs; tells = subst (λ (m : ℕ). Tells s w f m (entry_at t m) g) (sym (add-zero k)) x }
 told-from s w f t k (suc n) (suc i) (g ∷ gs) (an_entry x more) h =
     let r = told-from s w f t (k + 1) n i gs more (omega arith) in

@@ -157,7 +157,10 @@ entries_back (e ∷ es) k w h =
     rw l at (blit-append (entry_words e) (8 * k) (table_words es) w) in
     let a = entry_first (blit (8 * (k + 1)) (table_words es) (blit (8 * k) (entry_words e) w)) k e (λ j q.
     blit_before (table_words es) (8 * (k + 1)) (8 * k + j) _ (omega arith) ∙ blit_among (entry_words e) (8 * k) j w (omega (arith, first-length)) (omega arith)) in
-    rw (b, a, entries_back es (k + 1) (blit (8 * k) (entry_words e) w) (rw length-blit (omega arith)))
+    let more : List ℕ = blit (8 * (k + 1)) (table_words es) (blit (8 * k) (entry_words e) w) in
+    let i = entries_back es (k + 1) (blit (8 * k) (entry_words e) w) (rw length-blit (omega arith)) in
+    ap (λ (v : List ℕ). entries_at v k (length (e ∷ es))) b ∙ ap (λ (x : Entry). x ∷ entries_at more (k + 1) (length es)) a
+    ∙ ap (λ (xs : List Entry). e ∷ xs) i
   where
     first-length : 8 * k + length (entry_words e) ≡ 8 * (k + 1)
     first-length = let z = entry_length e in omega arith

@@ -127,6 +127,8 @@ module _ (o : Rules) (s : List ℕ) (size : ℕ) (f : List ℕ) (all : List Plac
   says_none a q ps e = none≢one e
 
   says_from : (n a : ℕ) (ps : List Placed) → shown_from n f a ≡ due_all o s size all ps → (p : Placed) → In p ps → Says o.table s f all p
+  says_from zero a [] e p i = elim i [ ]
+  says_from (suc n) a [] e p i = elim i [ ]
   says_from zero a (q ∷ ps) e p i = absurd (says_none a q ps e)
   says_from (suc n) a (q ∷ ps) e p here = says_one a p (says_cons n a p ps e).0
   says_from (suc n) a (q ∷ ps) e p (there j) = says_from n (link_at f a 0) ps (says_cons n a q ps e).1 p j

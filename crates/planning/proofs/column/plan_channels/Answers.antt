@@ -5,7 +5,7 @@ use Prim.Native.Nat.{◌-◌}
 use mathlib.Core.Path.{◌≡◌, refl}
 use lib.ListN.{length}
 use native.Mathlib.Omega.{arith}
-use borrow.Author.Rules.{rules}
+use borrow.Author.Rules.{rules as needs}
 use Rattle.planning.proofs.column.plan_channels.Goals as goal
 
 pub loop-k-init : goal.loop-k-init
@@ -27,8 +27,8 @@ returns-in-Refused c = channels_refused
 
 pub loop-k-preserved-in-Done : goal.loop-k-preserved-in-Done
 loop-k-preserved-in-Done c = (
-  search rules,
-  search rules,
+  search needs,
+  search needs,
   channels_on
       c.loop-k.invariant.2
       c.loop-k-test.true
@@ -41,8 +41,8 @@ loop-k-preserved-in-Done c = (
 
 pub loop-k-preserved : goal.loop-k-preserved
 loop-k-preserved c = (
-  search rules,
-  search rules,
+  search needs,
+  search needs,
   channels_pass c.loop-k.invariant.2
       c.loop-k-test.true c.word.ensures
       c.if-word-ne0.false c.word-c.ensures c.if-c-own.false,

@@ -5,7 +5,7 @@ use Prim.Native.Nat.{◌-◌}
 use mathlib.Core.Path.{◌≡◌, refl}
 use lib.ListN.{length}
 use native.Mathlib.Omega.{arith}
-use borrow.Author.Rules.{rules}
+use borrow.Author.Rules.{rules as needs}
 use Rattle.planning.proofs.planned.plan_noted.Goals as goal
 
 pub loop-i-init : goal.loop-i-init
@@ -13,12 +13,12 @@ loop-i-init c = (refl, refl, groups_begin (omega arith))
 
 pub plan_group-planned-requires : goal.plan_group-planned-requires
 plan_group-planned-requires c = (
-  search rules,
-  search rules,
-  search rules,
-  search rules,
-  search rules,
-  search rules,
+  search needs,
+  search needs,
+  search needs,
+  search needs,
+  search needs,
+  search needs,
   c.requires.3,
 )
 
@@ -34,8 +34,8 @@ returns-in-Refused c = groups_refused
 
 pub loop-i-preserved-in-Done : goal.loop-i-preserved-in-Done
 loop-i-preserved-in-Done c = (
-  search rules,
-  search rules,
+  search needs,
+  search needs,
   groups_on
       c.loop-i.invariant.2
       c.loop-i-test.true
@@ -48,8 +48,8 @@ loop-i-preserved-in-Done c = (
 
 pub loop-i-preserved-then-mark-ne0 : goal.loop-i-preserved-then-mark-ne0
 loop-i-preserved-then-mark-ne0 c = (
-  search rules,
-  search rules,
+  search needs,
+  search needs,
   groups_data c.loop-i.invariant.2
       c.loop-i-test.true c.word-mark.ensures
       c.word-at.ensures c.if-mark-ne0.true c.if-mark-eq1.false,
@@ -57,8 +57,8 @@ loop-i-preserved-then-mark-ne0 c = (
 
 pub loop-i-preserved : goal.loop-i-preserved
 loop-i-preserved c = (
-  search rules,
-  search rules,
+  search needs,
+  search needs,
   groups_channel c.loop-i.invariant.2
       c.loop-i-test.true c.word-mark.ensures
       c.word-at.ensures c.if-mark-ne0.false,

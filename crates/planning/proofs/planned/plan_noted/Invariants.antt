@@ -5,12 +5,12 @@ use Prim.Native.Nat.{◌-◌}
 use mathlib.Core.Path.{◌≡◌, refl}
 use lib.ListN.{length}
 use native.Mathlib.Omega.{arith}
-use borrow.Author.Rules.{rules}
+use borrow.Author.Rules.{rules as needs}
 use Rattle.planning.proofs.planned.plan_noted.Given as goal
 
 abbrev pub invariant-loop-i : goal.invariant-loop-i
 invariant-loop-i l = (length l.columns ≡ length l.initial.columns) × (length l.fragments ≡ length l.initial.fragments)
-    × Groups (rules l.choices l.table) l.image l.source l.stands l.n l.nf l.initial.columns l.initial.fragments l.i l.g l.d columns-now omissions-now fragments-now l.columns l.fragments
+    × Groups (rules l.choices l.table) l.image l.source l.stands l.n l.nf l.initial.columns l.initial.fragments l.i l.g l.d l.columns_now l.omissions_now l.fragments_now l.columns l.fragments
 
 abbrev pub decreases-loop-i : goal.decreases-loop-i
 decreases-loop-i l = l.n - l.i
