@@ -1,6 +1,6 @@
 -- Every accepted result's file holds its placed columns.
-use Rattle.std.specs.Prelude.{ℕ, ◌^◌, ◌<◌, List, ◌∷◌, ◌≡◌, length}
-use Rattle.std.proofs.Common.{sym, ◌∙◌}
+use Rattle.std.specs.Prelude.{[], ℕ, ◌^◌, ◌<◌, List, ◌∷◌, ◌≡◌, length}
+use Rattle.std.proofs.Common.{suc, sym, ◌∙◌}
 use Rattle.std.proofs.Math.Path.{ap}
 use Rattle.base.specs.Blit.{blit}
 use Rattle.base.specs.Checked.{ok}
@@ -121,7 +121,7 @@ stands_each : (f s : List ℕ) (size a : ℕ) (ps : List Placed) → AllStand f 
 unfolding AllStand file_columns file_column
 stands_each f s size a [] h p x'' = elim x'' [ ]
 stands_each f s size a (q ∷ ps) h p here = record { after = first_dg (file_columns s size ps); stands = h.1 }
-stands_each f s size a (q ∷ ps) h p (there i) = stands_each f s size _ ps h.2 p i
+stands_each f s size a (q ∷ ps) h p (there i) = stands_each f s size (suc (file_column s size q).cn) ps h.2 p i
 
 -- ---- a result
 pub result-held : (x : Args) (out list : List ℕ) (d : Decided) → AllBytes x.image → AllBytes x.ident → answer x (length out) (length list) ≡ ok d
