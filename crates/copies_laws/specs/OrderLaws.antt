@@ -5,7 +5,8 @@ use Rattle.std.proofs.Common.{ap, le_refl, arith}
 use Rattle.plan.specs.Columns.{Column}
 use Rattle.plan.specs.Copies.{Copy, Attachment}
 use Rattle.plan.specs.Rules.{Rules}
-use Rattle.plan.specs.Layout.{Sizes, 
+use Rattle.plan.specs.Layout.{
+  Sizes,
   column_blocks,
   cg_size,
   dl_size,

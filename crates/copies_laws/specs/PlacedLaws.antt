@@ -8,7 +8,9 @@ use Rattle.base.specs.Checked.{ok}
 use Rattle.plan.specs.Columns.{Column}
 use Rattle.plan.specs.Data.{blocks_in}
 use Rattle.plan.specs.Rules.{Rules}
-use Rattle.plan.specs.Layout.{places_at, placed_at, 
+use Rattle.plan.specs.Layout.{
+  places_at,
+  placed_at,
   column_width,
   column_blocks,
   cg_size,

@@ -45,7 +45,7 @@ returns-then-r-c c =
     let q : Piece c.args.f.per c.loop-at.at c.least-c.result (c.args.n - c.loop-at.at) = (let r = begin_room c.requires.1 c.loop-at.at (omega (arith, c.requires.5)) in piece_of _ _ _ _ r.0 (omega arith) c.least-c.ensures) in
     let x = piece_room p.1 c.loop-at.at c.least-c.result q.some q.block (omega (arith, q.within, p.5)) in
     let r = c.put_gathered-r.ensures.1 p.0 v.spot p.2 (omega (arith, q.within, p.3))
-        (omega (arith, x, c.begin_block-body.ensures.0, v.same, c.begin_block-body.auto)) in (
+    (omega (arith, x, c.begin_block-body.ensures.0, v.same, c.begin_block-body.auto)) in (
       omega (arith, v.number),
       omega (arith, q.within),
       listed_stop _ _ _ a.words.now a.first a.n a.a _ (c.loop-at.at + c.put_gathered-r.result.count) p.0.shaped p.0.ranges p.2
@@ -66,7 +66,7 @@ loop-at-preserved c =
     let b = c.begin_block-body.ensures in
     let x = piece_room p.1 c.loop-at.at c.least-c.result q.some q.block (omega (arith, q.within, p.5)) in
     let r = c.put_gathered-r.ensures.1 p.0 v.spot p.2 (omega (arith, q.within, p.3))
-        (omega (arith, x, c.begin_block-body.ensures.0, v.same, c.begin_block-body.auto)) in
+    (omega (arith, x, c.begin_block-body.ensures.0, v.same, c.begin_block-body.auto)) in
     let n = c.put_gathered-r.ensures.0 in
     listing_turn v p.3 c.put_gathered-r.result.count (omega (arith, q.within, n))
     (piece_block _ _ _ p.1 _ _ _ _ (omega (arith, q.some)) (omega (arith, q.block, n)) (omega (arith, q.within, n, p.5)) b.0 b.1 r.bytes)
