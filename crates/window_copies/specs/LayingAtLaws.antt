@@ -6,6 +6,7 @@ use Rattle.std.proofs.Common.{sym, ap, ◌∙◌, arith}
 use Rattle.std.proofs.Math.Path.{subst}
 use Rattle.std.proofs.Math.ListN.{length, length-append}
 use Rattle.base.specs.Blit.{part}
+use Rattle.mdf.specs.Block.{size_at}
 use Rattle.plan.specs.Copies.{Copy, Attachment}
 use Rattle.work_words.specs.CopyWords.{attachments_at}
 use Rattle.copier.specs.Standing.{copies_from, copies_in}
@@ -26,7 +27,7 @@ use Rattle.window_copies.specs.LayingAt.{AllMoved, LayingAt}
 pub laid-moved : (s : List ℕ) (a : ℕ) (ts : List Attachment) (e : ℕ) → LaidAt s a ts e → AllMoved s ts
 unfolding LaidAt AllMoved
 laid-moved s a [] e l = tt
-laid-moved s a (t ∷ ts) e l = (laid_wholes s a t.own t.to l.0, l.1, laid-moved s _ ts e l.2)
+laid-moved s a (t ∷ ts) e l = (laid_wholes s a t.own t.to l.0, l.1, laid-moved s (t.to + size_at s t.from) ts e l.2)
 
 -- an AT that has no byte in the window
 pub apart_at : (s : List ℕ) (m : List Copy) (a n b at next : ℕ) (w : List ℕ) → Apart s a n b at → length w ≡ n → Moved s b
