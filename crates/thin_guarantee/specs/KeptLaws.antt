@@ -130,6 +130,7 @@ pub record FromFile (s numbers : List ℕ) (all : List FileColumn) (cs : List Fi
 
 pub from-file : {s numbers : List ℕ} {all : List FileColumn} {k : ℕ} {cs : List FileColumn} {ds : List Column} → Thinned s numbers all k cs ds
     → {d : Column} → In d ds → FromFile s numbers all cs d
+from-file {s = s} {numbers = numbers} {all = all} (done {k = k}) {d = d} i = elim i [ ]
 from-file (out e m) i = let r = from-file m i in record { column = r.column; is_in = there r.is_in; tested = r.tested; same = r.same }
 from-file (kept {c = c} e t m) here = record { column = c; is_in = here; tested = t; same = refl }
 from-file (kept e t m) (there i) = let r = from-file m i in record { column = r.column; is_in = there r.is_in; tested = r.tested; same = r.same }

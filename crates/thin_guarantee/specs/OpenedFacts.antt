@@ -98,6 +98,7 @@ record From (s : List ℕ) (ds : List DataGroup) (c : FileColumn) : Type 0 where
   is : OfDG s group c
 
 each_from : {s : List ℕ} {ds : List DataGroup} {cs : List FileColumn} → EachDG s ds cs → {c : FileColumn} → In c cs → From s ds c
+each_from {s = s} no_more {c = c} x4 = elim x4 [ ]
 each_from (and_more {d} o m) here = record { group = d; is_in = here; is = o }
 each_from (and_more o m) (there i) = let r = each_from m i in record { group = r.group; is_in = there r.is_in; is = r.is }
 
@@ -156,6 +157,7 @@ ranges_front s (f ∷ fs) gs e =
 ranges_each : (s : List ℕ) (cs : List FileColumn) → ranges_in s (all_fragments cs) ≡ fine → {c : FileColumn} → In c cs
     → ranges_in s c.fragments ≡ fine
 unfolding all_fragments
+ranges_each s [] e {c = c} x'' = elim x'' [ ]
 ranges_each s (c ∷ cs) e here = (ranges_front s c.fragments (all_fragments cs) e).0
 ranges_each s (c ∷ cs) e (there i) = ranges_each s cs (ranges_front s c.fragments (all_fragments cs) e).1 i
 

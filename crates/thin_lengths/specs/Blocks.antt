@@ -21,11 +21,13 @@ tos (c ∷ cs) = c.to ∷ tos cs
 
 pub in_tos : (cs : List Copy) (c : Copy) → In c cs → In c.to (tos cs)
 unfolding tos
+in_tos [] c x' = elim x' [ ]
 in_tos (d ∷ cs) c here = here
 in_tos (d ∷ cs) c (there i) = there (in_tos cs c i)
 
 pub in_attached : (ts : List Attachment) (t : Attachment) → In t ts → In t.to (attached_to ts)
 unfolding attached_to
+in_attached [] t x' = elim x' [ ]
 in_attached (u ∷ ts) t here = here
 in_attached (u ∷ ts) t (there i) = there (in_attached ts t i)
 

@@ -55,6 +55,7 @@ entry-on = refl
 -- a column of the file is a placed one
 placed_of : (s : List ℕ) (size : ℕ) (ps : List Placed) (c : FileColumn) → In c (file_columns s size ps) → (p : Placed) × In p ps × (c ≡ file_column s size p)
 unfolding file_columns
+placed_of s size [] c x' = elim x' [ ]
 placed_of s size (p ∷ ps) c here = (p, here, refl)
 placed_of s size (p ∷ ps) c (there i) = let r = placed_of s size ps c i in (r.0, there r.1, r.2)
 

@@ -77,5 +77,6 @@ module _ (s f : List ℕ) (bytes : (i : ℕ) → get_or s i 0 < 256) (chain : Li
 
   pub at_size : (ts : List Attachment) → AllAt s f bytes chain memo md fh all ts → (t : Attachment) → In t ts → size_at f t.to ≡ size_at s t.from
   unfolding AllAt
+  at_size [] h t x'' = elim x'' [ ]
   at_size (u ∷ ts) h t here = size_is s f bytes chain memo md fh all t ts h.0
   at_size (u ∷ ts) h t (there i) = at_size ts h.1 t i

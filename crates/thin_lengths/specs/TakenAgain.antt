@@ -49,12 +49,14 @@ stands_each : {f : List ℕ} (s : List ℕ) (memo : List Copy) (ats : List Attac
     → ((b : Block) → In b (kept_structure s memo ats all ps) → Stands f b.at b.bytes)
     → ((b : Block) → In b (kept_blocks s ps) → Stands f b.at b.bytes)
     → (p : Placed) → In p ps → (next : ℕ) × KeptStands s f memo ats all p next
+stands_each {f = f} s memo ats all [] made filled p x3 = elim x3 [ ]
 stands_each s memo ats all (q ∷ ps) made filled p here = (next_dg ps, first_stands s memo ats all p ps made filled)
 stands_each s memo ats all (q ∷ ps) made filled p (there i) =
     stands_each s memo ats all ps (λ b j. made b (in_later s memo ats all q ps j)) (λ b j. filled b (in_data_later s q ps j)) p i
 
 placed_of : (ps : List Placed) (c : FileColumn) → In c (new_columns ps) → (p : Placed) × In p ps × (c ≡ new_column p)
 unfolding new_columns
+placed_of [] c x' = elim x' [ ]
 placed_of (p ∷ ps) c here = (p, here, refl)
 placed_of (p ∷ ps) c (there i) = let r = placed_of ps c i in (r.0, there r.1, r.2)
 
@@ -65,6 +67,7 @@ AllOf P (a ∷ as') = P a × AllOf P as'
 
 of-all : (P : ℕ → Type 0) (as' : List ℕ) → AllOf P as' → (a : ℕ) → In a as' → P a
 unfolding AllOf
+of-all P [] h a x'' = elim x'' [ ]
 of-all P (b ∷ as') h a here = h.0
 of-all P (b ∷ as') h a (there i) = of-all P as' h.1 a i
 
