@@ -9,7 +9,7 @@ use Rattle.std.proofs.Math.Seq.{take-append_seam, drop-append_seam, drop-append-
 use Rattle.base.specs.Checked.{ok}
 use Rattle.base.specs.Blit.{part, blit}
 use Rattle.base.specs.BlitLaws.{length-blit, part-blit, part-blit_before}
-use Rattle.mdf.specs.Block.{kind_at, links_at, first_link, whole_at}
+use Rattle.mdf.specs.Block.{kind_at, links_at, first_link, whole_at, size_at}
 use Rattle.mdf.specs.Chain.{is_in}
 use Rattle.plan.specs.Copies.{Copy, Copies, is_copied, copy_root, History, history, history_from, history_of, Attachment}
 use Rattle.plan.specs.Layout.{Layout}
@@ -211,7 +211,7 @@ module _ {l : Layout} (o : Worded l) (w w' : List ℕ) (long : 8192 ≤ length w
 laid_at_to : (s : List ℕ) (a d e : ℕ) (ts : List Attachment) → LaidAt s a ts d → d ≤ e → LaidAt s a ts e
 unfolding LaidAt
 laid_at_to s a d e [] l h = omega arith
-laid_at_to s a d e (t ∷ ts) l h = (l.0, l.1, laid_at_to s _ d e ts l.2 h)
+laid_at_to s a d e (t ∷ ts) l h = (l.0, l.1, laid_at_to s (t.to + size_at s t.from) d e ts l.2 h)
 
 module _ {l : Layout} (o : Worded l) {used past metadata chain count : ℕ} (c : Numbers l used past metadata chain count) where
   pub copies_order : (past ≤ metadata) × (metadata ≤ used) × (used ≤ 2050) × (chain ≤ 2051) × (count ≤ 64)
