@@ -6,11 +6,11 @@ use Rattle.std.proofs.Math.Option.{Option, none, some}
 use Rattle.std.proofs.Math.Path.{refl, sym, ap}
 use Rattle.std.proofs.Math.Nat.{zero-sub}
 use Rattle.std.proofs.Math.ListN.{length, get_elem?, take}
-use Rattle.base.specs.Choice.{if_lt, if_eq}
+use Rattle.base.specs.Choice.{if_lt}
 use Rattle.base.specs.ChoiceLaws.{lt_yes, lt_no, eq_yes, eq_no}
 use Rattle.base.specs.Blit.{blit}
 use Rattle.base.specs.Checked.{Checked, ok, refused, Verdict, fine}
-use Rattle.stores.specs.Cases.{lt_or_le, eq_or_ne}
+use Rattle.stores.specs.Cases.{eq_or_ne}
 use Rattle.stores.specs.Stores.{steps_of, Op, step, Running, begun, does, run}
 use Rattle.stores.proofs.RunLaws.{run-append, run_grows, run_finished, run-cut, step_stores, step_reaches}
 use Rattle.stores.specs.RunLaws.{ran}
