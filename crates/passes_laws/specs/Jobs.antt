@@ -11,12 +11,14 @@ use Rattle.result.specs.Result.{Args, Decided, file_of, decided, answer, work_in
 use Rattle.plan_laws.specs.Decision.{answer_accepted}
 use Rattle.plan_laws.specs.Known.{answer-known}
 use Rattle.stores.specs.Stores.{steps_of, Running}
-use Rattle.stores.specs.RunLaws.{ran, run_length}
+use Rattle.stores.proofs.RunLaws.{run_length}
+use Rattle.stores.specs.RunLaws.{ran}
 use Rattle.stores_laws.specs.Passing.{Passing}
 use Rattle.stores_laws.specs.Refused.{zeros-decided, zeros-answer, zeros-convert}
 use Rattle.stores_laws.specs.Steps.{file_least, in_steps, steps_known, finished}
 use Rattle.passes.specs.Passes.{Task, Cell, left_of, Event, after}
-use Rattle.passes.specs.PassesLaws.{Alone, all-alone, job-cut, beginning, job_there}
+use Rattle.passes.proofs.PassesLaws.{all-alone, job-cut, job_there}
+use Rattle.passes.specs.PassesLaws.{Alone, beginning}
 
 -- the job that a conversion is, once decided: its file and its list, over out and list
 abbrev pub task_of : Args → Decided → List ℕ → List ℕ → Task

@@ -11,7 +11,7 @@ use Rattle.std.proofs.Math.Seq.{get_or-set_same, get_or-set_other}
 use Rattle.base.specs.ChoiceLaws.{le_yes, le_no, lt_yes, lt_no, eq_yes, eq_no}
 use Rattle.base.specs.Checked.{Checked, ok, refused}
 use Rattle.stores.specs.Cases.{lt_or_le}
-use Rattle.stores.specs.RunLaws.{named_late, named_fifth, named-fine, recalled_late, recalled_none, recalled_fine}
+use Rattle.stores.proofs.RunLaws.{named_late, named_fifth, named-fine, recalled_late, recalled_none, recalled_fine}
 use Rattle.stores.specs.Stores.{Named, named, State, given, sought, naming, recalling}
 use Rattle.positions.specs.declared.Four.{Four}
 use Rattle.positions.specs.declared.Positions.{Positions}

@@ -17,5 +17,4 @@ pub mod CopyLaws
 pub mod Read
 pub mod ReadLaws
 pub mod Turn
-pub mod TurnLaws
 pub mod EntryLaws

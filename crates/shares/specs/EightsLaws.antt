@@ -12,7 +12,7 @@ use Rattle.base.specs.Blit.{blit}
 use Rattle.base.specs.BlitLaws.{blit_is}
 use Rattle.base.specs.Checked.{Checked, ok, refused, Verdict, fine}
 use Rattle.passes.specs.Passes.{Job, unfinished, base, bases, more, given, shares, capped, shared}
-use Rattle.passes.specs.PassesLaws.{unfinished-none, unfinished-one, bases-within, shares-length, shared-none, shared-over, shared-nothing, shared_uncapped, shared-fine, uncapped_here, capped-on}
+use Rattle.passes.proofs.PassesLaws.{unfinished-none, unfinished-one, bases-within, shares-length, shared-none, shared-over, shared-nothing, shared_uncapped, shared-fine, uncapped_here, capped-on}
 use Rattle.shares.specs.declared.Eight.{Eight}
 use Rattle.shares.specs.declared.Shares.{Shares}
 use Rattle.shares.specs.Eights.{list_of, jobs_from, SharedAs}

@@ -36,7 +36,8 @@ use Rattle.file_guarantee.specs.ColumnForm.{file_column}
 use Rattle.file_guarantee.specs.Columns.{file_columns, columns-many}
 use Rattle.file_guarantee.specs.Theorem.{PlacedAt, cols-many, file_stands, opens, at}
 use Rattle.sheet.specs.Sheet.{kind_of, name_of, number_at, master_of, master_in, sheet_line, sheet_lines, page_count, pages}
-use Rattle.sheet.specs.SheetLaws.{bodies, length-line, length-lines, length-pages, one-line-each, fields, sheet-opened}
+use Rattle.sheet.proofs.SheetLaws.{length-line, length-lines, length-pages, one-line-each, fields, sheet-opened}
+use Rattle.sheet.specs.SheetLaws.{bodies}
 use Rattle.sheet_guarantee.specs.SheetDue.{LineDue, SheetDue}
 
 -- ---- lists

@@ -16,7 +16,7 @@ use Rattle.result.specs.Sharing.{text_at}
 use Rattle.sharing.specs.Text.{text_kind, body, BodyOf}
 use Rattle.sharing.specs.TextLaws.{Told, none, some, told}
 use Rattle.sheet.specs.Sheet.{ascii, left_in, up_to_zero, printable, name_text, name_of}
-use Rattle.sheet.specs.SheetLaws.{length-left, length-shown, prints}
+use Rattle.sheet.proofs.SheetLaws.{length-left, length-shown, prints}
 use Rattle.sheets.specs.Name.{shown_text}
 use Rattle.sheets.specs.Piece.{Piece}
 use Rattle.sheets.specs.PieceLaws.{piece_as, piece_byte}

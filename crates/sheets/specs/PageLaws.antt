@@ -16,7 +16,7 @@ use Rattle.ranges.specs.Open.{column_at, columns_of}
 use Rattle.texts.specs.Laid.{Laid}
 use Rattle.texts.specs.LaidLaws.{laid_then, laid-text}
 use Rattle.sheet.specs.Sheet.{ascii, left_in, sheet_line, sheet_lines, heading, page_count, page_of, pages_from, pages, lines_text, pages_text}
-use Rattle.sheet.specs.SheetLaws.{length-heading, length-lines-text, length-sheet, pages-none, pages-some}
+use Rattle.sheet.proofs.SheetLaws.{length-heading, length-lines-text, length-sheet, pages-none, pages-some}
 use Rattle.sheets.specs.Piece.{Piece}
 use Rattle.sheets.specs.PieceLaws.{piece_then, piece_byte}
 use Rattle.sheets.specs.LineLaws.{columns_open}

@@ -10,7 +10,7 @@ use Rattle.ranges.specs.Open.{columns_of, few, opened_as}
 use Rattle.texts.specs.Laid.{Laid}
 use Rattle.texts.specs.LaidLaws.{laid_as, laid_most}
 use Rattle.sheet.specs.Sheet.{pages, pages_text, sheet}
-use Rattle.sheet.specs.SheetLaws.{sheet-opened, sheet_refused}
+use Rattle.sheet.proofs.SheetLaws.{sheet-opened, sheet_refused}
 
 module _ (s w : List ℕ) {o : Opened} (e : opened_as s w o ≡ opened s) {d f : List ℕ} {r : ℕ} where
   pub printed_refusal : {number place : ℕ} → o ≡ Refused number place → Laid 0 (refusal_text number place) 56 d f r → Laid 0 (sheet s) 42201 d f r

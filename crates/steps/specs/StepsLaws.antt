@@ -20,7 +20,7 @@ use Rattle.stores.specs.Cases.{lt_or_le}
 use Rattle.stores.specs.Over.{over}
 use Rattle.stores.specs.OverLaws.{over-part}
 use Rattle.stores.specs.Stores.{pages, steps_of, stored, listed, State, Running, onward, step, does, naming, recalling}
-use Rattle.stores.specs.StoresLaws.{stored-first, page-lent, last_lent}
+use Rattle.stores.proofs.StoresLaws.{stored-first, page-lent, last_lent}
 use Rattle.stores_laws.specs.Steps.{file-length, file_least}
 use Rattle.placing.specs.declared.layout.Numbers.{Numbers}
 use Rattle.choices.specs.declared.Choices.{Choices}

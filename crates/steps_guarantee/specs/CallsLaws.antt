@@ -17,9 +17,10 @@ use Rattle.plan_laws.specs.Known.{Known, decided-known}
 use Rattle.guarantee.specs.Theorem.{AllBytes, guaranteed}
 use Rattle.stores.specs.Cases.{lt_or_le}
 use Rattle.stores.specs.Stores.{steps_of, store_of, stored, State, naming, recalling, Op, step, name, recall, Running, begun, onward, moved, does, run}
-use Rattle.stores.specs.StoresLaws.{steps_some, OneRun, one-run}
+use Rattle.stores.proofs.StoresLaws.{steps_some, one-run}
+use Rattle.stores.specs.StoresLaws.{OneRun}
 use Rattle.stores.specs.RunLaws as calls
-use Rattle.stores.specs.RunLaws.{named_late, recalled_late, holds-begun, under, holds-step, holds_name, holds_recall, step_stores, step_further, run_finished}
+use Rattle.stores.proofs.RunLaws.{named_late, recalled_late, holds-begun, under, holds-step, holds_name, holds_recall, step_stores, step_further, run_finished}
 use Rattle.stores_laws.specs.Passing.{Passing}
 use Rattle.stores_laws.specs.Steps.{file-length, file_least, in_steps, finished, cut_list, cut-decided, cut-answer, cut-convert}
 use Rattle.positions.specs.Held.{state_of}

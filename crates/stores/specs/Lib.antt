@@ -4,4 +4,3 @@ pub mod OverLaws
 pub mod Stores
 pub mod StoresLaws
 pub mod RunLaws
-pub mod Examples

@@ -18,7 +18,8 @@ use Rattle.shown_laws.specs.Flat.{length-flat, ordered-by}
 use Rattle.shown_laws.specs.AllShown.{in_rest, in_fh}
 use Rattle.guarantee.specs.Theorem as theorem
 use Rattle.stores.specs.Stores.{steps_of, Op, step, Running}
-use Rattle.stores.specs.RunLaws.{ran, run_length, run-cut, run_finished, step_reaches}
+use Rattle.stores.proofs.RunLaws.{run_length, run-cut, run_finished, step_reaches}
+use Rattle.stores.specs.RunLaws.{ran}
 use Rattle.stores_laws.specs.Passing.{Passing}
 use Rattle.stores_laws.specs.Refused.{then_on, zeros-decided, zeros-answer, zeros-convert}
 

@@ -1,7 +1,7 @@
 -- 25, the refusal of opening, the columns in the words, or nothing to do.
 use native.Mathlib.Omega.{arith}
 use borrow.Author.Rules.{rules}
-use Rattle.ranges.specs.TurnLaws.{never, start-many, start_none, start_refused, start_fine, start-holds}
+use Rattle.ranges.proofs.TurnLaws.{never, start-many, start_none, start_refused, start_fine, start-holds}
 use Rattle.ranges.proofs.plot.begin.Goals as goal
 
 pub returns-then-n-gt256 : goal.returns-then-n-gt256

@@ -4,7 +4,7 @@ use Rattle.base.specs.Choice.{pick, if_le}
 use Rattle.file.specs.Plot.{plotted}
 use Rattle.ranges.specs.declared.plot.Request.{Request}
 use Rattle.ranges.specs.Turn.{Laid, laid, turn_of, turns_of, start_of, entries_of, answered}
-use Rattle.ranges.specs.TurnLaws.{none, turns_from, turn_keeps, few, whole}
+use Rattle.ranges.proofs.TurnLaws.{none, turns_from, turn_keeps, few, whole}
 use Rattle.ranges.proofs.plot.plot.Goals as goal
 
 most : (n : ℕ) → turns_of n ≤ 256

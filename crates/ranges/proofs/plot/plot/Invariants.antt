@@ -2,7 +2,7 @@
 use Rattle.std.proofs.Common.{◌-◌, ◌≡◌, true, ◌<◌, ◌≤◌, length}
 use Rattle.ranges.specs.Open.{Holds}
 use Rattle.ranges.specs.Turn.{laid, turns_of, start_of}
-use Rattle.ranges.specs.TurnLaws.{turns_from}
+use Rattle.ranges.proofs.TurnLaws.{turns_from}
 use Rattle.ranges.proofs.plot.plot.Given as goal
 
 abbrev pub invariant-loop-i : goal.invariant-loop-i

@@ -1,7 +1,7 @@
 -- The entry is refused or served, where none before it was refused.
 use borrow.Author.Rules.{rules}
 use Rattle.ranges.specs.Turn.{laid}
-use Rattle.ranges.specs.TurnLaws.{turn_ended, turn_fine, turn_ends}
+use Rattle.ranges.proofs.TurnLaws.{turn_ended, turn_fine, turn_ends}
 use Rattle.ranges.proofs.plot.turn.Goals as goal
 
 pub entry-read-requires : goal.entry-read-requires

@@ -1,5 +1,5 @@
 -- Stores and calls at small files: of 9, 256, 4,096, 4,097 and 8,192 bytes, the places and lengths of all stores; whole conversions; names and returns.
-use Rattle.std.specs.Prelude.{ℕ, ◌+◌, ◌-◌, ◌^◌, List, [], ◌∷◌, ◌++◌, ◌≡◌, refl, length, drop, replicate}
+use Rattle.std.specs.Prelude.{ℕ, ◌-◌, ◌^◌, List, [], ◌∷◌, ◌++◌, ◌≡◌, refl, length, drop, replicate}
 use Rattle.base.specs.Blit as base_blit
 use Rattle.base.specs.Choice as base_choice
 use Rattle.base.specs.Checked.{ok, refused}

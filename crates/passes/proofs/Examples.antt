@@ -1,5 +1,5 @@
 -- Shares and passes at small numbers.
-use Rattle.std.specs.Prelude.{ℕ, List, [], ◌∷◌, ◌++◌, map, ◌≡◌, refl, length, replicate}
+use Rattle.std.specs.Prelude.{ℕ, List, [], ◌∷◌, map, ◌≡◌, refl, replicate}
 use Rattle.base.specs.Blit as base_blit
 use Rattle.base.specs.Choice as base_choice
 use Rattle.base.specs.Checked.{ok, refused}

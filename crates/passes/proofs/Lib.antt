@@ -1,0 +1,2 @@
+pub mod PassesLaws
+pub mod Examples

@@ -1,0 +1,3 @@
+pub mod StoresLaws
+pub mod RunLaws
+pub mod Examples
