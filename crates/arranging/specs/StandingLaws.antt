@@ -46,6 +46,7 @@ in_at (there i) = let r = in_at i in (suc r.0, r.1)
 
 by_links : (s w : List ℕ) (k j : ℕ) {c : FileColumn} → In c (columns_of s w k j) → c.fragments ≡ blocks_of s (link_at s c.dg 2)
 unfolding columns_of
+by_links s w zero j {c = c} x' = elim x' [ ]
 by_links s w (suc k) j here = refl
 by_links s w (suc k) j (there i) = by_links s w k (j + 1) i
 
@@ -77,6 +78,7 @@ shaped s numbers all c h = record { blocks = many-blocks s c.dg c.fragments h.bl
 all_shaped : (s numbers : List ℕ) (all : List FileColumn) (k : ℕ) (cs : List FileColumn) → ((c : FileColumn) → In c cs → Counted s c)
     → (d : Column) → In d (kept_from s numbers all k cs) → Shaped s d
 unfolding kept_from
+all_shaped s numbers all k [] h d i = elim i [ ]
 all_shaped s numbers all k (c ∷ cs) h d i =
     go (is_in k numbers) (shaped s numbers all c (h c here)) (all_shaped s numbers all (suc k) cs (λ e j. h e (there j))) i
   where
