@@ -58,7 +58,7 @@ unfolding SaidAll columns_placed
 said_all s columns memo n k [] own f g = tt
 said_all s columns memo n k (p ∷ ps) own f g = (
   said_here s columns memo n k p (columns_placed ps) ps (own p.column here) f g,
-  said_all s columns memo _ (k + 1) ps (λ c i. own c (there i)) (columns-rest columns n k p.column (columns_placed ps) f)
+  said_all s columns memo (n + size_of_signal p.column.signal_of) (k + 1) ps (λ c i. own c (there i)) (columns-rest columns n k p.column (columns_placed ps) f)
       (places_rest memo k p ps g),
 )
 

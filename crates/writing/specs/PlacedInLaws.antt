@@ -161,7 +161,7 @@ placed_back ph s columns memo n k [] q f g = refl
 placed_back ph s columns memo n k (p ∷ ps) q f g =
     rw (
       one_back ph s columns memo n k p (columns_placed ps) ps (q p.column here) f g,
-      placed_back ph s columns memo _ (k + 1) ps (λ c i. q c (there i))
+      placed_back ph s columns memo (n + size_of_signal p.column.signal_of) (k + 1) ps (λ c i. q c (there i))
           (columns-rest columns n k p.column (columns_placed ps) f) (places_rest memo k p ps g),
     )
 

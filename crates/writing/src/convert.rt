@@ -1,6 +1,6 @@
 // The conversion.
 ghost use Rattle.std.specs.Prelude.{◌≡◌, length};
-ghost use Rattle.result.specs.Result as result;
+ghost use Rattle.result.specs.Result as results;
 ghost use Rattle.choices.specs.Chosen.{rules};
 ghost use Rattle.placing.specs.Decision.{four, Shares};
 ghost use Rattle.writing.specs.Answer.{args, left, Bytes, Promised};
@@ -35,7 +35,7 @@ pub enum Converted {
 
 // Every element of the image is a byte.
 fn are_bytes(image: &[u8])
-    ensures* { λ _. ⌜ Bytes image.now ⌝ }
+    ensures { Bytes image.now }
 {
     if 0 < image.len() {
         let _first = image[0];
@@ -55,7 +55,7 @@ pub(crate) fn count_up(
     bytes: u64,
 ) -> Report
     requires { Counts image.now size columns.now items n }
-    ensures* { λ r. ⌜ Reported image.now size source.now columns.now items n shared metadata bytes r ⌝ }
+    ensures { Reported image.now size source.now columns.now items n shared metadata bytes result }
 {
     let groups = source_groups(image, source, items);
     let times = time_columns(columns, n);
@@ -95,9 +95,9 @@ fn finish(
 ) -> Converted
     requires { Stands (args image.now size ident.now text.now time (rules choices table.now)) items pieces n omitted numbers
         source.now fragments.old columns.now copies.now
-        × Shares (result.decided (args image.now size ident.now text.now time (rules choices table.now))) shared }
-    ensures* { λ r. ⌜ Finished (args image.now size ident.now text.now time (rules choices table.now)) out.old list.old
-        r out.new list.new ⌝ }
+        × Shares (results.decided (args image.now size ident.now text.now time (rules choices table.now))) shared }
+    ensures { Finished (args image.now size ident.now text.now time (rules choices table.now)) out.old list.old
+        result out.new list.new }
 {
     let bytes = numbers.file_size;
     if (out.len() as u64) < bytes {
@@ -148,13 +148,13 @@ pub fn convert(
     out: &mut [u8],
     list: &mut [u64],
 ) -> Converted
-    ensures* done { λ r. ⌜ left r out.new list.new
+    ensures done { left result out.new list.new
         (four source.new fragments.new columns.new copies.new)
-        ≡ result.convert (args image.now size ident.now text.now time (rules choices table.now)) out.old list.old
-        (four source.old fragments.old columns.old copies.old) ⌝ }
-    ensures* promised { λ _. ⌜ Promised (args image.now size ident.now text.now time (rules choices table.now))
+        ≡ results.convert (args image.now size ident.now text.now time (rules choices table.now)) out.old list.old
+        (four source.old fragments.old columns.old copies.old) }
+    ensures promised { Promised (args image.now size ident.now text.now time (rules choices table.now))
         (length out.old) (length list.old)
-        (four source.old fragments.old columns.old copies.old) out.new list.new ⌝ }
+        (four source.old fragments.old columns.old copies.old) out.new list.new }
 {
     are_bytes(image);
     let decision = decide(

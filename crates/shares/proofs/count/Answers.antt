@@ -7,6 +7,7 @@ use Rattle.shares.specs.EightsLaws.{Counting, counting_begin, counting_one, coun
 use borrow.Author.Rules.{rules}
 use native.Mathlib.Omega.{arith}
 use Rattle.shares.proofs.count.Goals as goal
+use Rattle.shares.proofs.count.Goals.{then-number-ne0, else-number-ne0}
 
 pub loop-i-init : goal.loop-i-init
 loop-i-init c = counting_begin _ _
@@ -16,14 +17,10 @@ overflow_add-m c = omega (arith, c.loop-i.invariant.few)
 
 pub loop-i-preserved : goal.loop-i-preserved
 loop-i-preserved c =
-    ⊎_elim
-    (λ w.
-    counting_one _ _ _ _ c.loop-i.invariant _ c.loop-i-test.true (λ e. w.0.taken (c.number.ensures ∙ e))
-    w.1)
-    (λ w.
-    counting_none _ _ _ _ c.loop-i.invariant _ c.loop-i-test.true (sym c.number.ensures ∙ w.0.left)
-    w.1)
-    c.if-number-ne0.branch
+    elim c.if-number-ne0.branch [
+      then-number-ne0 w ↦ counting_one _ _ _ _ c.loop-i.invariant _ c.loop-i-test.true (λ e. w.if-number-ne0.true (c.number.ensures ∙ e)) w.m-is
+    | else-number-ne0 w ↦ counting_none _ _ _ _ c.loop-i.invariant _ c.loop-i-test.true (sym c.number.ensures ∙ w.if-number-ne0.false) w.m-is
+    ]
 
 pub returns : goal.returns
 returns c = counting_end _ _ _ _ c.loop-i.invariant (omega arith)
