@@ -12,7 +12,7 @@ use Rattle.mdf.specs.Block.{kind_sd, size_at, link_at}
 use Rattle.mdf.specs.Chain.{dt, Fragment, fragment}
 use Rattle.mdf.specs.Records.{joined}
 use Rattle.plan.specs.Channel.{channel_type}
-use Rattle.plan.specs.Columns.{Column, Signal, no_signal, signal_data}
+use Rattle.plan.specs.Columns.{size_of_signal, Column, Signal, no_signal, signal_data}
 use Rattle.plan.specs.Copies.{Copy, Attachment}
 use Rattle.plan.specs.Photos.{photo_count, links_from, references}
 use Rattle.plan.specs.PhotosLaws.{length-links_from}

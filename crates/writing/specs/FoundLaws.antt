@@ -295,6 +295,7 @@ pub record Found (fs : List Fragment) (is : List Item) (d : DataGroup) : Type 0 
 
 pub dg-found : (fs : List Fragment) (is : List Item) (d : DataGroup) → In d (data_groups_of fs is) → Found fs is d
 unfolding data_groups_of
+dg-found fs [] d i = elim i [ ]
 dg-found fs (dg a n ∷ is) d here = record { before = []; count = n; past = is; all = refl; fragments = refl; groups = refl }
 dg-found fs (dg a n ∷ is) d (there i) =
     let r = dg-found fs is d i in

@@ -6,7 +6,7 @@ use Rattle.std.proofs.Common.{ap, ◌∙◌, zero-add, add-one, arith}
 use Rattle.std.proofs.Math.Nat.{add-zero}
 use Rattle.base.specs.BlitLaws.{length-blit}
 use Rattle.plan.specs.Photos.{photos_of}
-use Rattle.plan.specs.Columns.{Column, Signal, no_signal, signal_data, Plan}
+use Rattle.plan.specs.Columns.{size_of_signal, Column, Signal, no_signal, signal_data, Plan}
 use Rattle.plan.specs.Copies.{Copy, Attachment}
 use Rattle.work_words.specs.CopyWords.{placed_at, placed_words, laid_copies}
 use Rattle.plan.specs.Layout.{column_width, column_blocks, cn_size, Placed, cg_of, cn_of, Layout}
