@@ -18,8 +18,8 @@ overflow_add-m c = omega (arith, c.loop-i.invariant.few)
 pub loop-i-preserved : goal.loop-i-preserved
 loop-i-preserved c =
     elim c.if-number-ne0.branch [
-      then-number-ne0 w ↦ counting_one _ _ _ _ c.loop-i.invariant _ c.loop-i-test.true (λ e. w.if-number-ne0.true (c.number.ensures ∙ e)) w.m-is
-    | else-number-ne0 w ↦ counting_none _ _ _ _ c.loop-i.invariant _ c.loop-i-test.true (sym c.number.ensures ∙ w.if-number-ne0.false) w.m-is
+      | then-number-ne0 w ↦ counting_one _ _ _ _ c.loop-i.invariant _ c.loop-i-test.true (λ e. w.if-number-ne0.true (c.number.ensures ∙ e)) w.m-is
+      | else-number-ne0 w ↦ counting_none _ _ _ _ c.loop-i.invariant _ c.loop-i-test.true (sym c.number.ensures ∙ w.if-number-ne0.false) w.m-is
     ]
 
 pub returns : goal.returns
