@@ -13,7 +13,7 @@ use Rattle.sitaungo.specs.Answer.{numbers_of}
 
 abbrev pub no_conversion : Conversion
 no_conversion = record {
-  block_size_lem = 0;
+  block_size = 0;
   time = 0;
   unit = 0;
   share = false;

@@ -7,7 +7,7 @@ pub mod taking_out;
 
 ghost use Rattle.std.specs.Prelude.{◌≡◌, length};
 ghost use Rattle.plan.specs.Rules.{built_in};
-ghost use Rattle.result.specs.Result as result;
+ghost use Rattle.result.specs.Result as results;
 ghost use Rattle.placing.specs.Decision.{untimed, four};
 ghost use Rattle.writing.specs.Answer.{args, Bytes, Promised};
 ghost use Rattle.listing.specs.Listed.{Listed};
@@ -37,7 +37,7 @@ pub struct Outcome {
 
 // Every element of a slice is a byte.
 fn are_bytes(s: &[u8])
-    ensures* { λ _. ⌜ Bytes s.now ⌝ }
+    ensures { Bytes s.now }
 {
     if 0 < s.len() {
         let _first = s[0];
@@ -73,16 +73,16 @@ pub extern "C" fn sitaungo_convert_with(
     out: &mut [u8],
     list: &mut [u64],
 ) -> Outcome
-    ensures* done { λ r. ⌜ left r out.new list.new
+    ensures done { left result out.new list.new
         (four source.new fragments.new columns.new copies.new)
-        ≡ exported (result.convert (args image.now size ident.now text.now time (record { unit = options.unit; table = types.now; share = options.share; photos = options.photos })) out.old list.old
-        (four source.old fragments.old columns.old copies.old)) ⌝ }
-    ensures* promised { λ _. ⌜ Promised (args image.now size ident.now text.now time (record { unit = options.unit; table = types.now; share = options.share; photos = options.photos }))
+        ≡ exported (results.convert (args image.now size ident.now text.now time (record { unit = options.unit; table = types.now; share = options.share; photos = options.photos })) out.old list.old
+        (four source.old fragments.old columns.old copies.old)) }
+    ensures promised { Promised (args image.now size ident.now text.now time (record { unit = options.unit; table = types.now; share = options.share; photos = options.photos }))
         (length out.old) (length list.old)
-        (four source.old fragments.old columns.old copies.old) out.new list.new ⌝ }
-    ensures* readable { λ _. ⌜ Readable (args image.now size ident.now text.now time (record { unit = options.unit; table = types.now; share = options.share; photos = options.photos }))
+        (four source.old fragments.old columns.old copies.old) out.new list.new }
+    ensures readable { Readable (args image.now size ident.now text.now time (record { unit = options.unit; table = types.now; share = options.share; photos = options.photos }))
         (length out.old) (length list.old)
-        (four source.old fragments.old columns.old copies.old) out.new ⌝ }
+        (four source.old fragments.old columns.old copies.old) out.new }
 {
     are_bytes(image);
     are_bytes(ident);
@@ -148,16 +148,16 @@ pub extern "C" fn sitaungo_convert(
     out: &mut [u8],
     list: &mut [u64],
 ) -> Outcome
-    ensures* done { λ r. ⌜ left r out.new list.new
+    ensures done { left result out.new list.new
         (four source.new fragments.new columns.new copies.new)
-        ≡ exported (result.convert (args image.now size ident.now text.now time built_in) out.old list.old
-        (four source.old fragments.old columns.old copies.old)) ⌝ }
-    ensures* promised { λ _. ⌜ Promised (args image.now size ident.now text.now time built_in)
+        ≡ exported (results.convert (args image.now size ident.now text.now time built_in) out.old list.old
+        (four source.old fragments.old columns.old copies.old)) }
+    ensures promised { Promised (args image.now size ident.now text.now time built_in)
         (length out.old) (length list.old)
-        (four source.old fragments.old columns.old copies.old) out.new list.new ⌝ }
-    ensures* readable { λ _. ⌜ Readable (args image.now size ident.now text.now time built_in)
+        (four source.old fragments.old columns.old copies.old) out.new list.new }
+    ensures readable { Readable (args image.now size ident.now text.now time built_in)
         (length out.old) (length list.old)
-        (four source.old fragments.old columns.old copies.old) out.new ⌝ }
+        (four source.old fragments.old columns.old copies.old) out.new }
 {
     sitaungo_convert_with(
         image,
@@ -198,9 +198,9 @@ pub extern "C" fn sitaungo_list_with(
     copies: &mut [u64],
     lines: &mut [u8],
 ) -> usize
-    ensures* { λ r. ⌜ Listed (untimed image.now size ident.now text.now (record { unit = options.unit; table = types.now; share = options.share; photos = options.photos })) out list_words
+    ensures { Listed (untimed image.now size ident.now text.now (record { unit = options.unit; table = types.now; share = options.share; photos = options.photos })) out list_words
         (four source.old fragments.old columns.old copies.old) lines.old
-        r lines.new (four source.new fragments.new columns.new copies.new) ⌝ }
+        result lines.new (four source.new fragments.new columns.new copies.new) }
 {
     list(
         lines,
@@ -238,9 +238,9 @@ pub extern "C" fn sitaungo_list(
     copies: &mut [u64],
     lines: &mut [u8],
 ) -> usize
-    ensures* { λ r. ⌜ Listed (untimed image.now size ident.now text.now built_in) out list_words
+    ensures { Listed (untimed image.now size ident.now text.now built_in) out list_words
         (four source.old fragments.old columns.old copies.old) lines.old
-        r lines.new (four source.new fragments.new columns.new copies.new) ⌝ }
+        result lines.new (four source.new fragments.new columns.new copies.new) }
 {
     sitaungo_list_with(
         image,

@@ -39,12 +39,12 @@ positions_of k = record {
 
 -- the call, with the slices that are lent again
 abbrev pub call_of : Conversion → List ℕ → List ℕ → List ℕ → List ℕ → Args
-call_of k image ident text table = args image k.block_size_lem ident text k.time (record { unit = k.unit; table = table; share = k.share; photos = k.photos })
+call_of k image ident text table = args image k.block_size ident text k.time (record { unit = k.unit; table = table; share = k.share; photos = k.photos })
 
 -- the same conversion with other positions and names
 abbrev pub at_positions : Conversion → Positions → Conversion
 at_positions k p = record {
-  block_size_lem = k.block_size_lem;
+  block_size = k.block_size;
   time = k.time;
   unit = k.unit;
   share = k.share;
@@ -82,7 +82,7 @@ at_next k n = at_positions k (record { next = n; count = k.count; names = (posit
 -- before the first store, with no name
 abbrev pub begun_as : ℕ → ℕ → Choices → ℕ → ℕ → ℕ → ℕ → Numbers → Conversion
 begun_as size time chosen items pieces columns omissions n = record {
-  block_size_lem = size;
+  block_size = size;
   time = time;
   unit = chosen.unit;
   share = chosen.share;

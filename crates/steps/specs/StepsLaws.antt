@@ -181,13 +181,13 @@ module _ {x : Args} {k : Conversion} {v f w m p q : List ℕ} (h : Holds x k v f
       (lt_or_le j (pages k.file_size))
 
   pub window_written : (a : ℕ) (u : List ℕ) (chosen : Choices) (g : Held) {p' q' last : List ℕ} → chosen ≡ choices_of k → g ≡ held_of k
-      → WritesWindow (args x.image k.block_size_lem x.ident x.text k.time (rules chosen x.table)) g v f w m a p p' q q' u last
+      → WritesWindow (args x.image k.block_size x.ident x.text k.time (rules chosen x.table)) g v f w m a p p' q q' u last
       → call_of k x.image x.ident x.text x.table ≡ x → a + length u ≤ k.file_size
       → Kept x.image v k.items (take 3072 f) k.pieces p' q' × (last ≡ part a (length u) made)
   window_written a u chosen g {p'} {q'} {last} e i w' c l =
       subst (λ (y : Args). WritesWindow y (held_of k) v f w m a p p' q q' u last) c
-      (subst (λ (y : Choices). WritesWindow (args x.image k.block_size_lem x.ident x.text k.time (rules y x.table)) (held_of k) v f w m a p p' q q' u last) e
-      (subst (λ (y : Held). WritesWindow (args x.image k.block_size_lem x.ident x.text k.time (rules chosen x.table)) y v f w m a p p' q q' u last) i w'))
+      (subst (λ (y : Choices). WritesWindow (args x.image k.block_size x.ident x.text k.time (rules y x.table)) (held_of k) v f w m a p p' q q' u last) e
+      (subst (λ (y : Held). WritesWindow (args x.image k.block_size x.ident x.text k.time (rules chosen x.table)) y v f w m a p p' q q' u last) i w'))
       h.stands l h.kept
 
   pub first-stored : (file : List ℕ) {last : List ℕ} → k.next ≡ 0 → last ≡ blit 0 (replicate 8 0) file → last ≡ stored made k.next file

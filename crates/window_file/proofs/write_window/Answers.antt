@@ -6,7 +6,7 @@ use borrow.Author.Rules.{rules}
 use Rattle.window_file.proofs.write_window.Goals as goal
 
 pub returns-then-fragments-lt3072 : goal.returns-then-fragments-lt3072
-returns-then-fragments-lt3072 c st l k = absurd (omega (arith, file.long-fragments st, c.if-fragments-lt3072.true))
+returns-then-fragments-lt3072 c st l k = absurd (omega (arith, file.long_fragments_lem st, c.if-fragments-lt3072.true))
 
 pub returns : goal.returns
 returns c st l k =
