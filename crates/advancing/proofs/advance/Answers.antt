@@ -15,20 +15,19 @@ loop-rest-init c =
     (going_begin _ _ _ _ _ (omega (arith, n)), λ h l m. advancing_begin _ _ _ _ _ _ (omega (arith, n)) h)
 
 pub loop-rest-preserved : goal.loop-rest-preserved
-loop-rest-preserved c =
-    let n = c.step-r.auto.k in (
-      going_turn c.loop-rest.invariant.0 c.loop-rest-test.true c.step-r.ensures.bounded (record {
-        whole = n.1.1.1.1.1.1.1.1.1.1.1.0;
-        listed = n.1.1.1.1.1.1.1.1.1.1.1.1.0;
-        source = n.1.1.1.1.1.0;
-        fragments = n.1.1.1.1.1.1.0;
-        columns = n.1.1.1.1.1.1.1.0;
-        copies = n.1.1.1.1.1.1.1.1.0;
-        stretches = n.1.1.1.1.1.1.1.1.1.0;
-        offsets = n.1.1.1.1.1.1.1.1.1.1.0;
-      }),
-      λ h l m. right_turn _ _ _ _ c.loop-rest.invariant.0 _ c.loop-rest-test.true c.step-r.ensures.bounded c.step-r.ensures.right (c.loop-rest.invariant.1 h l m) l m,
-    )
+loop-rest-preserved c = (
+  going_turn c.loop-rest.invariant.0 c.loop-rest-test.true c.step-r.ensures.bounded (record {
+    whole = c.step-r.auto.file;
+    listed = c.step-r.auto.list;
+    source = c.step-r.auto.source;
+    fragments = c.step-r.auto.fragments;
+    columns = c.step-r.auto.columns;
+    copies = c.step-r.auto.copies;
+    stretches = c.step-r.auto.stretches;
+    offsets = c.step-r.auto.offsets;
+  }),
+  λ h l m. right_turn _ _ _ _ c.loop-rest.invariant.0 _ c.loop-rest-test.true c.step-r.ensures.bounded c.step-r.ensures.right (c.loop-rest.invariant.1 h l m) l m,
+)
 
 pub returns : goal.returns
 returns c =

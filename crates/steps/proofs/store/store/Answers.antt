@@ -16,10 +16,10 @@ pub returns : goal.returns
 returns c =
     let s = c.span_of-s.ensures in
     let z = c.span_of-s.result in
-    let f = c.args.file.now in (
-      λ h g l.
+    let f = c.args.file.now in record {
+      right = λ h g l.
           let e = window_written h z.first (mid_of z.first (z.past - z.first) f) _ _ c.choices_of-chosen.ensures c.held_of-h.ensures c.write_window.ensures refl
           (window_fits h _ _ _ f s refl l) in
-          (e.0, later-stored h f z _ c.if-k-eq0.false g l s e.1),
-      lent_store f _ _ z c.write_window.new.w s c.write_window.auto.w,
-    )
+          (e.0, later-stored h f z _ c.if-k-eq0.false g l s e.1);
+      bounded = lent_store f _ _ z c.write_window.new.w s c.write_window.auto.w;
+    }
