@@ -30,7 +30,7 @@ use Rattle.file_laws.specs.JoinedLaws.{length-joined}
 use Rattle.file_guarantee.specs.ColumnForm.{file_column}
 use Rattle.file_guarantee.specs.Columns.{file_columns, fragments_many}
 use Rattle.again_laws.specs.Held.{Fields, Held}
-use Rattle.again_laws.specs.HeldLaws.{fields}
+use Rattle.again_laws.proofs.HeldLaws.{fields}
 use Rattle.sheet.specs.Sheet.{master_of}
 use Rattle.thin.specs.Kept.{signal_place, new_master, signal_kept, kept_column}
 use Rattle.thin.specs.Place.{blocks_of, kept_size}

@@ -24,12 +24,12 @@ use Rattle.file.specs.Opened.{opened}
 use Rattle.file_laws.specs.StandingLaws.{opened_stands}
 use Rattle.file_guarantee.specs.ColumnForm.{file_column}
 use Rattle.file_guarantee.specs.Columns.{file_columns}
-use Rattle.again_laws.specs.WalkAgain.{result_columns, result_stands}
-use Rattle.again_laws.specs.HeldLaws.{result-held}
-use Rattle.again_laws.specs.DataAgain.{group_again}
-use Rattle.again_laws.specs.OrderAgain.{column_again}
+use Rattle.again_laws.proofs.WalkAgain.{result_columns, result_stands}
+use Rattle.again_laws.proofs.HeldLaws.{result-held}
+use Rattle.again_laws.proofs.DataAgain.{group_again}
+use Rattle.again_laws.proofs.OrderAgain.{column_again}
 use Rattle.again_laws.specs.GoodAgain.{nowhere, good_closed, next-good, md_size_lem, fh_size}
-use Rattle.again_laws.specs.ResultAgain.{GoodLink, filled, copied, md_small_lem, fh_small_lem, comment_good, history-good, first_attached, all_there, links_good}
+use Rattle.again_laws.proofs.ResultAgain.{GoodLink, filled, copied, md_small_lem, fh_small_lem, comment_good, history-good, first_attached, all_there, links_good}
 use Rattle.thin.specs.Kept.{kept_column, kept_columns}
 use Rattle.thin.specs.Place.{placed}
 use Rattle.thin.specs.TakenOut.{answer}

@@ -18,9 +18,9 @@ use Rattle.plan_laws.specs.DecideLaws.{none≢some}
 use Rattle.again.specs.Same.{master_number, extents_in, Kept, kept_of, kept_from, SameColumns}
 use Rattle.again_laws.specs.Held.{Held}
 use Rattle.again_laws.specs.Origin.{placed_number, Origin}
-use Rattle.again_laws.specs.OrderAgain.{column_again, columns_again, Ascending}
-use Rattle.again_laws.specs.DueAgain.{group-again, photos_again, channel-again, blocks-again, equal_again, payload_due, extents-again, signal_due_lem}
-use Rattle.again_laws.specs.MasterAgain.{master_number_lem}
+use Rattle.again_laws.proofs.OrderAgain.{column_again, columns_again, Ascending}
+use Rattle.again_laws.proofs.DueAgain.{group-again, photos_again, channel-again, blocks-again, equal_again, payload_due, extents-again, signal_due_lem}
+use Rattle.again_laws.proofs.MasterAgain.{master_number_lem}
 
 -- ---- columns by number
 pub record NumberIn (ps : List Placed) (p : Placed) : Type 0 where

@@ -13,8 +13,8 @@ use Rattle.plan_laws.specs.DecideLaws.{none≢some, some_same}
 use Rattle.file_laws.specs.Standing.{AllStand}
 use Rattle.file_guarantee.specs.ColumnForm.{file_column}
 use Rattle.file_guarantee.specs.Columns.{file_columns}
-use Rattle.again_laws.specs.DataAgain.{group_again, groups_again}
-use Rattle.again_laws.specs.DecideAgain.{signal_again}
+use Rattle.again_laws.proofs.DataAgain.{group_again, groups_again}
+use Rattle.again_laws.proofs.DecideAgain.{signal_again}
 use Rattle.again_laws.specs.Origin.{placed_number}
 
 -- ---- the columns of the second call

@@ -22,9 +22,10 @@ use Rattle.result.specs.Guarantee.{Stands, In, here}
 use Rattle.result.specs.Payload.{signal_bytes}
 use Rattle.shown_laws.specs.Joined.{block_of_in, block_of_kind, chain_signal}
 use Rattle.again_laws.specs.Gives.{Gives, gives, stops}
-use Rattle.again_laws.specs.Limited.{closer, FoundLess, same, early, chain_less}
+use Rattle.again_laws.specs.Limited.{closer, FoundLess, same, early}
+use Rattle.again_laws.proofs.Limited.{chain_less}
 use Rattle.again_laws.specs.Held.{Fields, Held}
-use Rattle.again_laws.specs.HeldLaws.{fields}
+use Rattle.again_laws.proofs.HeldLaws.{fields}
 use Rattle.again_laws.specs.ChannelAgain.{treatment-none, type_cases, type_is, master_again, fits-again}
 use Rattle.again_laws.specs.Origin.{Origin}
 

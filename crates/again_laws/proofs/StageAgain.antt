@@ -26,14 +26,14 @@ use Rattle.file_laws.specs.JoinedLaws.{ranges_in_lem}
 use Rattle.file_guarantee.specs.ColumnForm.{file_column, same_blocks}
 use Rattle.file_guarantee.specs.Columns.{file_columns}
 use Rattle.again_laws.specs.Gives.{Gives, gives, stops}
-use Rattle.again_laws.specs.WalkAgain.{column_groups}
+use Rattle.again_laws.proofs.WalkAgain.{column_groups}
 use Rattle.again_laws.specs.Held.{Held}
-use Rattle.again_laws.specs.DataAgain.{group_again, data_again}
-use Rattle.again_laws.specs.DecideAgain.{signal_again, sd_stands}
+use Rattle.again_laws.proofs.DataAgain.{group_again, data_again}
+use Rattle.again_laws.proofs.DecideAgain.{signal_again, sd_stands}
 use Rattle.again_laws.specs.Origin.{placed_number, Origin}
-use Rattle.again_laws.specs.OrderAgain.{column_again, columns_again}
+use Rattle.again_laws.proofs.OrderAgain.{column_again, columns_again}
 use Rattle.again_laws.specs.CopyAgain.{Any}
-use Rattle.again_laws.specs.ShownAgain.{NumberIn, in_number}
+use Rattle.again_laws.proofs.ShownAgain.{NumberIn, in_number}
 
 -- "19: a column has over 4,294,967,295 blocks": that or nothing
 pub blocks_give : (ns : List ℕ) → In 19 ns → (s : List ℕ) (size : ℕ) (cs : List Column) → Gives ns Any (blocks_in s size cs)

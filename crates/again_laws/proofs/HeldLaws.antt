@@ -25,7 +25,7 @@ use Rattle.guarantee.specs.Theorem.{AllBytes, ordered, sized, sound, refers, col
 use Rattle.file_laws.specs.Standing.{ColumnStands, first_dg, AllStand}
 use Rattle.file_guarantee.specs.ColumnForm.{file_column}
 use Rattle.file_guarantee.specs.Columns.{file_columns}
-use Rattle.again_laws.specs.WalkAgain.{result_stands}
+use Rattle.again_laws.proofs.WalkAgain.{result_stands}
 use Rattle.again_laws.specs.Held.{Fields, Held}
 
 -- ---- the fields

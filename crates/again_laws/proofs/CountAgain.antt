@@ -21,9 +21,9 @@ use Rattle.file.specs.Form.{cycles, record_bytes}
 use Rattle.file_laws.specs.OpenedLaws.{Formed, formed_back}
 use Rattle.file_guarantee.specs.ColumnForm.{file_column}
 use Rattle.file_guarantee.specs.Columns.{file_columns}
-use Rattle.again_laws.specs.WalkAgain.{column_groups}
+use Rattle.again_laws.proofs.WalkAgain.{column_groups}
 use Rattle.again_laws.specs.Held.{Fields, Held}
-use Rattle.again_laws.specs.HeldLaws.{fields}
+use Rattle.again_laws.proofs.HeldLaws.{fields}
 
 -- ---- a column's blocks are of one kind
 dt-bytes : (q n all a : ℕ) → (size_dt (even_blocks dt q n all a) ≡ size_of (even_blocks dt q n all a)) × (size_dv (even_blocks dt q n all a) ≡ 0)

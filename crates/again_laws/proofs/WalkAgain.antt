@@ -17,7 +17,8 @@ use Rattle.file_laws.specs.StandingLaws.{items_of, walk_stands}
 use Rattle.file_guarantee.specs.Columns.{file_columns}
 use Rattle.file_guarantee.specs.Theorem.{file_stands}
 use Rattle.again_laws.specs.Gives.{Gives, gives_mapped, less_gives}
-use Rattle.again_laws.specs.Limited.{closer, walk_less}
+use Rattle.again_laws.specs.Limited.{closer}
+use Rattle.again_laws.proofs.Limited.{walk_less}
 
 -- ---- the data groups of columns
 abbrev pub group_of : FileColumn → Group

@@ -39,9 +39,9 @@ use Rattle.guarantee.specs.Past.{first_small}
 use Rattle.guarantee.specs.Theorem.{AllBytes, guaranteed, o, ordered, file-below, sound}
 use Rattle.again_laws.specs.Gives.{Gives}
 use Rattle.again_laws.specs.Held.{Held}
-use Rattle.again_laws.specs.HeldLaws.{fields, cn-from, result-held}
-use Rattle.again_laws.specs.OrderAgain.{column_again, columns_again}
-use Rattle.again_laws.specs.DataAgain.{group_again}
+use Rattle.again_laws.proofs.HeldLaws.{fields, cn-from, result-held}
+use Rattle.again_laws.proofs.OrderAgain.{column_again, columns_again}
+use Rattle.again_laws.proofs.DataAgain.{group_again}
 use Rattle.again_laws.specs.CopyAgain.{deeper, Any, layout-gives}
 use Rattle.again_laws.specs.GoodAgain.{Good, entry, new_good, good_whole, good_closed, PastAt, goes_on, past-good, past_linked_lem, past_next_lem}
 use Rattle.again_laws.specs.AttachAgain.{all-passed, AllAt, all-at, AtFrom, at_from, at-header, at_tested, at-good, at_following}

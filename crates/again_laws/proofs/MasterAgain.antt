@@ -12,7 +12,7 @@ use Rattle.result.specs.Due.{placed_c_gs, due_master, due, due_all}
 use Rattle.plan_laws.specs.DecideLaws.{none≢some, some_same}
 use Rattle.again.specs.Same.{number_of, master_number}
 use Rattle.again_laws.specs.Origin.{placed_number}
-use Rattle.again_laws.specs.OrderAgain.{Ascending, ascending_from, cg_before, number-cg}
+use Rattle.again_laws.proofs.OrderAgain.{Ascending, ascending_from, cg_before, number-cg}
 
 -- ---- columns are placed one after the other
 from_earlier : (a b : ℕ) (ps : List Placed) → a ≤ b → Ascending b ps → Ascending a ps

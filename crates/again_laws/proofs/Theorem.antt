@@ -34,20 +34,20 @@ use Rattle.again.specs.Again.{Repeats, may_meet, SameAgain, Again, SameLeft, Aga
 use Rattle.again_laws.specs.FileBytes.{final_bytes}
 use Rattle.again_laws.specs.Gives.{Gives, gives, stops, gives_then, gives_more, gives-number, gives_value}
 use Rattle.again_laws.specs.Limited.{closer}
-use Rattle.again_laws.specs.WalkAgain.{column_groups, Walked, result_columns, result_stands, walk-again}
+use Rattle.again_laws.proofs.WalkAgain.{column_groups, Walked, result_columns, result_stands, walk-again}
 use Rattle.again_laws.specs.Held.{Held}
-use Rattle.again_laws.specs.HeldLaws.{result-held}
-use Rattle.again_laws.specs.CountAgain.{WidePlaced, records_placed, counts-again}
-use Rattle.again_laws.specs.DataAgain.{groups_again, source-again}
+use Rattle.again_laws.proofs.HeldLaws.{result-held}
+use Rattle.again_laws.proofs.CountAgain.{WidePlaced, records_placed, counts-again}
+use Rattle.again_laws.proofs.DataAgain.{groups_again, source-again}
 use Rattle.again_laws.specs.Origin.{placed_number, Origin}
 use Rattle.again_laws.specs.OriginLaws.{result_origin}
-use Rattle.again_laws.specs.OrderAgain.{columns_again, Ascending, stand_ascending}
-use Rattle.again_laws.specs.PlanAgain.{PlannedAgain, plan-again}
-use Rattle.again_laws.specs.MasterAgain.{placed_ascending}
-use Rattle.again_laws.specs.ShownAgain.{same-shown}
+use Rattle.again_laws.proofs.OrderAgain.{columns_again, Ascending, stand_ascending}
+use Rattle.again_laws.proofs.PlanAgain.{PlannedAgain, plan-again}
+use Rattle.again_laws.proofs.MasterAgain.{placed_ascending}
+use Rattle.again_laws.proofs.ShownAgain.{same-shown}
 use Rattle.again_laws.specs.CopyAgain.{deeper, Any, on_lt, on_fine}
-use Rattle.again_laws.specs.StageAgain.{blocks_give, all_data_again}
-use Rattle.again_laws.specs.ResultAgain.{copying_again, photos_first_lem, referred_again}
+use Rattle.again_laws.proofs.StageAgain.{blocks_give, all_data_again}
+use Rattle.again_laws.proofs.ResultAgain.{copying_again, photos_first_lem, referred_again}
 
 -- ---- which refusals may be met
 in_cases : {n c : ℕ} {bs : List ℕ} → In n (c ∷ bs) → (n ≡ c) ⊎ In n bs

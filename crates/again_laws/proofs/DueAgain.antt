@@ -20,11 +20,11 @@ use Rattle.result.specs.Due.{due_payload, due_kind, even_blocks, blocks_due, equ
 use Rattle.shown_laws.specs.Joined.{block_of_data}
 use Rattle.again.specs.Same.{Extent, extents}
 use Rattle.again_laws.specs.Held.{Fields, Held}
-use Rattle.again_laws.specs.HeldLaws.{fields}
+use Rattle.again_laws.proofs.HeldLaws.{fields}
 use Rattle.again_laws.specs.ChannelAgain.{type_cases, type_is, bytes-again, keeps_again, width-again}
-use Rattle.again_laws.specs.DataAgain.{group_again, payload_again}
-use Rattle.again_laws.specs.DecideAgain.{signal_again, sd_stands}
-use Rattle.again_laws.specs.OrderAgain.{column_again}
+use Rattle.again_laws.proofs.DataAgain.{group_again, payload_again}
+use Rattle.again_laws.proofs.DecideAgain.{signal_again, sd_stands}
+use Rattle.again_laws.proofs.OrderAgain.{column_again}
 use Rattle.again_laws.specs.Origin.{Origin}
 
 -- ---- fields that are due are due again

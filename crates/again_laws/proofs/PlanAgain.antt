@@ -16,12 +16,12 @@ use Rattle.result.specs.Due.{due_master}
 use Rattle.again_laws.specs.Gives.{Gives, gives, gives_then}
 use Rattle.again_laws.specs.Limited.{closer}
 use Rattle.again_laws.specs.Held.{Fields, Held}
-use Rattle.again_laws.specs.HeldLaws.{fields}
+use Rattle.again_laws.proofs.HeldLaws.{fields}
 use Rattle.again_laws.specs.ChannelAgain.{master_again, fits-again, storage_again}
-use Rattle.again_laws.specs.DataAgain.{group_again, groups_again}
-use Rattle.again_laws.specs.DecideAgain.{signal_again, decide-again}
+use Rattle.again_laws.proofs.DataAgain.{group_again, groups_again}
+use Rattle.again_laws.proofs.DecideAgain.{signal_again, decide-again}
 use Rattle.again_laws.specs.Origin.{placed_number, Origin}
-use Rattle.again_laws.specs.OrderAgain.{column_again, columns_again, again-append, Ascending, ascending_front, cg_before, group-none, group-found, number-cg, time_none, time_found, number-here, number-front}
+use Rattle.again_laws.proofs.OrderAgain.{column_again, columns_again, again-append, Ascending, ascending_front, cg_before, group-none, group-found, number-cg, time_none, time_found, number-here, number-front}
 
 -- a time column's channel has no signal data
 time_silent : (s : List ℕ) (all : List Placed) (j : ℕ) (p : Placed) → Origin s all j p → p.column.is_time_lem ≡ true → signal_again s p.column.signal_of p.sd ≡ no_signal

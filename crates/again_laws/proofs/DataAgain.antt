@@ -22,11 +22,11 @@ use Rattle.result.specs.Due.{due_payload, due_kind, even_blocks, blocks_due, equ
 use Rattle.payload_laws.specs.ColumnLaws.{nonempty_some, nonempty_split}
 use Rattle.file_guarantee.specs.ColumnForm.{file_column, same_blocks}
 use Rattle.file_guarantee.specs.Columns.{file_columns}
-use Rattle.again_laws.specs.WalkAgain.{data_group_of, column_groups}
+use Rattle.again_laws.proofs.WalkAgain.{data_group_of, column_groups}
 use Rattle.again_laws.specs.Held.{Fields, Held}
-use Rattle.again_laws.specs.HeldLaws.{fields}
+use Rattle.again_laws.proofs.HeldLaws.{fields}
 use Rattle.again_laws.specs.ChannelAgain.{bytes-again, keeps_again, width-again}
-use Rattle.again_laws.specs.CountAgain.{records_placed, record_bytes_lem, all-bytes}
+use Rattle.again_laws.proofs.CountAgain.{records_placed, record_bytes_lem, all-bytes}
 use Rattle.again_laws.specs.CellsAgain.{cell_rows, pieces-cells, ReadsCells, rows_again}
 
 -- ---- the groups of the second call: each column's CG, with as many records

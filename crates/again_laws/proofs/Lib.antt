@@ -1,0 +1,14 @@
+pub mod Limited
+pub mod WalkAgain
+pub mod HeldLaws
+pub mod CountAgain
+pub mod DataAgain
+pub mod DecideAgain
+pub mod OrderAgain
+pub mod PlanAgain
+pub mod DueAgain
+pub mod MasterAgain
+pub mod ShownAgain
+pub mod StageAgain
+pub mod ResultAgain
+pub mod Theorem
