@@ -1,6 +1,6 @@
 /* Sitaungo: one row-oriented MDF 4 recording into one column-oriented MDF 4.20 file; reading such files and taking columns out of them.
  *
- * Library libsitaungo.a (rt staticlib sitaungo), x86-64 Linux. The functions are proved: for every input, numbers, output, list, lines,
+ * Library libsitaungo.a (host/staticlib), x86-64 Linux. The functions are proved: for every input, numbers, output, list, lines,
  * buffer, destination and work words are those of the definitions in crates/result/specs, crates/listing/specs, crates/file/specs, crates/sheet/specs,
  * crates/stores/specs, crates/passes/specs and crates/thin/specs. They allocate nothing, keep nothing between calls but what a conversion in steps hands back and has in its
  * words, open no file and always return; several threads may call them, each with slices of its own.
