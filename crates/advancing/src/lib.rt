@@ -1,10 +1,11 @@
 // So many steps of a conversion in one call (document 02, request 12).
+#![tactic(auto)]
+
 ghost use Rattle.std.specs.Prelude.{◌+◌, ◌*◌, ◌≤◌, length};
 ghost use Rattle.steps.specs.Conversion.{call_of};
 ghost use Rattle.steps.specs.Steps.{Holds, lent};
 ghost use Rattle.advancing.specs.Advances.{Advances, BoundedBy};
 
-use puts::least;
 use steps::conversion::Conversion;
 use steps::step::{left, step};
 
@@ -35,14 +36,13 @@ pub fn advance(
         (lent source.old fragments.old columns.old copies.old stretches.old offsets.old)
         (lent source.new fragments.new columns.new copies.new stretches.new offsets.new) }
 {
+    let n = stores.min(left(k));
     let mut r = k;
-    let mut rest = least(stores, left(k));
-    while 0 < rest {
+    for _ in 0..n {
         r = step(
             r, image, ident, text, table, source, fragments, columns, copies, stretches, offsets,
             file, list,
         );
-        rest -= 1;
     }
     r
 }

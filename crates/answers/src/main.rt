@@ -3,10 +3,11 @@
 #![tactic(auto)]
 
 use choices::Choices;
-use fields::{u8_at, u64_at};
+use fields::field_at;
+use fields::refusal::Refusal;
 use std::io::{Read, Write};
 use std::{fs, io};
-use writing::convert::{Converted, Report, convert};
+use writing::convert::{Report, convert};
 
 // What comparing an answer gives.
 #[derive(Drop)]
@@ -17,15 +18,25 @@ enum Compared {
     Refused,
 }
 
-// A label and a number.
-fn print<W: Write>(out: &mut W, label: &str, x: u64) -> io::Result<()> {
-    write!(out, "{label}{x}")
+// A record of the file: its numbers, the identification, the image, the history text, and the bytes and omissions of the answer.
+#[derive(Clone, Copy)]
+struct Record<'a> {
+    head: &'a [u8],
+    ident: &'a [u8],
+    image: &'a [u8],
+    text: &'a [u8],
+    result: &'a [u8],
+    omitted: &'a [u8],
+}
+
+// The number at an index.
+fn number(s: &[u8], at: u64) -> u64 {
+    field_at::<8>(s, at)
 }
 
 // The line of answer k.
 fn differs<W: Write>(out: &mut W, k: u64, what: &str) -> io::Result<Compared> {
-    print(out, "answer ", k)?;
-    writeln!(out, "{what}")?;
+    writeln!(out, "answer {k}: {what}")?;
     Ok(Compared::Differs)
 }
 
@@ -47,85 +58,43 @@ fn part(s: &[u8], n: u64) -> &[u8] {
     &s[..k]
 }
 
-// The word at an index, 0 past the end.
-fn word_of(s: &[u64], i: usize) -> u64 {
-    if i < s.len() {
-        return s[i];
-    }
-    0
-}
-
-// Whether two slices have the same first n bytes.
-fn same_bytes(a: &[u8], b: &[u8], n: u64) -> bool {
-    for i in 0..n {
-        if u8_at(a, i) != u8_at(b, i) {
-            return false;
-        }
-    }
-    true
-}
-
 // Whether a list has n omissions with these addresses and reasons.
-fn same_list(list: &[u64], words: &[u8], n: u64) -> bool {
-    if word_of(list, 0) != n {
-        return false;
-    }
-    if 1024 < n {
+fn same_list(list: &[u64; 2049], words: &[u8], n: u64) -> bool {
+    if list[0] != n || 1024 < n {
         return false;
     }
     for i in 0..2 * n {
-        if word_of(list, i as usize + 1) != u64_at(words, 8 * i) {
+        if list[i as usize + 1] != number(words, 8 * i) {
             return false;
         }
     }
     true
 }
 
-// Whether the seven counts are a record's.
-fn same_report(head: &[u8], r: Report) -> bool {
-    if r.source_groups != u64_at(head, 80) {
-        return false;
+// The seven counts of a record.
+fn report_in(head: &[u8]) -> Report {
+    Report {
+        source_groups: number(head, 80),
+        time_groups: number(head, 88),
+        signal_groups: number(head, 96),
+        shared_time_groups: number(head, 104),
+        data_blocks: number(head, 112),
+        metadata_size: number(head, 120),
+        file_size: number(head, 128),
     }
-    if r.time_groups != u64_at(head, 88) {
-        return false;
-    }
-    if r.signal_groups != u64_at(head, 96) {
-        return false;
-    }
-    if r.shared_time_groups != u64_at(head, 104) {
-        return false;
-    }
-    if r.data_blocks != u64_at(head, 112) {
-        return false;
-    }
-    if r.metadata_size != u64_at(head, 120) {
-        return false;
-    }
-    r.file_size == u64_at(head, 128)
 }
 
 // A refusal beside a record's: its number and, where that is known, its place.
-fn refused<W: Write>(
-    to: &mut W,
-    k: u64,
-    head: &[u8],
-    number: u64,
-    place: u64,
-) -> io::Result<Compared> {
-    if u64_at(head, 16) == 0 {
-        if u64_at(head, 24) == number {
-            if u64_at(head, 32) == 0 {
-                return Ok(Compared::Refused);
-            }
-            if u64_at(head, 40) == place {
-                return Ok(Compared::Refused);
-            }
-        }
+fn refused<W: Write>(to: &mut W, k: u64, head: &[u8], refusal: Refusal) -> io::Result<Compared> {
+    let n = refusal.number();
+    let place = refusal.place();
+    if number(head, 16) == 0
+        && number(head, 24) == n
+        && (number(head, 32) == 0 || number(head, 40) == place)
+    {
+        return Ok(Compared::Refused);
     }
-    print(to, "answer ", k)?;
-    print(to, ": refused ", number)?;
-    print(to, " place ", place)?;
-    writeln!(to)?;
+    writeln!(to, "answer {k}: refused {n} place {place}")?;
     Ok(Compared::Differs)
 }
 
@@ -133,53 +102,42 @@ fn refused<W: Write>(
 fn accepted<W: Write>(
     to: &mut W,
     k: u64,
-    head: &[u8],
-    r: Report,
+    record: Record,
+    report: Report,
     out: &[u8],
-    list: &[u64],
-    res: &[u8],
-    omitted: &[u8],
+    list: &[u64; 2049],
 ) -> io::Result<Compared> {
-    if u64_at(head, 16) == 0 {
-        return differs(to, k, ": accepted");
+    let head = record.head;
+    if number(head, 16) == 0 {
+        return differs(to, k, "accepted");
     }
-    if !same_report(head, r) {
-        return differs(to, k, ": another report");
+    if report != report_in(head) {
+        return differs(to, k, "another report");
     }
-    if !same_bytes(out, res, u64_at(head, 64)) {
-        return differs(to, k, ": other bytes");
+    let n = number(head, 64);
+    if part(out, n) != part(record.result, n) {
+        return differs(to, k, "other bytes");
     }
-    if !same_list(list, omitted, u64_at(head, 72)) {
-        return differs(to, k, ": other omissions");
+    if !same_list(list, record.omitted, number(head, 72)) {
+        return differs(to, k, "other omissions");
     }
     Ok(Compared::Accepted)
 }
 
 // The conversion of a record's image beside its answer.
-fn compare<W: Write>(
-    to: &mut W,
-    k: u64,
-    head: &[u8],
-    ident: &[u8],
-    image: &[u8],
-    text: &[u8],
-    res: &[u8],
-    omitted: &[u8],
-) -> io::Result<Compared> {
+fn compare<W: Write>(to: &mut W, k: u64, record: Record) -> io::Result<Compared> {
     let mut source = [0u64; 8192];
     let mut fragments = [0u64; 8192];
     let mut columns = [0u64; 8192];
     let mut copies = [0u64; 8192];
     let mut out = [0u8; 16384];
     let mut list = [0u64; 2049];
-    let size = u64_at(head, 8);
-    let time = u64_at(head, 56);
     let answer = convert(
-        image,
-        size,
-        ident,
-        text,
-        time,
+        record.image,
+        number(record.head, 8),
+        record.ident,
+        record.text,
+        number(record.head, 56),
         Choices {
             unit: 8,
             share: false,
@@ -194,8 +152,8 @@ fn compare<W: Write>(
         &mut list,
     );
     match answer {
-        Converted::Refused { number, place } => refused(to, k, head, number, place),
-        Converted::Done(r) => accepted(to, k, head, r, &out, &list, res, omitted),
+        Err(refusal) => refused(to, k, record.head, refusal),
+        Ok(report) => accepted(to, k, record, report, &out, &list),
     }
 }
 
@@ -207,52 +165,31 @@ fn next<W: Write, F: Read>(to: &mut W, file: &mut F, k: u64) -> io::Result<Compa
     let mut text = [0u8; 4096];
     let mut result = [0u8; 16384];
     let mut omitted = [0u8; 16384];
-    if !fill(file, &mut head, 136) {
+    if !fill(file, &mut head, 136) || !fill(file, &mut ident, 64) {
         return Ok(Compared::Unread);
     }
-    if !fill(file, &mut ident, 64) {
-        return Ok(Compared::Unread);
-    }
-    let images = u64_at(&head, 0);
-    if !fill(file, &mut image, images) {
-        return Ok(Compared::Unread);
-    }
-    let texts = u64_at(&head, 48);
-    if !fill(file, &mut text, texts) {
-        return Ok(Compared::Unread);
-    }
-    let results = u64_at(&head, 64);
-    if !fill(file, &mut result, results) {
-        return Ok(Compared::Unread);
-    }
-    let omissions = u64_at(&head, 72);
-    if 1024 < omissions {
-        return Ok(Compared::Unread);
-    }
-    if !fill(file, &mut omitted, 16 * omissions) {
+    let images = number(&head, 0);
+    let texts = number(&head, 48);
+    let omissions = number(&head, 72);
+    if 1024 < omissions
+        || !fill(file, &mut image, images)
+        || !fill(file, &mut text, texts)
+        || !fill(file, &mut result, number(&head, 64))
+        || !fill(file, &mut omitted, 16 * omissions)
+    {
         return Ok(Compared::Unread);
     }
     compare(
         to,
         k,
-        &head,
-        &ident,
-        part(&image, images),
-        part(&text, texts),
-        &result,
-        &omitted,
-    )
-}
-
-fn cut_short<W: Write>(to: &mut W, k: u64) -> io::Result<()> {
-    print(to, "cut short at answer ", k)?;
-    writeln!(to)
-}
-
-fn summary<W: Write>(to: &mut W, n: u64, same: u64, accepted: u64, refused: u64) -> io::Result<()> {
-    writeln!(
-        to,
-        "{n} answers, {same} the same: {accepted} accepted, {refused} refused"
+        Record {
+            head: &head,
+            ident: &ident,
+            image: part(&image, images),
+            text: part(&text, texts),
+            result: &result,
+            omitted: &omitted,
+        },
     )
 }
 
@@ -262,18 +199,22 @@ fn all<W: Write, F: Read>(to: &mut W, file: &mut F) -> io::Result<()> {
     if !fill(file, &mut head, 8) {
         return Ok(());
     }
-    let n = u64_at(&head, 0);
+    let n = number(&head, 0);
     let mut accepted: u64 = 0;
     let mut refused: u64 = 0;
     for k in 0..n {
         match next(to, file, k)? {
-            Compared::Unread => return cut_short(to, k),
+            Compared::Unread => return writeln!(to, "cut short at answer {k}"),
             Compared::Differs => {}
             Compared::Accepted => accepted += 1,
             Compared::Refused => refused += 1,
         }
     }
-    summary(to, n, accepted + refused, accepted, refused)
+    let same = accepted + refused;
+    writeln!(
+        to,
+        "{n} answers, {same} the same: {accepted} accepted, {refused} refused"
+    )
 }
 
 fn main(rt: HostRuntime) -> io::Result<()> {

@@ -1,5 +1,5 @@
 -- What is decided before anything is written, and how it stands in the work words.
-use Rattle.std.specs.Prelude.{ℕ, ◌≤◌, List, [], ◌∷◌, ◌≡◌, length}
+use Rattle.std.specs.Prelude.{ℕ, ◌≤◌, List, [], ◌∷◌, ◌≡◌, length, Result, Ok, Err}
 use Rattle.base.specs.Checked.{ok, refused, and_then}
 use Rattle.base.specs.Blit.{blit}
 use Rattle.plan.specs.Layout.{Layout}
@@ -11,9 +11,9 @@ use Rattle.file.specs.Form.{FileColumn}
 use Rattle.file.specs.Opened.{opened}
 use Rattle.thin.specs.Kept.{kept_columns}
 use Rattle.thin.specs.TakenOut.{answer}
+use Rattle.fields.specs.declared.refusal.Refusal.{Refusal}
+use Rattle.fields.specs.Answer.{number_of, place_of}
 use Rattle.arranging.specs.declared.decide.Numbers.{Numbers}
-use Rattle.arranging.specs.declared.decide.Arranged.{Arranged}
-use Rattle.arranging.specs.declared.decide.Arranged.TheVariants.{Done, Refused}
 
 -- the four work slices
 abbrev pub four : List ℕ → List ℕ → List ℕ → List ℕ → List (List ℕ)
@@ -53,9 +53,9 @@ pub record RefusedIn (u : ℕ) (s numbers : List ℕ) (out number place : ℕ) (
   pub is : and_then (work_in ws) (λ _. answer u s numbers out) ≡ refused number place
   pub words : ws' ≡ work_left (work_in ws) ws
 
-abbrev pub Arranges : ℕ → List ℕ → List ℕ → ℕ → List ℕ → List ℕ → List ℕ → List ℕ → Arranged → List ℕ → List ℕ → List ℕ → List ℕ → Type 0
-Arranges u s numbers out a b c d (Refused number place) a' b' c' d' = RefusedIn u s numbers out number place (four a b c d) (four a' b' c' d')
-Arranges u s numbers out a b c d (Done n) a' b' c' d' = ArrangedIn u s numbers out n a b c d a' b' c' d'
+abbrev pub Arranges : ℕ → List ℕ → List ℕ → ℕ → List ℕ → List ℕ → List ℕ → List ℕ → Result Numbers Refusal → List ℕ → List ℕ → List ℕ → List ℕ → Type 0
+Arranges u s numbers out a b c d (Err x) a' b' c' d' = RefusedIn u s numbers out (number_of x) (place_of x) (four a b c d) (four a' b' c' d')
+Arranges u s numbers out a b c d (Ok n) a' b' c' d' = ArrangedIn u s numbers out n a b c d a' b' c' d'
 
 -- the same of lent slices that are long enough; after a refusal the words are not said
 pub record RestIn (u : ℕ) (s numbers : List ℕ) (out : ℕ) (n : Numbers) (b c d b' c' d' : List ℕ) : Type 0 where
@@ -68,6 +68,6 @@ pub record RestIn (u : ℕ) (s numbers : List ℕ) (out : ℕ) (n : Numbers) (b 
   pub in_fragments : b' ≡ blit 0 (fragment_words (signal_fragments (kept_columns s numbers all))) b
   pub in_columns : c' ≡ blit 0 (columns_words 0 (kept_columns s numbers all)) c
 
-abbrev pub ArrangesRest : ℕ → List ℕ → List ℕ → ℕ → List ℕ → List ℕ → List ℕ → Arranged → List ℕ → List ℕ → List ℕ → Type 0
-ArrangesRest u s numbers out b c d (Refused number place) b' c' d' = answer u s numbers out ≡ refused number place
-ArrangesRest u s numbers out b c d (Done n) b' c' d' = RestIn u s numbers out n b c d b' c' d'
+abbrev pub ArrangesRest : ℕ → List ℕ → List ℕ → ℕ → List ℕ → List ℕ → List ℕ → Result Numbers Refusal → List ℕ → List ℕ → List ℕ → Type 0
+ArrangesRest u s numbers out b c d (Err x) b' c' d' = answer u s numbers out ≡ refused (number_of x) (place_of x)
+ArrangesRest u s numbers out b c d (Ok n) b' c' d' = RestIn u s numbers out n b c d b' c' d'

@@ -1,5 +1,5 @@
 -- The order of the refusals, and the words that they leave.
-use Rattle.std.specs.Prelude.{ℕ, ◌≤◌, ◌<◌, List, Bool, true, false, ◌≡◌, ltb, length, replicate}
+use Rattle.std.specs.Prelude.{ℕ, ◌≤◌, ◌<◌, List, Bool, true, false, ◌≡◌, ltb, length, replicate, Result, Ok, Err}
 use Rattle.std.proofs.Math.Path.{refl, sym, ap}
 use Rattle.std.proofs.Common.{◌∙◌, subst}
 use Rattle.base.specs.Choice.{pick, if_lt}
@@ -14,12 +14,10 @@ use Rattle.ranges.specs.Open.{columns_of}
 use Rattle.thin.specs.Kept.{kept_columns}
 use Rattle.thin.specs.Place.{placed}
 use Rattle.thin.specs.TakenOut.{most_image, most_file, arranged, answer}
-use Rattle.taking.specs.declared.take.Taken.{Taken}
-use Rattle.taking.specs.declared.take.Taken.TheVariants as taken
 use Rattle.taking.specs.Takes.{photos_taken, taken_from, taken_of, KeptOf, Takes}
+use Rattle.fields.specs.declared.refusal.Refusal.{Refusal}
+use Rattle.fields.specs.Answer.{number_of, place_of}
 use Rattle.arranging.specs.declared.decide.Numbers.{Numbers}
-use Rattle.arranging.specs.declared.decide.Arranged.{Arranged}
-use Rattle.arranging.specs.declared.decide.Arranged.TheVariants as answers
 use Rattle.arranging.specs.ThenLaws.{then_then, then_same}
 use Rattle.arranging.specs.Answered.{four, RefusedIn, Arranges, RestIn, ArrangesRest}
 use Rattle.arranging.specs.Laying.{room_in, laid_for, Lays, LaysOut}
@@ -45,10 +43,10 @@ taken-placed u s numbers = simp then_then
 
 -- by the layout of the columns that are kept
 by_layout : (u : ℕ) (s numbers : List ℕ) (out n : ℕ) (x y d x' y' d' : List ℕ) (o : KeptOf s numbers n x x' y y')
-    → answer u s numbers out ≡ laid_for u s (kept_columns s numbers (columns_of s o.source o.count 0)) out → (a : Arranged)
+    → answer u s numbers out ≡ laid_for u s (kept_columns s numbers (columns_of s o.source o.count 0)) out → (a : Result Numbers Refusal)
     → Lays n d d' a (laid_for u s (kept_columns s numbers (columns_of s o.source o.count 0)) out) → ArrangesRest u s numbers out x y d a x' y' d'
-by_layout u s numbers out n x y d x' y' d' o e (answers.Refused k p) h = e ∙ h
-by_layout u s numbers out n x y d x' y' d' o e (answers.Done r) h =
+by_layout u s numbers out n x y d x' y' d' o e (Err k) h = e ∙ h
+by_layout u s numbers out n x y d x' y' d' o e (Ok r) h =
     record {
       told = h.told;
       is = e ∙ h.is;
@@ -89,18 +87,18 @@ module _ (u : ℕ) (s numbers : List ℕ) (out : ℕ) {b : Bool} (e : b ≡ is_a
           ∙ ap (λ (v : Checked Layout). and_then v (λ l. and_then (room_in out l.file_size_lem) (λ _. ok l))) t
           ∙ then_then (taken_of s numbers) (λ cs. placed u s cs) _
 
-      module _ (x y x' y' : List ℕ) (r : Taken) (k : Takes s numbers r x x' y y') where
-        pub rest-taken : {n p : ℕ} → r ≡ taken.Refused n p → answer u s numbers out ≡ refused n p
-        rest-taken g = answer_is ∙ rw (subst (λ (v : Taken). Takes s numbers v x x' y y') g k)
+      module _ (x y x' y' : List ℕ) (r : Result ℕ Refusal) (k : Takes s numbers r x x' y y') where
+        pub rest-taken : {z : Refusal} → r ≡ Err z → answer u s numbers out ≡ refused (number_of z) (place_of z)
+        rest-taken g = answer_is ∙ rw (subst (λ (v : Result ℕ Refusal). Takes s numbers v x x' y y') g k)
 
-        kept_of_lem : {n : ℕ} → r ≡ taken.Kept n → KeptOf s numbers n x x' y y'
-        kept_of_lem g = subst (λ (v : Taken). Takes s numbers v x x' y y') g k
+        kept_of_lem : {n : ℕ} → r ≡ Ok n → KeptOf s numbers n x x' y y'
+        kept_of_lem g = subst (λ (v : Result ℕ Refusal). Takes s numbers v x x' y y') g k
 
-        module _ {n : ℕ} (g : r ≡ taken.Kept n) where
+        module _ {n : ℕ} (g : r ≡ Ok n) where
           pub kept-few : n ≤ 512
           kept-few = (kept_of_lem g).kept.few
 
-          pub rest-laid : 8192 ≤ length y → (d d' : List ℕ) (a : Arranged) → LaysOut u s y' n out d d' a → ArrangesRest u s numbers out x y d a x' y' d'
+          pub rest-laid : 8192 ≤ length y → (d d' : List ℕ) (a : Result Numbers Refusal) → LaysOut u s y' n out d d' a → ArrangesRest u s numbers out x y d a x' y' d'
           rest-laid long d d' a l =
               let o = kept_of_lem g in
               by_layout u s numbers out n x y d x' y' d' o (answer_is ∙ rw o.kept.is) a
@@ -140,15 +138,15 @@ module _ (u : ℕ) (s numbers : List ℕ) (out : ℕ) where
   short_work ws e = record { is = rw e; words = rw e }
 
   -- the same, answered
-  pub rest_refused : (b c d b' c' d' : List ℕ) (r : Arranged) {n p : ℕ} → ArrangesRest u s numbers out b c d r b' c' d' → r ≡ answers.Refused n p
-      → answer u s numbers out ≡ refused n p
-  rest_refused b c d b' c' d' r h e = subst (λ (v : Arranged). ArrangesRest u s numbers out b c d v b' c' d') e h
+  pub rest_refused : (b c d b' c' d' : List ℕ) (r : Result Numbers Refusal) {x : Refusal} → ArrangesRest u s numbers out b c d r b' c' d' → r ≡ Err x
+      → answer u s numbers out ≡ refused (number_of x) (place_of x)
+  rest_refused b c d b' c' d' r h e = subst (λ (v : Result Numbers Refusal). ArrangesRest u s numbers out b c d v b' c' d') e h
 
-  pub rest-arranged : (a b c d b' c' d' : List ℕ) (r : Arranged) {n : Numbers} → 8192 ≤ length a → 8192 ≤ length b → 8192 ≤ length c → 8192 ≤ length d
-      → ArrangesRest u s numbers out b c d r b' c' d' → r ≡ answers.Done n → Arranges u s numbers out a b c d r a b' c' d'
+  pub rest-arranged : (a b c d b' c' d' : List ℕ) (r : Result Numbers Refusal) {n : Numbers} → 8192 ≤ length a → 8192 ≤ length b → 8192 ≤ length c → 8192 ≤ length d
+      → ArrangesRest u s numbers out b c d r b' c' d' → r ≡ Ok n → Arranges u s numbers out a b c d r a b' c' d'
   rest-arranged a b c d b' c' d' r {n} la lb lc ld h e =
-      let o : RestIn u s numbers out n b c d b' c' d' = subst (λ (v : Arranged). ArrangesRest u s numbers out b c d v b' c' d') e h in
-      subst (λ (v : Arranged). Arranges u s numbers out a b c d v a b' c' d') (sym e) (record {
+      let o : RestIn u s numbers out n b c d b' c' d' = subst (λ (v : Result Numbers Refusal). ArrangesRest u s numbers out b c d v b' c' d') e h in
+      subst (λ (v : Result Numbers Refusal). Arranges u s numbers out a b c d v a b' c' d') (sym e) (record {
         told = o.told;
         is = o.is;
         all = o.all;

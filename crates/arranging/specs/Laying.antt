@@ -1,5 +1,5 @@
 -- The whole layout in words: what the code answers at each stage.
-use Rattle.std.specs.Prelude.{ℕ, ◌*◌, ◌≤◌, ◌<◌, List, ◌≡◌, length}
+use Rattle.std.specs.Prelude.{ℕ, ◌*◌, ◌≤◌, ◌<◌, List, ◌≡◌, length, Result, Ok, Err}
 use Rattle.base.specs.Choice.{if_lt}
 use Rattle.base.specs.Checked.{Checked, ok, refused, and_then, Verdict, fine}
 use Rattle.base.specs.Blit.{blit}
@@ -16,11 +16,10 @@ use Rattle.copier.specs.Attaching.{Moving}
 use Rattle.copier.specs.Roots.{copies_of}
 use Rattle.thin.specs.Place.{most_kept, kept_sizes, placed}
 use Rattle.thin.specs.TakenOut.{most_file}
+use Rattle.fields.specs.declared.refusal.Refusal.{Refusal}
+use Rattle.fields.specs.Answer.{number_of, place_of}
 use Rattle.arranging.specs.declared.decide.Numbers.{Numbers}
-use Rattle.arranging.specs.declared.decide.Arranged.{Arranged}
-use Rattle.arranging.specs.declared.decide.Arranged.TheVariants as arranged
 use Rattle.arranging.specs.declared.layout.Rest.{Rest}
-use Rattle.arranging.specs.declared.layout.Rest.TheVariants as rest
 use Rattle.arranging.specs.Sized.{sizes_in}
 use Rattle.arranging.specs.Spots.{place_words}
 use Rattle.arranging.specs.Answered.{Numbered}
@@ -38,17 +37,16 @@ pub record AttachedIn (s : List ℕ) (out : ℕ) (m m' : List ℕ) (end : ℕ) (
   pub is : attached_at s out (standing m st) ≡ ok moving.told
   pub ends : e ≡ end
 
-abbrev pub Attaches : List ℕ → ℕ → List ℕ → List ℕ → ℕ → Copying → Rest → Type 0
-Attaches s out m m' end st (rest.At count e t) = AttachedIn s out m m' end st count e t
-Attaches s out m m' end st (rest.Refused number place) = attached_at s out (standing m st) ≡ refused number place
+abbrev pub Attaches : List ℕ → ℕ → List ℕ → List ℕ → ℕ → Copying → Result Rest Refusal → Type 0
+Attaches s out m m' end st (Ok r) = AttachedIn s out m m' end st r.count r.end r.state
+Attaches s out m m' end st (Err x) = attached_at s out (standing m st) ≡ refused (number_of x) (place_of x)
 
 -- the same wherever they are placed past 2^59: a refusal
 pub record AttachedOver (s m : List ℕ) (used number place : ℕ) : Type 0 where
   pub is : (out x : ℕ) → most_file < x → attached_at s out (copies (copies_in m used) x) ≡ refused number place
 
-abbrev pub Over : List ℕ → List ℕ → ℕ → Rest → Type 0
-Over s m used (rest.At count e t) = ⊥
-Over s m used (rest.Refused number place) = AttachedOver s m used number place
+abbrev pub Over : List ℕ → List ℕ → ℕ → Refusal → Type 0
+Over s m used x = AttachedOver s m used (number_of x) (place_of x)
 
 -- ---- places of columns, and attachments
 
@@ -73,10 +71,10 @@ pub record Rested (u : ℕ) (s w : List ℕ) (n out : ℕ) (m m' : List ℕ) (st
   pub most : t.used ≤ 2050
   pub past : Past (2 * t.used) (blit attachments_at (attachment_words told.attachments) (blit placed_at (places_in u s w n st) m)) m'
 
-abbrev pub Rests : ℕ → List ℕ → List ℕ → ℕ → ℕ → List ℕ → List ℕ → Copying → Rest → Type 0
-Rests u s w n out m m' st (rest.At count end t) = Rested u s w n out m m' st count end t
-Rests u s w n out m m' st (rest.Refused number place) =
-    attached_at s out (copies (copies_in m st.used) (data_end_in u s w n st)) ≡ refused number place
+abbrev pub Rests : ℕ → List ℕ → List ℕ → ℕ → ℕ → List ℕ → List ℕ → Copying → Result Rest Refusal → Type 0
+Rests u s w n out m m' st (Ok r) = Rested u s w n out m m' st r.count r.end r.state
+Rests u s w n out m m' st (Err x) =
+    attached_at s out (copies (copies_in m st.used) (data_end_in u s w n st)) ≡ refused (number_of x) (place_of x)
 
 -- ---- the whole
 
@@ -97,9 +95,9 @@ pub record LaidOut (n : ℕ) (m m' : List ℕ) (r : Numbers) (v : Checked Layout
   pub numbered : Numbered told m m' r
 
 -- after a refusal the words are not said
-abbrev pub Lays : ℕ → List ℕ → List ℕ → Arranged → Checked Layout → Type 0
-Lays n m m' (arranged.Done r) v = LaidOut n m m' r v
-Lays n m m' (arranged.Refused number place) v = v ≡ refused number place
+abbrev pub Lays : ℕ → List ℕ → List ℕ → Result Numbers Refusal → Checked Layout → Type 0
+Lays n m m' (Ok r) v = LaidOut n m m' r v
+Lays n m m' (Err x) v = v ≡ refused (number_of x) (place_of x)
 
-pub record LaysOut (u : ℕ) (s w : List ℕ) (n out : ℕ) (m m' : List ℕ) (r : Arranged) : Type 0 where
+pub record LaysOut (u : ℕ) (s w : List ℕ) (n out : ℕ) (m m' : List ℕ) (r : Result Numbers Refusal) : Type 0 where
   pub is : (cs : List Column) → Standing s w n cs → Lays n m m' r (laid_for u s cs out)

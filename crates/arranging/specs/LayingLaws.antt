@@ -1,5 +1,5 @@
 -- The stages of the whole layout, one law for each way of the code.
-use Rattle.std.specs.Prelude.{ℕ, suc, ◌+◌, ◌*◌, ◌≤◌, ◌<◌, ◌≡◌}
+use Rattle.std.specs.Prelude.{ℕ, suc, ◌+◌, ◌*◌, ◌≤◌, ◌<◌, ◌≡◌, Option, Some, None, Result, Ok, Err, ⊤}
 use mathlib.Core.List.{List, [], ◌∷◌}
 use Rattle.std.proofs.Math.Path.{refl, sym, ap}
 use Rattle.std.proofs.Common.{◌∙◌, subst, arith}
@@ -18,16 +18,11 @@ use Rattle.copies_laws.specs.Laid.{align_near}
 use Rattle.copies_laws.specs.Alike.{alike_ok, alike_refused, alike_attached}
 use Rattle.copies_laws.specs.AttachLaws.{laid_at_ends, all_attached}
 use Rattle.payload_laws.specs.UnitLaws.{IsUnit}
-use Rattle.fields.specs.declared.Check.{Check}
-use Rattle.fields.specs.declared.Check.TheVariants as checks
-use Rattle.fields.specs.Answer.{verdict_of}
+use Rattle.fields.specs.declared.refusal.Refusal.{Refusal}
+use Rattle.fields.specs.declared.refusal.Refusal.TheVariants.{OutputTooShort}
+use Rattle.fields.specs.Answer.{number_of, place_of, verdict_of}
 use Rattle.copier.specs.declared.memo.Copying.{Copying}
-use Rattle.copier.specs.declared.copies.Got.{Got}
-use Rattle.copier.specs.declared.copies.Got.TheVariants as got
-use Rattle.copier.specs.declared.history.Chain.{Chain}
-use Rattle.copier.specs.declared.history.Chain.TheVariants as chain
-use Rattle.copier.specs.declared.attachments.Moved.{Moved}
-use Rattle.copier.specs.declared.attachments.Moved.TheVariants as moved
+use Rattle.copier.specs.declared.memo.Chain.{Chain}
 use Rattle.copier.specs.Standing.{copies_in, standing, Past, Ready}
 use Rattle.copier.specs.StandingLaws.{length-copies, past_more, past_then}
 use Rattle.copier.specs.Got.{Copied, AfterGot}
@@ -40,11 +35,8 @@ use Rattle.copier.specs.Roots.{copies_of}
 use Rattle.thin.specs.Place.{most_kept, kept_size, kept_sizes, placed}
 use Rattle.thin.specs.TakenOut.{most_file}
 use Rattle.thin_laws.specs.PlaceLaws.{places_grow}
-use Rattle.arranging.specs.declared.decide.Arranged.TheVariants as arranged
+use Rattle.arranging.specs.declared.decide.Numbers.{Numbers}
 use Rattle.arranging.specs.declared.layout.Rest.{Rest}
-use Rattle.arranging.specs.declared.layout.Rest.TheVariants as rest
-use Rattle.arranging.specs.declared.placement.End.{End}
-use Rattle.arranging.specs.declared.placement.End.TheVariants as ends
 use Rattle.arranging.specs.ThenLaws.{then_then, then_through, then_made, then_unmade}
 use Rattle.arranging.specs.Sized.{sizes_in}
 use Rattle.arranging.specs.Spots.{place_words, Ends, PlacedIn, PlacedOver, AllPlaced}
@@ -80,27 +72,27 @@ module _ (out x : ℕ) where
   room-fine h k = lt_no _ _ _ _ h (lt_no _ _ _ _ k refl)
 
 -- ---- attachments
-module _ (s : List ℕ) (out : ℕ) (m m' : List ℕ) (end : ℕ) (st : Copying) {l : ℕ} (i : l ≡ link_at s 64 3) (r : Moved)
+module _ (s : List ℕ) (out : ℕ) (m m' : List ℕ) (end : ℕ) (st : Copying) {l : ℕ} (i : l ≡ link_at s 64 3) (r : Result Chain Refusal)
     (h : Moves m m' st r (attachments_of most_kept s l (standing m st))) where
-  moved_refused : {a b : ℕ} → r ≡ moved.Refused a b → attachments_of most_kept s (link_at s 64 3) (standing m st) ≡ refused a b
-  moved_refused e = rw (← i) (subst (λ (v : Moved). Moves m m' st v (attachments_of most_kept s l (standing m st))) e h)
+  moved_refused : {x : Refusal} → r ≡ Err x → attachments_of most_kept s (link_at s 64 3) (standing m st) ≡ refused (number_of x) (place_of x)
+  moved_refused e = rw (← i) (subst (λ (v : Result Chain Refusal). Moves m m' st v (attachments_of most_kept s l (standing m st))) e h)
 
-  moved_at : {count : ℕ} {t : Copying} → r ≡ moved.At count t → MovedAll count m m' st t (attachments_of most_kept s (link_at s 64 3) (standing m st))
-  moved_at e = rw (← i) (subst (λ (v : Moved). Moves m m' st v (attachments_of most_kept s l (standing m st))) e h)
+  moved_at : {k : Chain} → r ≡ Ok k → MovedAll k.count m m' st k.state (attachments_of most_kept s (link_at s 64 3) (standing m st))
+  moved_at e = rw (← i) (subst (λ (v : Result Chain Refusal). Moves m m' st v (attachments_of most_kept s l (standing m st))) e h)
 
-  pub attach_refused : {a b : ℕ} → r ≡ moved.Refused a b → Attaches s out m m' end st (rest.Refused a b)
+  pub attach_refused : {x : Refusal} → r ≡ Err x → Attaches s out m m' end st (Err x)
   unfolding attached_at
   attach_refused e = rw (moved_refused e)
 
-  module _ {count : ℕ} {t : Copying} (e : r ≡ moved.At count t) (o : Check) (k : verdict_of o ≡ room_in out t.next) where
+  module _ {k : Chain} (e : r ≡ Ok k) (o : Result ⊤ Refusal) (f : verdict_of o ≡ room_in out k.state.next) where
     room_is : room_in out (moved_at e).moving.told.made.next ≡ verdict_of o
-    room_is = ap (λ (c : Copies). room_in out c.next) (moved_at e).moving.made ∙ sym k
+    room_is = ap (λ (c : Copies). room_in out c.next) (moved_at e).moving.made ∙ sym f
 
-    pub attach-short : {a b : ℕ} → o ≡ checks.Refused a b → Attaches s out m m' end st (rest.Refused a b)
+    pub attach-short : {x : Refusal} → o ≡ Err x → Attaches s out m m' end st (Err x)
     unfolding attached_at
     attach-short q = rw ((moved_at e).is, room_is, q)
 
-    pub attach_done : o ≡ checks.Fine → Attaches s out m m' end st (rest.At count end t)
+    pub attach_done : {u : ⊤} → o ≡ Ok u → Attaches s out m m' end st (Ok (record { count = k.count; end = end; state = k.state }))
     unfolding attached_at
     attach_done q = record { moving = (moved_at e).moving; is = rw ((moved_at e).is, room_is, q); ends = refl }
 
@@ -108,18 +100,18 @@ module _ (s : List ℕ) (out : ℕ) (m m' : List ℕ) (end : ℕ) (st : Copying)
 abbrev pub nowhere : ℕ → Copying
 nowhere used = record { used = used; next = 0 }
 
-module _ (s m m' : List ℕ) (used : ℕ) {l : ℕ} (i : l ≡ link_at s 64 3) (r : Moved)
+module _ (s m m' : List ℕ) (used : ℕ) {l : ℕ} (i : l ≡ link_at s 64 3) (r : Result Chain Refusal)
     (h : Moves m m' (nowhere used) r (attachments_of most_kept s l (standing m (nowhere used)))) where
-  pub over_refused : {a b : ℕ} → r ≡ moved.Refused a b → Over s m used (rest.Refused a b)
+  pub over_refused : {x : Refusal} → r ≡ Err x → Over s m used x
   unfolding attached_at
-  over_refused {a} {b} e = record {
-    is = λ out x k.
-        let y = alike_refused a b (alike_attached most_kept s (link_at s 64 3) (copies (copies_in m used) 0) (copies (copies_in m used) x) refl)
+  over_refused {x} e = record {
+    is = λ out y k.
+        let z = alike_refused (number_of x) (place_of x) (alike_attached most_kept s (link_at s 64 3) (copies (copies_in m used) 0) (copies (copies_in m used) y) refl)
         (moved_refused s out m m' 0 (nowhere used) i r h e) in
-        rw y;
+        rw z;
   }
 
-  pub over-moved : {count : ℕ} {t : Copying} → r ≡ moved.At count t → Over s m used (rest.Refused 20 18446744073709551615)
+  pub over-moved : {k : Chain} → r ≡ Ok k → Over s m used (OutputTooShort 18446744073709551615)
   unfolding attached_at
   over-moved e = record {
     is = λ out x k.
@@ -130,44 +122,43 @@ module _ (s m m' : List ℕ) (used : ℕ) {l : ℕ} (i : l ≡ link_at s 64 3) (
   }
 
 -- ---- places of columns, then attachments
-pub ends_at : (x : ℕ) (r : End) {e : ℕ} → Ends r x → r ≡ ends.At e → (e ≡ x) × (e ≤ most_file)
-ends_at x r h q = subst (λ (v : End). Ends v x) q h
+pub ends_at : (x : ℕ) (r : Option ℕ) {e : ℕ} → Ends r x → r ≡ Some e → (e ≡ x) × (e ≤ most_file)
+ends_at x r h q = subst (λ (v : Option ℕ). Ends v x) q h
 
-pub ends-over : (x : ℕ) (r : End) → Ends r x → r ≡ ends.Over → most_file < x
-ends-over x r h q = subst (λ (v : End). Ends v x) q h
+pub ends-over : (x : ℕ) (r : Option ℕ) → Ends r x → r ≡ None → most_file < x
+ends-over x r h q = subst (λ (v : Option ℕ). Ends v x) q h
 
-module _ (u : ℕ) (s w : List ℕ) (n a d : ℕ) (m m' : List ℕ) (r : End) (h : AllPlaced u s w n a d m m' r) where
-  pub placed-at : {e : ℕ} → r ≡ ends.At e → PlacedIn u s w n a d m m' e
+module _ (u : ℕ) (s w : List ℕ) (n a d : ℕ) (m m' : List ℕ) (r : Option ℕ) (h : AllPlaced u s w n a d m m' r) where
+  pub placed-at : {e : ℕ} → r ≡ Some e → PlacedIn u s w n a d m m' e
   placed-at q = subst (AllPlaced u s w n a d m m') q h
 
-  pub placed-over : r ≡ ends.Over → PlacedOver u s w n d m m'
+  pub placed-over : r ≡ None → PlacedOver u s w n d m m'
   placed-over q = subst (AllPlaced u s w n a d m m') q h
 
 pub next_near : (st : Copying) {a : ℕ} → st.next ≤ 2199023255552 → a ≡ align8 st.next → a ≤ most_file
 next_near st h e = omega (arith, align_near st.next)
 
 module _ (u : ℕ) (s w : List ℕ) (n out : ℕ) (m : List ℕ) (st : Copying) {a : ℕ} (i : a ≡ align8 st.next) where
-  over_rests : (m' : List ℕ) (r : Rest) → Over s m st.used r → most_file < data_end_in u s w n st → Rests u s w n out m m' st r
-  over_rests m' (rest.At count e t) o h = absurd o
-  over_rests m' (rest.Refused b p) o h = o.is out (data_end_in u s w n st) h
+  over_rests : (m' : List ℕ) (x : Refusal) → Over s m st.used x → most_file < data_end_in u s w n st → Rests u s w n out m m' st (Err x)
+  over_rests m' x o h = o.is out (data_end_in u s w n st) h
 
   -- DG, CG, CN and DL alone end past 2^59
-  pub rest_over : (m' : List ℕ) (r : Rest) → IsUnit u → Over s m st.used r → most_file < structures_end a (sizes_in s w 0 n) → Rests u s w n out m m' st r
-  rest_over m' r k o h =
+  pub rest_over : (m' : List ℕ) (x : Refusal) → IsUnit u → Over s m st.used x → most_file < structures_end a (sizes_in s w 0 n)
+      → Rests u s w n out m m' st (Err x)
+  rest_over m' x k o h =
       let z : most_file < metadata_end_in s w n st = rw i at h in
-      over_rests m' r o (omega (arith, places_grow u k (metadata_end_in s w n st) (sizes_in s w 0 n)))
+      over_rests m' x o (omega (arith, places_grow u k (metadata_end_in s w n st) (sizes_in s w 0 n)))
 
   module _ {e : ℕ} (j : e ≡ structures_end a (sizes_in s w 0 n)) where
     ends_is : e ≡ metadata_end_in s w n st
     ends_is = rw (← i) j
 
-    same_over : (m₁ : List ℕ) (r : Rest) → copies_in m₁ st.used ≡ copies_in m st.used → Over s m₁ st.used r → Over s m st.used r
-    same_over m₁ (rest.At count f t) c o = absurd o
-    same_over m₁ (rest.Refused b p) c o = record { is = λ x y h. rw (← c) (o.is x y h) }
+    same_over : (m₁ : List ℕ) (x : Refusal) → copies_in m₁ st.used ≡ copies_in m st.used → Over s m₁ st.used x → Over s m st.used x
+    same_over m₁ x c o = record { is = λ y z h. rw (← c) (o.is y z h) }
 
-    pub rest-past : {m₁ : List ℕ} (m' : List ℕ) (r : Rest) → PlacedOver u s w n e m m₁ → st.used ≤ 2050 → Over s m₁ st.used r → Rests u s w n out m m' st r
-    rest-past {m₁} m' r c k o =
-        over_rests m' r (same_over m₁ r (c.copies st.used k) o) (rw ends_is at c.over)
+    pub rest-past : {m₁ : List ℕ} (m' : List ℕ) (x : Refusal) → PlacedOver u s w n e m m₁ → st.used ≤ 2050 → Over s m₁ st.used x
+        → Rests u s w n out m m' st (Err x)
+    rest-past {m₁} m' x c k o = over_rests m' x (same_over m₁ x (c.copies st.used k) o) (rw ends_is at c.over)
 
     module _ {d : ℕ} {m₁ : List ℕ} (c : PlacedIn u s w n a e m m₁ d) (k : st.used ≤ 2050) where
       -- the copies stand as they stood, and what is placed ends past the columns' data
@@ -178,9 +169,9 @@ module _ (u : ℕ) (s w : List ℕ) (n out : ℕ) (m : List ℕ) (st : Copying) 
           let y : d ≡ data_end_in u s w n st = c.ends ∙ ap (λ (v : ℕ). places_end u v (sizes_in s w 0 n)) ends_is in
           rw (x, y)
 
-      pub rest-placed : (m' : List ℕ) (r : Rest) → Attaches s out m₁ m' e (record { used = st.used; next = d }) r → Rests u s w n out m m' st r
-      rest-placed m' (rest.Refused b p) o = rw stands_is at o
-      rest-placed m' (rest.At count f t) o =
+      pub rest-placed : (m' : List ℕ) (r : Result Rest Refusal) → Attaches s out m₁ m' e (record { used = st.used; next = d }) r → Rests u s w n out m m' st r
+      rest-placed m' (Err x) o = rw stands_is at o
+      rest-placed m' (Ok f) o =
           let g = o.moving in
           record {
             told = g.told;
@@ -194,8 +185,8 @@ module _ (u : ℕ) (s w : List ℕ) (n out : ℕ) (m : List ℕ) (st : Copying) 
             past = rw (← i, ← j, ← c.words) g.past;
           }
 
-pub rests_at : (u : ℕ) (s w : List ℕ) (n out : ℕ) (m m' : List ℕ) (st : Copying) (r : Rest) {count end : ℕ} {t : Copying}
-    → Rests u s w n out m m' st r → r ≡ rest.At count end t → Rested u s w n out m m' st count end t
+pub rests_at : (u : ℕ) (s w : List ℕ) (n out : ℕ) (m m' : List ℕ) (st : Copying) (r : Result Rest Refusal) {x : Rest}
+    → Rests u s w n out m m' st r → r ≡ Ok x → Rested u s w n out m m' st x.count x.end x.state
 rests_at u s w n out m m' st r h e = subst (Rests u s w n out m m' st) e h
 
 -- ---- the whole, from its stages
@@ -204,7 +195,7 @@ rests_at u s w n out m m' st r h e = subst (Rests u s w n out m m' st) e h
 pub begun_near : {most count : ℕ} {s m m' : List ℕ} {st : Copying} → FirstCopies most count s m m' st → 8192 ≤ length m' → Ready m' 2050 st
 begun_near o l = record { words = l; limit = omega arith; few = omega (arith, o.after.most); near = omega (arith, o.after.near, o.after.most) }
 
-pub copied_near : {most count : ℕ} {s m m' : List ℕ} {st : Copying} → FirstCopies most count s m m' st → {g : Got} → AfterGot g st → {t : Copying} → g ≡ got.At t
+pub copied_near : {most count : ℕ} {s m m' : List ℕ} {st : Copying} → FirstCopies most count s m m' st → {g : Result Copying Refusal} → AfterGot g st → {t : Copying} → g ≡ Ok t
     → (t.used ≤ 2050) × (t.next ≤ 2199023255552)
 copied_near o a e =
     let x = after-at a e in
@@ -274,11 +265,11 @@ placed-many [] u a d = refl
 placed-many (c ∷ cs) u a d = ap suc (placed-many cs u (a + (kept_size c).structure) (past_data u (kept_size c) d))
 
 module _ (u : ℕ) (s w : List ℕ) (n out : ℕ) (m : List ℕ) where
-  pub whole_first : (m' : List ℕ) {m'' : List ℕ} (g : Chain) {a b : ℕ} → Begins most_kept s m m' g → g ≡ chain.Refused a b
-      → LaysOut u s w n out m m'' (arranged.Refused a b)
-  whole_first m' g h e = record { is = λ cs x. laid-first u s cs out (subst (Begins most_kept s m m') e h) }
+  pub whole_first : (m' : List ℕ) {m'' : List ℕ} (g : Result Chain Refusal) {x : Refusal} → Begins most_kept s m m' g → g ≡ Err x
+      → LaysOut u s w n out m m'' (Err x)
+  whole_first m' g h e = record { is = λ cs z. laid-first u s cs out (subst (Begins most_kept s m m') e h) }
 
-  module _ {count : ℕ} {m₁ : List ℕ} {st : Copying} (o : FirstCopies most_kept count s m m₁ st) {m₂ : List ℕ} {g : Got}
+  module _ {count : ℕ} {m₁ : List ℕ} {st : Copying} (o : FirstCopies most_kept count s m m₁ st) {m₂ : List ℕ} {g : Result Copying Refusal}
       (c : Copied m₁ m₂ g (copies_of most_kept s w 0 n (standing m₁ st))) where
     columns-next : (cs : List Column) → Standing s w n cs → {v : Checked Copies} → v ≡ copies_of most_kept s w 0 n (standing m₁ st)
         → laid_for u s cs out ≡ and_then v (λ m2. last_of u s cs out o.comment (history (chain_in m₁ count) (standing m₁ st)) m2)
@@ -287,10 +278,10 @@ module _ (u : ℕ) (s w : List ℕ) (n out : ℕ) (m : List ℕ) where
         ∙ ap (λ (v : Checked Copies). and_then v (λ m2. last_of u s cs out o.comment (history (chain_in m₁ count) (standing m₁ st)) m2))
         (sym (e ∙ z.roots (standing m₁ st)))
 
-    pub whole_columns : {m' : List ℕ} {a b : ℕ} → g ≡ got.Refused a b → LaysOut u s w n out m m' (arranged.Refused a b)
+    pub whole_columns : {m' : List ℕ} {x : Refusal} → g ≡ Err x → LaysOut u s w n out m m' (Err x)
     whole_columns e = record { is = λ cs z. columns-next cs z (copied_refused c e) }
 
-    module _ {t : Copying} (e : g ≡ got.At t) where
+    module _ {t : Copying} (e : g ≡ Ok t) where
       ends_of : (cs : List Column) → Standing s w n cs → metadata_end_in s w n t ≡ structures_end (past_copies (standing m₂ t)) (kept_sizes cs)
       unfolding past_copies
       ends_of cs z = rw z.sizes
@@ -300,7 +291,7 @@ module _ (u : ℕ) (s w : List ℕ) (n out : ℕ) (m : List ℕ) where
       unfolding past_copies
       data_of cs z = rw z.sizes
 
-      pub whole_rest : {m' : List ℕ} (r : Rest) {a b : ℕ} → Rests u s w n out m₂ m' t r → r ≡ rest.Refused a b → LaysOut u s w n out m m' (arranged.Refused a b)
+      pub whole_rest : {m' : List ℕ} (r : Result Rest Refusal) {x : Refusal} → Rests u s w n out m₂ m' t r → r ≡ Err x → LaysOut u s w n out m m' (Err x)
       whole_rest {m'} r h q = record {
         is = λ cs z.
             let v = subst (Rests u s w n out m₂ m' t) q h in
@@ -363,7 +354,7 @@ module _ (u : ℕ) (s w : List ℕ) (n out : ℕ) (m : List ℕ) where
                   (blit attachments_at (attachment_words q.told.attachments) (blit 0 (copy_words q.told.made.memo) m)))) (placed_is cs z);
             }
 
-        pub whole_done : LaysOut u s w n out m m₃ (arranged.Done (record {
+        pub whole_done : LaysOut u s w n out m m₃ (Ok (record {
           columns = n;
           history = st.used;
           chain = count;

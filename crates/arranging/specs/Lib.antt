@@ -1,3 +1,4 @@
+pub mod Kept
 pub mod ThenLaws
 pub mod Sized
 pub mod SizedLaws

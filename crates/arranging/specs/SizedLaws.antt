@@ -1,5 +1,5 @@
 -- The laws of sizes out of words: one for each way of the code, and the columns that are left.
-use Rattle.std.specs.Prelude.{ℕ, zero, suc, ◌+◌, ◌*◌, ◌-◌, ◌/◌, ◌≤◌, ◌<◌, List, [], ◌∷◌, Bool, true, false, ◌≡◌, eqb, get_or}
+use Rattle.std.specs.Prelude.{ℕ, zero, suc, ◌+◌, ◌*◌, ◌-◌, ◌/◌, ◌≤◌, ◌<◌, min, List, [], ◌∷◌, Bool, true, false, ◌≡◌, eqb, get_or}
 use Rattle.std.proofs.Math.Option.{none, some}
 use Rattle.std.proofs.Math.Path.{refl, ap}
 use Rattle.std.proofs.Common.{sym, ◌∙◌, mul-zero, mul-le-mul_right, div-mul-le_self, div-lt_iff_lt-mul, sub-one, arith}
@@ -19,38 +19,11 @@ use Rattle.arranging.specs.Sized.{Cut, blocks_in, cg_bytes, structure_at, payloa
 pub cut-same : {m : ℕ} (x : ℕ) → x ≤ m → Cut m x x
 cut-same x h = record { below = omega arith; near = h; whole = λ _. refl }
 
-pub cut-over : (x : ℕ) → most_file < x → Cut 576460752303423489 x 576460752303423489
-cut-over x h = record { below = omega arith; near = omega arith; whole = λ k. absurd (omega arith) }
-
 -- past 2^59, or the same
 pub cut-past : {m x r : ℕ} → Cut m x r → most_file < r → most_file < x
 cut-past c h = omega (arith, c.below)
 
--- ---- n things of w bytes each
-pub times_none : (n w : ℕ) → w ≡ 0 → Cut 576460752303423489 (n * w) 0
-times_none n w e = rw (e, mul-zero) (cut-same 0 (omega arith))
-
-pub times-over : (n w : ℕ) → (w ≡ 0 → ⊥) → 576460752303423488 / w < n → Cut 576460752303423489 (n * w) 576460752303423489
-times-over n w z h =
-    let p : 0 < w = omega arith in
-    cut-over (n * w) (omega (arith, (div-lt_iff_lt-mul {k = w} {x = 576460752303423488} {y = n} p).0 h))
-
-pub times-small : (n w : ℕ) → n ≤ 576460752303423488 / w → n * w ≤ 576460752303423488
-times-small n w h = omega (arith, mul-le-mul_right w h, div-mul-le_self 576460752303423488 w)
-
-pub times_whole : (n w : ℕ) → n ≤ 576460752303423488 / w → Cut 576460752303423489 (n * w) (n * w)
-times_whole n w h = cut-same (n * w) (omega (arith, times-small n w h))
-
 -- ---- one column
-module _ (s : List ℕ) (a : ℕ) {n x : ℕ} (i : x ≡ link_at s a 2) (j : n ≡ links_of s x) where
-  pub blocks-none : n ≡ 0 → 0 ≡ blocks_in s a
-  unfolding blocks_in
-  blocks-none e = rw (← i, ← j) (omega arith)
-
-  pub blocks-some : n - 1 ≡ blocks_in s a
-  unfolding blocks_in
-  blocks-some = rw (← i, ← j)
-
 pub cg_yes : (m : ℕ) → m ≡ 0 → 104 ≡ cg_bytes m
 unfolding cg_bytes
 cg_yes m e = eq_yes _ _ _ _ e refl
@@ -80,11 +53,8 @@ dl_is : (n : ℕ) → (n ≡ 0 → ⊥) → 24 + 8 * (n + 1) + 16 ≡ dl_size n
 unfolding dl_size
 dl_is n e = eq_no _ _ _ _ e refl
 
-pub dl-over : (n : ℕ) → (n ≡ 0 → ⊥) → 72057594037927930 < n → Cut 576460752303423489 (dl_size n) 576460752303423489
-dl-over n e h = rw (← dl_is n e) (cut-over (24 + 8 * (n + 1) + 16) (omega arith))
-
-pub dl_whole : (n : ℕ) → (n ≡ 0 → ⊥) → n ≤ 72057594037927930 → Cut 576460752303423489 (dl_size n) (24 + 8 * (n + 1) + 16)
-dl_whole n e h = rw (← dl_is n e) (cut-same (24 + 8 * (n + 1) + 16) (omega arith))
+pub dl-some : (n : ℕ) {r : ℕ} → (n ≡ 0 → ⊥) → r ≡ min (8 * n + 48) 576460752303423489 → Cut 576460752303423489 (dl_size n) r
+dl-some n e h = rw (← dl_is n e, h) (record { below = omega arith; near = omega arith; whole = λ k. omega arith })
 
 all-references : (s : List ℕ) (c : ℕ) → photos_of true s c ≡ references s c
 unfolding photos_of

@@ -1,7 +1,9 @@
 -- The laws of places: one for each way of the code; what is left of the columns gives what all give.
-use Rattle.std.specs.Prelude.{ℕ, ◌+◌, ◌*◌, ◌-◌, ◌≤◌, ◌<◌, List, [], ◌∷◌, ◌++◌, Bool, true, false, ◌≡◌, refl, eqb, length, get_or}
-use Rattle.std.proofs.Math.Option.{Option, none, some}
+use Rattle.std.specs.Prelude.{ℕ, ◌+◌, ◌*◌, ◌-◌, ◌≤◌, ◌<◌, List, [], ◌∷◌, ◌++◌, Bool, true, false, ◌≡◌, refl, eqb, length, get_or, Option, Some, None}
+use Rattle.std.proofs.Math.Option as math
+use Rattle.std.proofs.Math.Option.{none, some}
 use Rattle.std.proofs.Math.Path.{sym, ap}
+use Rattle.std.proofs.Math.Nat.{sub-zero}
 use Rattle.std.proofs.Common.{◌∙◌, subst, le_refl, arith}
 use Rattle.base.specs.Choice.{pick, if_eq}
 use Rattle.base.specs.Blit.{blit}
@@ -15,8 +17,6 @@ use Rattle.copier.specs.AttachingLaws.{copies-blit}
 use Rattle.thin.specs.TakenOut.{most_file}
 use Rattle.thin_laws.specs.PlaceLaws.{structures_grow, places_grow}
 use Rattle.arranging.specs.declared.placement.Spot.{Spot}
-use Rattle.arranging.specs.declared.placement.Spot.TheVariants as spot
-use Rattle.arranging.specs.declared.placement.End.TheVariants as ends
 use Rattle.arranging.specs.Sized.{Cut, blocks_in, structure_at, sd_bytes, signal_size_at, sizes_at, sizes_in}
 use Rattle.arranging.specs.SizedLaws.{cut-past, sizes_none, sizes_cons}
 use Rattle.arranging.specs.Spots.{place_words, Ends, Spotted, Spots, AllPlaced}
@@ -40,15 +40,15 @@ pub record Structuring (s w : List ℕ) (n₀ a₀ p n a : ℕ) : Type 0 where
   pub near : a ≤ most_file
   pub rest : structures_end a (sizes_in s w p n) ≡ structures_end a₀ (sizes_in s w 0 n₀)
 
-pub structures_begin : (s w : List ℕ) (n a : ℕ) → n ≤ 512 → a ≤ most_file → Structuring s w n a 0 n a
-structures_begin s w n a h k = record { at = omega arith; near = k; rest = refl }
+pub structures_begin : (s w : List ℕ) (n a : ℕ) → n ≤ 512 → a ≤ most_file → Structuring s w n a 0 (n - 0) a
+structures_begin s w n a h k = rw sub-zero (record { at = omega arith; near = k; rest = refl })
 
 module _ {s w : List ℕ} {n₀ a₀ p n a : ℕ} (t : Structuring s w n₀ a₀ p n a) where
-  pub structures_end_lem : n ≡ 0 → Ends (ends.At a) (structures_end a₀ (sizes_in s w 0 n₀))
+  pub structures_end_lem : n ≡ 0 → Ends (Some a) (structures_end a₀ (sizes_in s w 0 n₀))
   structures_end_lem e = (sym (structures_none s w p n a e) ∙ t.rest, t.near)
 
   module _ (h : 0 < n) {x : ℕ} (c : Cut 1152921504606846976 (structure_at s w p) x) where
-    pub structures_over : most_file < a + x → Ends ends.Over (structures_end a₀ (sizes_in s w 0 n₀))
+    pub structures_over : most_file < a + x → Ends None (structures_end a₀ (sizes_in s w 0 n₀))
     structures_over l = omega (arith, t.rest, structure_before s w p n a h, c.below)
 
     pub structures_next : a + x ≤ most_file → Structuring s w n₀ a₀ (p + 8) (n - 1) (a + x)
@@ -59,8 +59,15 @@ module _ {s w : List ℕ} {n₀ a₀ p n a : ℕ} (t : Structuring s w n₀ a₀
           rest = rw (c.whole (omega arith)) (sym (structures_cons s w p n a h) ∙ t.rest);
         }
 
+-- by the number of the column
+pub structures_on : (k : ℕ) {s w : List ℕ} {n a₀ a : ℕ} → Structuring s w n a₀ (8 * k + 8) (n - k - 1) a → Structuring s w n a₀ (8 * (k + 1)) (n - (k + 1)) a
+structures_on k {n = n} t =
+    let x : 8 * (k + 1) ≡ 8 * k + 8 = omega arith in
+    let y : n - (k + 1) ≡ n - k - 1 = omega arith in
+    rw (x, y) t
+
 -- ---- the data of one column
-signal_grows : (g : Option ℕ) (d : ℕ) → d ≤ signal_end g d
+signal_grows : (g : math.Option ℕ) (d : ℕ) → d ≤ signal_end g d
 signal_grows none d = le_refl d
 signal_grows (some n) d = omega (arith, align_past (d + (24 + n)))
 
@@ -82,7 +89,7 @@ module _ (u : ℕ) (s w : List ℕ) (p d : ℕ) (i : IsUnit u) {a n f : ℕ} (j 
 
   module _ {e : ℕ} (c : Cut 4611686018427387904 (blocks_end (sizes_at s w p) f) e) where
     -- the data blocks alone end past 2^59
-    pub spot_over : most_file < e → Spots u (sizes_at s w p) d spot.Over
+    pub spot_over : most_file < e → Spots u (sizes_at s w p) d None
     spot_over h =
         let b : most_file < blocks_end (sizes_at s w p) (first_at u (sizes_at s w p) d) = rw first_is_lem at (cut-past c h) in
         omega (
@@ -104,17 +111,17 @@ module _ (u : ℕ) (s w : List ℕ) (p d : ℕ) (i : IsUnit u) {a n f : ℕ} (j 
           omega (arith, sd_is, (signal_past u i (signal_size_at s w p) (blocks_end (sizes_at s w p) (first_at u (sizes_at s w p) d))).1, i.most)
 
       module _ {r : ℕ} (o : Cut 4611686018427387904 (signal_end (signal_size_at s w p) g) r) where
-        pub signal_over_lem : most_file < r → Spots u (sizes_at s w p) d spot.Over
+        pub signal_over_lem : most_file < r → Spots u (sizes_at s w p) d None
         signal_over_lem l = rw sd_is at (cut-past o l)
 
-        pub spot_at : r ≤ most_file → Spots u (sizes_at s w p) d (spot.At f g r)
+        pub spot_at : r ≤ most_file → Spots u (sizes_at s w p) d (Some (record { first = f; sd = g; end = r }))
         spot_at l = record { first = first_is_lem; sd = sd_is; end = o.whole l ∙ ap (signal_end (signal_size_at s w p)) sd_is; near = l }
 
 -- the code's answer
-pub spotted : (u : ℕ) (z : Sizes) (d : ℕ) (r : Spot) {f g e : ℕ} → Spots u z d r → r ≡ spot.At f g e → Spotted u z d f g e
+pub spotted : (u : ℕ) (z : Sizes) (d : ℕ) (r : Option Spot) {x : Spot} → Spots u z d r → r ≡ Some x → Spotted u z d x.first x.sd x.end
 spotted u z d r h e = subst (Spots u z d) e h
 
-pub spotted-over : (u : ℕ) (z : Sizes) (d : ℕ) (r : Spot) → Spots u z d r → r ≡ spot.Over → most_file < past_data u z d
+pub spotted-over : (u : ℕ) (z : Sizes) (d : ℕ) (r : Option Spot) → Spots u z d r → r ≡ None → most_file < past_data u z d
 spotted-over u z d r h e = subst (Spots u z d) e h
 
 -- ---- places of columns and the end of their data
@@ -151,9 +158,9 @@ pub record Placing (u : ℕ) (s w : List ℕ) (n₀ a₀ d₀ : ℕ) (m₀ m : L
   pub words : blit q (place_words (places_from u a d (sizes_in s w p n))) m ≡ blit 6656 (place_words (places_from u a₀ d₀ (sizes_in s w 0 n₀))) m₀
 
 pub place_begin : (u : ℕ) (s w : List ℕ) (n a d : ℕ) (m : List ℕ) → n ≤ 512 → 8192 ≤ length m → d ≤ most_file → IsUnit u
-    → structures_end a (sizes_in s w 0 n) ≤ most_file → Placing u s w n a d m m 0 6656 n a d
+    → structures_end a (sizes_in s w 0 n) ≤ most_file → Placing u s w n a d m m 0 6656 (n - 0) a d
 place_begin u s w n a d m h l k i e =
-    record {
+    rw sub-zero (record {
       at = omega arith;
       from = omega arith;
       to = omega arith;
@@ -164,10 +171,10 @@ place_begin u s w n a d m h l k i e =
       structures = e;
       ends = refl;
       words = refl;
-    }
+    })
 
 module _ {u : ℕ} {s w : List ℕ} {n₀ a₀ d₀ : ℕ} {m₀ m : List ℕ} {p q n a d : ℕ} (t : Placing u s w n₀ a₀ d₀ m₀ m p q n a d) where
-  pub place_end : n ≡ 0 → AllPlaced u s w n₀ a₀ d₀ m₀ m (ends.At d)
+  pub place_end : n ≡ 0 → AllPlaced u s w n₀ a₀ d₀ m₀ m (Some d)
   unfolding blit
   place_end e =
       record {
@@ -184,7 +191,7 @@ module _ {u : ℕ} {s w : List ℕ} {n₀ a₀ d₀ : ℕ} {m₀ m : List ℕ} {
       ∙ copies-blit (place_words (places_from u a₀ d₀ (sizes_in s w 0 n₀))) m₀ k 6656 (omega arith)
 
   module _ (h : 0 < n) where
-    pub place_over : most_file < past_data u (sizes_at s w p) d → AllPlaced u s w n₀ a₀ d₀ m₀ m ends.Over
+    pub place_over : most_file < past_data u (sizes_at s w p) d → AllPlaced u s w n₀ a₀ d₀ m₀ m None
     place_over l =
         record {
           over = omega (arith, t.ends, data_cons u s w p n d h, places_grow u t.unit (past_data u (sizes_at s w p) d) (sizes_in s w (p + 8) (n - 1)));
@@ -218,3 +225,12 @@ module _ {u : ℕ} {s w : List ℕ} {n₀ a₀ d₀ : ℕ} {m₀ m : List ℕ} {
                 ∙ ap (λ (z : List ℕ). blit q z m) (sym (words_cons u s w p n a d h)) ∙ t.words
                 );
           }
+
+-- by the number of the column
+pub place_on : {u : ℕ} {s w : List ℕ} {n a₀ d₀ : ℕ} {m₀ m : List ℕ} (k : ℕ) {a d : ℕ} → Placing u s w n a₀ d₀ m₀ m (8 * k + 8) (6656 + 3 * k + 3) (n - k - 1) a d
+    → Placing u s w n a₀ d₀ m₀ m (8 * (k + 1)) (6656 + 3 * (k + 1)) (n - (k + 1)) a d
+place_on {n = n} k t =
+    let x : 8 * (k + 1) ≡ 8 * k + 8 = omega arith in
+    let y : 6656 + 3 * (k + 1) ≡ 6656 + 3 * k + 3 = omega arith in
+    let z : n - (k + 1) ≡ n - k - 1 = omega arith in
+    rw (x, y, z) t

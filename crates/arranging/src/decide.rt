@@ -2,14 +2,16 @@
 ghost use Rattle.std.specs.Prelude.{◌≤◌, length};
 ghost use Rattle.arranging.specs.Answered.{Arranges, ArrangesRest};
 
+use crate::kept::Kept;
 use crate::layout::lay_out;
 use choices::is_unit;
+use fields::refusal::Refusal;
 use reading::recording::clear;
-use taking::take::{Taken, take_out};
+use taking::take::take_out;
 
 // What is known of a layout besides its words: how many columns there are, how many copies after the history chain, the blocks of that chain, how
 // many copies after the columns' metadata and in all, the attachments, the ends of metadata and file.
-#[derive(Drop)]
+#[derive(Clone, Copy)]
 pub struct Numbers {
     pub columns: u64,
     pub history: u64,
@@ -21,13 +23,6 @@ pub struct Numbers {
     pub file_size: u64,
 }
 
-// The layout's numbers, or a refusal.
-#[derive(Drop)]
-pub enum Arranged {
-    Done(Numbers),
-    Refused { number: u64, place: u64 },
-}
-
 // 26, 3, then the kept columns and their layout.
 fn arrange_rest(
     image: &[u8],
@@ -37,33 +32,26 @@ fn arrange_rest(
     fragments: &mut [u64],
     columns: &mut [u64],
     memo: &mut [u64],
-) -> Arranged
+) -> Result<Numbers, Refusal>
     requires { (8192 ≤ length fragments.old) × (8192 ≤ length columns.old) × (8192 ≤ length memo.old) }
     ensures { ArrangesRest unit image.now numbers.now out
         fragments.old columns.old memo.old result
         fragments.new columns.new memo.new }
 {
-    if is_unit(unit) {
-        if 140737488355328 < (image.len() as u64) {
-            return Arranged::Refused {
-                number: 3,
-                place: 0,
-            };
-        }
-        let taken = take_out(image, numbers, fragments, columns);
-        match taken {
-            Taken::Refused { number, place } => {
-                return Arranged::Refused { number, place };
-            }
-            Taken::Kept { columns: n } => {
-                return lay_out(image, unit, columns, n, memo, out);
-            }
-        }
+    if !is_unit(unit) {
+        return Err(Refusal::Unit);
     }
-    Arranged::Refused {
-        number: 26,
-        place: 0,
+    if 140737488355328 < (image.len() as u64) {
+        return Err(Refusal::ImageSize);
     }
+    let count = take_out(image, numbers, fragments, columns)?;
+    let file = Kept {
+        image,
+        columns,
+        count,
+        unit,
+    };
+    lay_out(&file, memo, out)
 }
 
 // A file is decided into four lent slices of 8,192 words, for a unit, the numbers of the columns that are taken out and an output of so many
@@ -77,42 +65,21 @@ pub fn arrange(
     fragments: &mut [u64],
     columns: &mut [u64],
     memo: &mut [u64],
-) -> Arranged
+) -> Result<Numbers, Refusal>
     ensures { Arranges unit image.now numbers.now out
         source.old fragments.old columns.old memo.old result
         source.new fragments.new columns.new memo.new }
 {
-    if source.len() < 8192 {
-        return Arranged::Refused {
-            number: 1,
-            place: 0,
-        };
+    if source.len() < 8192 || fragments.len() < 8192 || columns.len() < 8192 || memo.len() < 8192 {
+        return Err(Refusal::Arguments);
     }
-    if fragments.len() < 8192 {
-        return Arranged::Refused {
-            number: 1,
-            place: 0,
-        };
-    }
-    if columns.len() < 8192 {
-        return Arranged::Refused {
-            number: 1,
-            place: 0,
-        };
-    }
-    if memo.len() < 8192 {
-        return Arranged::Refused {
-            number: 1,
-            place: 0,
-        };
-    }
-    let found = arrange_rest(image, unit, numbers, out, fragments, columns, memo);
-    if let Arranged::Refused { number, place } = found {
+    let arranged = arrange_rest(image, unit, numbers, out, fragments, columns, memo);
+    if let Err(refusal) = arranged {
         clear(source);
         clear(fragments);
         clear(columns);
         clear(memo);
-        return Arranged::Refused { number, place };
+        return Err(refusal);
     }
-    found
+    arranged
 }

@@ -2,63 +2,55 @@
 ghost use Rattle.std.specs.Prelude.{◌≡◌, [], ◌∷◌, ◌+◌, ◌≤◌, length};
 ghost use Rattle.base.specs.Blit.{blit};
 ghost use Rattle.plan.specs.Layout.{structures_end};
-ghost use Rattle.payload_laws.specs.UnitLaws.{IsUnit};
 ghost use Rattle.thin.specs.TakenOut.{most_file};
-ghost use Rattle.arranging.specs.Sized.{sizes_at, sizes_in};
+ghost use Rattle.arranging.specs.Kept.{sizes_of};
+ghost use Rattle.arranging.specs.Sized.{sizes_at};
 ghost use Rattle.arranging.specs.Spots.{Ends, Spots, AllPlaced};
 
+use crate::kept::Kept;
 use crate::sizes::{blocks_end, blocks_of, signal_end, start_of, structure_at};
 use copier::columns::word;
 
-// Where something ends, or that it ends past 2^59.
-#[derive(Drop)]
-pub enum End {
-    At(u64),
-    Over,
+// Where the data blocks and the SD of a column begin, and where all of it ends.
+#[derive(Clone, Copy)]
+pub struct Spot {
+    pub first: u64,
+    pub sd: u64,
+    pub end: u64,
 }
 
-// Where the data blocks and the SD of a column begin, and where all of it ends; or that it ends past 2^59.
-#[derive(Drop)]
-pub enum Spot {
-    At { first: u64, sd: u64, end: u64 },
-    Over,
-}
-
-// Past the DG, CG, CN and DL of n columns, which begin at a.
-pub(crate) fn structure_end(image: &[u8], columns: &[u64], n: u64, a: u64) -> End
-    requires { (n ≤ 512) × (a ≤ most_file) }
-    ensures { Ends result (structures_end a (sizes_in image.now columns.now 0 n)) }
+// Past the DG, CG, CN and DL of all columns, which begin at a; none past 2^59.
+pub(crate) fn structure_end(file: &Kept, a: u64) -> Option<u64>
+    requires { a ≤ most_file }
+    ensures { Ends result (structures_end a (sizes_of file.now)) }
 {
-    let mut p: u64 = 0;
-    let mut left = n;
     let mut end = a;
-    while 0 < left {
-        end += structure_at(image, columns, p);
+    for k in 0..file.count {
+        end += structure_at(file, 8 * k);
         if 576460752303423488 < end {
-            return End::Over;
+            return None;
         }
-        p += 8;
-        left -= 1;
     }
-    End::At(end)
+    Some(end)
 }
 
-// The data of the column with words from p on, past d.
-fn spot_of(image: &[u8], unit: u64, columns: &[u64], p: u64, d: u64) -> Spot
-    requires { (p ≤ 4096) × (d ≤ most_file) × IsUnit unit }
-    ensures { Spots unit (sizes_at image.now columns.now p) d result }
+// The data of the column with words from p on, past d; none where it ends past 2^59.
+fn spot_of(file: &Kept, p: u64, d: u64) -> Option<Spot>
+    requires { (p ≤ 4096) × (d ≤ most_file) }
+    ensures { Spots file.now.unit (sizes_at file.now.image.now file.now.columns.now p) d result }
 {
-    let first = start_of(unit, blocks_of(image, word(columns, p + 2)), d);
-    let past = blocks_end(image, columns, p, first);
+    let blocks = blocks_of(file.image, word(file.columns, p + 2));
+    let first = start_of(file.unit, blocks, d);
+    let past = blocks_end(file, p, first);
     if 576460752303423488 < past {
-        return Spot::Over;
+        return None;
     }
-    let sd = start_of(unit, word(columns, p + 6), past);
-    let end = signal_end(image, columns, p, sd);
+    let sd = start_of(file.unit, word(file.columns, p + 6), past);
+    let end = signal_end(file, p, sd);
     if 576460752303423488 < end {
-        return Spot::Over;
+        return None;
     }
-    Spot::At { first, sd, end }
+    Some(Spot { first, sd, end })
 }
 
 // The three words of a placed column, from word q on.
@@ -71,40 +63,18 @@ fn put_place(memo: &mut [u64], q: usize, dg: u64, first: u64, sd: u64)
     memo[q + 2] = sd;
 }
 
-// The places of n columns, whose DG begin at a and whose data begin at d, in the words from 6656 on; past their data.
-pub(crate) fn place_columns(
-    image: &[u8],
-    unit: u64,
-    columns: &[u64],
-    n: u64,
-    memo: &mut [u64],
-    a: u64,
-    d: u64,
-) -> End
-    requires { (n ≤ 512) × (8192 ≤ length memo.old) × (d ≤ most_file) × IsUnit unit
-        × (structures_end a (sizes_in image.now columns.now 0 n) ≤ most_file) }
-    ensures { AllPlaced unit image.now columns.now n a d memo.old memo.new result }
+// The places of all columns, whose DG begin at a and whose data begin at d, in the words from 6656 on; past their data, none past 2^59.
+pub(crate) fn place_columns(file: &Kept, memo: &mut [u64], a: u64, d: u64) -> Option<u64>
+    requires { (8192 ≤ length memo.old) × (d ≤ most_file) × (structures_end a (sizes_of file.now) ≤ most_file) }
+    ensures { AllPlaced file.now.unit file.now.image.now file.now.columns.now file.now.count a d memo.old memo.new result }
 {
-    let mut p: u64 = 0;
-    let mut q: usize = 6656;
-    let mut left = n;
     let mut dg = a;
     let mut past = d;
-    while 0 < left {
-        let spot = spot_of(image, unit, columns, p, past);
-        match spot {
-            Spot::Over => {
-                return End::Over;
-            }
-            Spot::At { first, sd, end } => {
-                put_place(memo, q, dg, first, sd);
-                past = end;
-            }
-        }
-        dg += structure_at(image, columns, p);
-        q += 3;
-        p += 8;
-        left -= 1;
+    for k in 0..file.count {
+        let spot = spot_of(file, 8 * k, past)?;
+        put_place(memo, 6656 + 3 * k as usize, dg, spot.first, spot.sd);
+        dg += structure_at(file, 8 * k);
+        past = spot.end;
     }
-    End::At(past)
+    Some(past)
 }

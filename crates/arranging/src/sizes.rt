@@ -6,6 +6,7 @@ ghost use Rattle.plan.specs.Geometry.{align_to};
 ghost use Rattle.payload_laws.specs.UnitLaws.{IsUnit};
 ghost use Rattle.arranging.specs.Sized.{Cut, blocks_in, cg_bytes, structure_at, signal_size_at, sizes_at};
 
+use crate::kept::Kept;
 use blocks::block::link_at;
 use copier::columns::word;
 use copier::memo::aligned;
@@ -17,44 +18,28 @@ use ranges::form::record_bytes;
 pub fn cut(x: u64) -> u64
     ensures { Cut 576460752303423489 x result }
 {
-    if 576460752303423488 < x {
-        return 576460752303423489;
-    }
-    x
+    x.min(576460752303423489)
 }
 
 // The bytes of n things of w bytes each, cut.
 pub fn times(n: u64, w: u64) -> u64
     ensures { Cut 576460752303423489 (n * w) result }
 {
-    if w == 0 {
-        return 0;
-    }
-    if 576460752303423488 / w < n {
-        return 576460752303423489;
-    }
-    n * w
+    n.saturating_mul(w).min(576460752303423489)
 }
 
 // The data blocks of the column whose DG stands at a: none at data link 0, else the links of the DL but the first.
 pub fn blocks_of(image: &[u8], a: u64) -> u64
     ensures { result ≡ blocks_in image.now a }
 {
-    let links = links_of(image, link_at(image, a, 2));
-    if links == 0 {
-        return 0;
-    }
-    links - 1
+    links_of(image, link_at(image, a, 2)).saturating_sub(1)
 }
 
 // Bytes of a CG, by the word of its master.
 pub fn cg_bytes(master: u64) -> u64
     ensures { result ≡ cg_bytes master }
 {
-    if master == 0 {
-        return 104;
-    }
-    112
+    if master == 0 { 104 } else { 112 }
 }
 
 // Bytes of a DL of n blocks, cut: none without blocks.
@@ -64,45 +49,44 @@ fn dl_bytes(n: u64) -> u64
     if n == 0 {
         return 0;
     }
-    if 72057594037927930 < n {
-        return 576460752303423489;
-    }
-    24 + 8 * (n + 1) + 16
+    n.saturating_mul(8)
+        .saturating_add(48)
+        .min(576460752303423489)
 }
 
 // DG, CG, CN and DL of the column with words from p on, cut.
-pub(crate) fn structure_at(image: &[u8], columns: &[u64], p: u64) -> u64
+pub(crate) fn structure_at(file: &Kept, p: u64) -> u64
     requires { p ≤ 4096 }
-    ensures { Cut 1152921504606846976 (structure_at image.now columns.now p) result }
+    ensures { Cut 1152921504606846976 (structure_at file.now.image.now file.now.columns.now p) result }
 {
-    let cg = cg_bytes(word(columns, p + 5));
-    let references = photos_of(true, image, word(columns, p));
-    let dl = dl_bytes(blocks_of(image, word(columns, p + 2)));
+    let cg = cg_bytes(word(file.columns, p + 5));
+    let references = photos_of(true, file.image, word(file.columns, p));
+    let dl = dl_bytes(blocks_of(file.image, word(file.columns, p + 2)));
     64 + cg + (160 + 8 * references) + dl
 }
 
 // Past its data blocks, which begin at d, cut.
-pub(crate) fn blocks_end(image: &[u8], columns: &[u64], p: u64, d: u64) -> u64
+pub(crate) fn blocks_end(file: &Kept, p: u64, d: u64) -> u64
     requires { (p ≤ 4096) × (d ≤ 1152921504606846976) }
-    ensures { Cut 4611686018427387904 (blocks_end (sizes_at image.now columns.now p) d) result }
+    ensures { Cut 4611686018427387904 (blocks_end (sizes_at file.now.image.now file.now.columns.now p) d) result }
 {
-    let heads = times(24, blocks_of(image, word(columns, p + 2)));
+    let heads = times(24, blocks_of(file.image, word(file.columns, p + 2)));
     let payload = times(
-        word(columns, p + 3),
-        record_bytes(image, word(columns, p + 1)),
+        word(file.columns, p + 3),
+        record_bytes(file.image, word(file.columns, p + 1)),
     );
     aligned(d + (heads + payload))
 }
 
 // Past its SD, which begins at d, cut.
-pub(crate) fn signal_end(image: &[u8], columns: &[u64], p: u64, d: u64) -> u64
+pub(crate) fn signal_end(file: &Kept, p: u64, d: u64) -> u64
     requires { (p ≤ 4096) × (d ≤ 1152921504606846976) }
-    ensures { Cut 4611686018427387904 (signal_end (signal_size_at image.now columns.now p) d) result }
+    ensures { Cut 4611686018427387904 (signal_end (signal_size_at file.now.image.now file.now.columns.now p) d) result }
 {
-    if word(columns, p + 6) == 0 {
+    if word(file.columns, p + 6) == 0 {
         return d;
     }
-    let bytes = cut(bytes_at(image, link_at(image, word(columns, p), 5)));
+    let bytes = cut(bytes_at(file.image, link_at(file.image, word(file.columns, p), 5)));
     aligned(d + (24 + bytes))
 }
 
@@ -112,7 +96,8 @@ pub(crate) fn start_of(unit: u64, any: u64, d: u64) -> u64
     ensures { result ≡ if_eq any 0 d (align_to unit d) }
 {
     if any == 0 {
-        return d;
+        d
+    } else {
+        (d + (unit - 1)) / unit * unit
     }
-    (d + (unit - 1)) / unit * unit
 }

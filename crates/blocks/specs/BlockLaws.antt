@@ -6,12 +6,12 @@ use Rattle.std.proofs.Math.Nat.{min-eq_left, min-eq_right, min-le_right}
 use native.Mathlib.Omega.{arith}
 use Rattle.std.proofs.Math.ListN.{length}
 use Rattle.base.specs.ChoiceLaws.{lt_back, le-first}
-use Rattle.base.specs.Checked.{refused, Verdict, fine}
+use Rattle.base.specs.Checked.{Verdict, fine}
 use Rattle.base.specs.Field.{le_at, Field}
 use Rattle.base.specs.FieldLaws.{le-past}
-use Rattle.fields.specs.declared.Check.{Check}
-use Rattle.fields.specs.declared.Check.TheVariants.{Fine, Refused}
-use Rattle.fields.specs.Answer.{verdict_of}
+use Rattle.std.specs.Prelude.{Result, Ok, Err, ⊤}
+use Rattle.fields.specs.declared.refusal.Refusal.{Refusal}
+use Rattle.fields.specs.Answer.{verdict_of, refused_by}
 use Rattle.mdf.specs.Block.{Wanted, size_at, links_at, link_at, data_at, header_in, length_in, most_bytes, whole_at, wanted_at, block_at}
 use Rattle.blocks.specs.AnswerLaws.{refused≢ok, so_fine, so_refused, then_fine}
 
@@ -64,20 +64,20 @@ module _ (s : List ℕ) (a : ℕ) where
 
 -- ---- a check after a check: a refusal of the first is the answer, else the second's answer is
 module _ (s : List ℕ) (a : ℕ) where
-  pub whole_refused : {o : Check} {n p : ℕ} → verdict_of o ≡ header_in s a → o ≡ Refused n p → refused n p ≡ whole_at s a
+  pub whole_refused : {o : Result ⊤ Refusal} {x : Refusal} → verdict_of o ≡ header_in s a → o ≡ Err x → refused_by x ≡ whole_at s a
   unfolding whole_at
   whole_refused e q = rw (so_refused e q)
 
-  pub whole_checked : {o : Check} {v : Verdict} → verdict_of o ≡ header_in s a → o ≡ Fine → v ≡ length_in most_bytes s a → v ≡ whole_at s a
+  pub whole_checked : {u : ⊤} {o : Result ⊤ Refusal} {v : Verdict} → verdict_of o ≡ header_in s a → o ≡ Ok u → v ≡ length_in most_bytes s a → v ≡ whole_at s a
   unfolding whole_at
   whole_checked e q k = rw (so_fine e q) k
 
 module _ (w : Wanted) (s : List ℕ) (a : ℕ) where
-  pub block_refused : {o : Check} {n p : ℕ} → verdict_of o ≡ whole_at s a → o ≡ Refused n p → refused n p ≡ block_at w s a
+  pub block_refused : {o : Result ⊤ Refusal} {x : Refusal} → verdict_of o ≡ whole_at s a → o ≡ Err x → refused_by x ≡ block_at w s a
   unfolding block_at
   block_refused e q = rw (so_refused e q)
 
-  pub block_checked : {o : Check} {v : Verdict} → verdict_of o ≡ whole_at s a → o ≡ Fine → v ≡ wanted_at w s a → v ≡ block_at w s a
+  pub block_checked : {u : ⊤} {o : Result ⊤ Refusal} {v : Verdict} → verdict_of o ≡ whole_at s a → o ≡ Ok u → v ≡ wanted_at w s a → v ≡ block_at w s a
   unfolding block_at
   block_checked e q k = rw (so_fine e q) k
 

@@ -1,11 +1,12 @@
 // A block's header, links and data, and the checks that every block passes.
-ghost use Rattle.std.specs.Prelude.{◌≡◌, ◌+◌};
+ghost use Rattle.std.specs.Prelude.{◌≡◌, ◌+◌, ◌≤◌};
 ghost use Rattle.base.specs.Field.{Field};
 ghost use Rattle.fields.specs.Answer.{verdict_of};
 ghost use Rattle.blocks.specs.Data.{Begins};
 ghost use Rattle.mdf.specs.Block.{kind_at, size_at, links_at, link_at, first_link, data_at, header_in, length_in, whole_at, wanted_at, block_at};
 
-use fields::{Check, u8_at, u16_at, u32_at, u64_at};
+use fields::field_at;
+use fields::refusal::Refusal;
 
 pub const HD: u64 = 1145578275;
 
@@ -33,7 +34,7 @@ pub const MD: u64 = 1145905955;
 pub fn kind_at(image: &[u8], a: u64) -> u64
     ensures { result ≡ kind_at image.now a }
 {
-    u32_at(image, a)
+    field_at::<4>(image, a)
 }
 
 // The length of the block at a.
@@ -44,7 +45,7 @@ pub fn size_at(image: &[u8], a: u64) -> u64
     if n < a {
         return 0;
     }
-    u64_at(image, a + 8)
+    field_at::<8>(image, a + 8)
 }
 
 // The number of links of the block at a.
@@ -55,7 +56,7 @@ pub fn links_at(image: &[u8], a: u64) -> u64
     if n < a {
         return 0;
     }
-    u64_at(image, a + 16)
+    field_at::<8>(image, a + 16)
 }
 
 // Link number i, from 0, of the block at a.
@@ -69,7 +70,7 @@ pub fn link_at(image: &[u8], a: u64, i: u64) -> u64
     if (n - a) / 8 < i {
         return 0;
     }
-    u64_at(image, a + 24 + 8 * i)
+    field_at::<8>(image, a + 24 + 8 * i)
 }
 
 // The first link of the block at a, 0 where it has none.
@@ -101,164 +102,101 @@ pub fn data_at(image: &[u8], a: u64) -> u64
     at
 }
 
-// The 8-bit, 16-bit, 32-bit and 64-bit number at byte i of the data of the block at a.
-pub fn data_u8(image: &[u8], a: u64, i: u64) -> u64
-    ensures { Field 1 image.now (data_at image.now a + i) result }
+// The number of the N bytes at byte i of the data of the block at a.
+pub fn data_field<const N: usize>(image: &[u8], a: u64, i: u64) -> u64
+    requires { N ≤ 8 }
+    ensures { Field N image.now (data_at image.now a + i) result }
 {
     let n = image.len() as u64;
     if n < i {
         return 0;
     }
-    u8_at(image, data_at(image, a) + i)
-}
-
-pub fn data_u16(image: &[u8], a: u64, i: u64) -> u64
-    ensures { Field 2 image.now (data_at image.now a + i) result }
-{
-    let n = image.len() as u64;
-    if n < i {
-        return 0;
-    }
-    u16_at(image, data_at(image, a) + i)
-}
-
-pub fn data_u32(image: &[u8], a: u64, i: u64) -> u64
-    ensures { Field 4 image.now (data_at image.now a + i) result }
-{
-    let n = image.len() as u64;
-    if n < i {
-        return 0;
-    }
-    u32_at(image, data_at(image, a) + i)
-}
-
-pub fn data_u64(image: &[u8], a: u64, i: u64) -> u64
-    ensures { Field 8 image.now (data_at image.now a + i) result }
-{
-    let n = image.len() as u64;
-    if n < i {
-        return 0;
-    }
-    u64_at(image, data_at(image, a) + i)
+    field_at::<N>(image, data_at(image, a) + i)
 }
 
 // 4: the header runs past the image.
-pub fn header_in(image: &[u8], a: u64) -> Check
+pub fn header_in(image: &[u8], a: u64) -> Result<(), Refusal>
     ensures { verdict_of result ≡ header_in image.now a }
 {
     let n = image.len() as u64;
     if n < a {
-        return Check::Refused {
-            number: 4,
-            place: a,
-        };
+        return Err(Refusal::OutOfImage(a));
     }
     if n - a < 24 {
-        return Check::Refused {
-            number: 4,
-            place: a,
-        };
+        return Err(Refusal::OutOfImage(a));
     }
-    Check::Fine
+    Ok(())
 }
 
 // 8, 9, 4: the links within the block, its length, its range.
-pub fn length_in(most: u64, image: &[u8], a: u64) -> Check
+pub fn length_in(most: u64, image: &[u8], a: u64) -> Result<(), Refusal>
     ensures { verdict_of result ≡ length_in most image.now a }
 {
     let size = size_at(image, a);
     let links = links_at(image, a);
     if size < 24 {
-        return Check::Refused {
-            number: 8,
-            place: a,
-        };
+        return Err(Refusal::LinksPastBlock(a));
     }
     if (size - 24) / 8 < links {
-        return Check::Refused {
-            number: 8,
-            place: a,
-        };
+        return Err(Refusal::LinksPastBlock(a));
     }
     if most < size {
-        return Check::Refused {
-            number: 9,
-            place: a,
-        };
+        return Err(Refusal::BlockTooLong(a));
     }
     let n = image.len() as u64;
     if n < a {
-        return Check::Refused {
-            number: 4,
-            place: a,
-        };
+        return Err(Refusal::OutOfImage(a));
     }
     if n - a < size {
-        return Check::Refused {
-            number: 4,
-            place: a,
-        };
+        return Err(Refusal::OutOfImage(a));
     }
-    Check::Fine
+    Ok(())
 }
 
 // Header range, 8, 9, range: a block that is read whole.
-pub fn whole_at(image: &[u8], a: u64) -> Check
+pub fn whole_at(image: &[u8], a: u64) -> Result<(), Refusal>
     ensures { verdict_of result ≡ whole_at image.now a }
 {
-    let header = header_in(image, a);
-    match header {
-        Check::Refused { number, place } => Check::Refused { number, place },
-        Check::Fine => length_in(268435456, image, a),
-    }
+    header_in(image, a)?;
+    length_in(268435456, image, a)
 }
 
-// 10: the kind wanted, with at least so many links and bytes of data.
-pub fn wanted_at(kind: u64, links: u64, bytes: u64, image: &[u8], a: u64) -> Check
-    ensures { verdict_of result ≡ wanted_at (record { kind = kind; links = links; bytes = bytes }) image.now a }
+// What a block has to be: its kind, with at least so many links and bytes of data.
+#[derive(Clone, Copy)]
+pub struct Wanted {
+    pub kind: u64,
+    pub links: u64,
+    pub bytes: u64,
+}
+
+// 10: it is not what is wanted.
+pub fn wanted_at(want: Wanted, image: &[u8], a: u64) -> Result<(), Refusal>
+    ensures { verdict_of result ≡ wanted_at (record { kind = want.kind; links = want.links; bytes = want.bytes }) image.now a }
 {
-    if kind_at(image, a) != kind {
-        return Check::Refused {
-            number: 10,
-            place: a,
-        };
+    if kind_at(image, a) != want.kind {
+        return Err(Refusal::NotAsWanted(a));
     }
     let has = links_at(image, a);
-    if has < links {
-        return Check::Refused {
-            number: 10,
-            place: a,
-        };
+    if has < want.links {
+        return Err(Refusal::NotAsWanted(a));
     }
     let size = size_at(image, a);
     if size < 24 {
-        return Check::Refused {
-            number: 10,
-            place: a,
-        };
+        return Err(Refusal::NotAsWanted(a));
     }
     if (size - 24) / 8 < has {
-        return Check::Refused {
-            number: 10,
-            place: a,
-        };
+        return Err(Refusal::NotAsWanted(a));
     }
-    if size - 24 - 8 * has < bytes {
-        return Check::Refused {
-            number: 10,
-            place: a,
-        };
+    if size - 24 - 8 * has < want.bytes {
+        return Err(Refusal::NotAsWanted(a));
     }
-    Check::Fine
+    Ok(())
 }
 
 // Header range, 8, 9, range, 10.
-pub fn block_at(kind: u64, links: u64, bytes: u64, image: &[u8], a: u64) -> Check
-    ensures { verdict_of result ≡ block_at (record { kind = kind; links = links; bytes = bytes }) image.now a }
+pub fn block_at(want: Wanted, image: &[u8], a: u64) -> Result<(), Refusal>
+    ensures { verdict_of result ≡ block_at (record { kind = want.kind; links = want.links; bytes = want.bytes }) image.now a }
 {
-    let whole = whole_at(image, a);
-    match whole {
-        Check::Refused { number, place } => Check::Refused { number, place },
-        Check::Fine => wanted_at(kind, links, bytes, image, a),
-    }
+    whole_at(image, a)?;
+    wanted_at(want, image, a)
 }

@@ -158,19 +158,6 @@ widths_fit room w n h =
 pub widths_over : (room w n : ℕ) → 0 < w → room / w < n → room < n * w
 widths_over room w n z h = (div-lt_iff_lt-mul {k = w} {x = room} {y = n} z).0 h
 
-pub room_test : (size at n w : ℕ) → at ≤ size → 0 < w
-    → (leb n ((size - at) / w) ≡ true → at + n * w ≤ size) × (leb n ((size - at) / w) ≡ false → at + n * w ≤ size → ⊥)
-room_test size at n w h z = (
-  λ e. omega (arith, widths_fit (size - at) w n (leb-true n ((size - at) / w) e)),
-  λ e l. let a = widths_over (size - at) w n z (leb-false n ((size - at) / w) e) in omega arith,
-)
-
-pub room-past : (size at n w : ℕ) → size < at → (false ≡ true → at + n * w ≤ size) × (false ≡ false → at + n * w ≤ size → ⊥)
-room-past size at n w h = (λ e. absurd (false≢true e), λ e l. omega arith)
-
-pub room-none : (size at n w : ℕ) → at ≤ size → w ≡ 0 → (true ≡ true → at + n * w ≤ size) × (true ≡ false → at + n * w ≤ size → ⊥)
-room-none size at n w h z = (λ e. let m : n * w ≡ 0 = rw z (mul-zero n) in omega arith, λ e. absurd (false≢true (sym e)))
-
 -- ---- the cells of count records were put, up to an index
 pub record Running (s ws : List ℕ) (h : Shape) (p : List ℕ) (size from to n count index : ℕ) (k₀ k : Spot) (out₀ out : List ℕ) : Type 0 where
   pub few : count ≤ n

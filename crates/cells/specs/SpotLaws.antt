@@ -1,6 +1,6 @@
 -- Laws of records at equal distances from a place in joined data on.
-use Rattle.std.specs.Prelude.{ℕ, zero, suc, ◌+◌, ◌*◌, ◌-◌, ◌/◌, ◌≤◌, ◌<◌, true, false, List, ◌∷◌, ◌++◌, ◌≡◌, refl, length, take, drop}
-use Rattle.std.proofs.lemmas.Bool.{false≢true}
+use Rattle.std.specs.Prelude.{ℕ, zero, suc, ◌+◌, ◌*◌, ◌-◌, ◌/◌, ◌≤◌, ◌<◌, Bool, true, false, leb, List, ◌∷◌, ◌++◌, ◌≡◌, refl, length, take, drop}
+use Rattle.std.proofs.lemmas.Bool.{false≢true, leb-true, leb-false}
 use Rattle.std.proofs.Common.{append-nil, sym, ap, ◌∙◌, zero-mul, mul-zero, suc-mul, add-mul, mul-le-mul_right, div-mul-le_self, div-lt_iff_lt-mul, sub-one, arith, length-append, drop-drop}
 use Rattle.base.specs.Blit.{part, blit}
 use Rattle.base.specs.BlitLaws.{blit-append}
@@ -57,6 +57,13 @@ product_below n w most l =
 
 pub product_over : (n w most : ℕ) → 0 < w → most / w < n → n * w ≤ most → ⊥
 product_over n w most z l h = omega (arith, (div-lt_iff_lt-mul {k = w} {x = most} {y = n} z).0 l)
+
+pub product_by : (n w most : ℕ) → 0 < w → (leb n (most / w) ≡ true → n * w ≤ most) × (n * w ≤ most → leb n (most / w) ≡ true)
+product_by n w most z = (λ e. product_below n w most (leb-true n (most / w) e), go (leb n (most / w)) refl)
+  where
+    go : (b : Bool) → leb n (most / w) ≡ b → n * w ≤ most → leb n (most / w) ≡ true
+    go true e h = e
+    go false e h = absurd (product_over n w most z (leb-false n (most / w) e) h)
 
 mul_apart : {n : ℕ} (m l w : ℕ) → n ≡ m + l → n * w ≡ m * w + l * w
 mul_apart m l w e = ap (λ (x : ℕ). x * w) e ∙ add-mul m l w

@@ -58,16 +58,7 @@ pub fn shape_of(image: &[u8], g: u64, c: u64) -> Shape
 pub(crate) fn is_sound(h: Shape) -> bool
     ensures { (result ≡ true → Sound h) × (result ≡ false → Sound h → ⊥) }
 {
-    if h.length < h.first {
-        return false;
-    }
-    if h.length - h.first < h.bytes {
-        return false;
-    }
-    if 8589934591 < h.length {
-        return false;
-    }
-    if 7 < h.bit {
+    if h.length < h.first || h.length - h.first < h.bytes || 8589934591 < h.length || 7 < h.bit {
         return false;
     }
     if h.keep {

@@ -8,7 +8,7 @@ ghost use Rattle.cells.specs.Spot.{Readable};
 ghost use Rattle.cells.specs.Gathered.{Near, Some, Gathers, FewOrAll};
 
 use crate::cell::{Shape, cell_here, cell_joined, is_sound};
-use joined::cursor::Cursor;
+use crate::run::{has_room, lies_here};
 use joined::spot::{Spot, reach};
 
 // The place of the last run, and how many cells were put.
@@ -46,8 +46,7 @@ fn gather(
 {
     let width = h.width as usize;
     let mut index = to;
-    let mut i: u64 = 0;
-    while i < v.n {
+    for i in 0..v.n {
         let o = words[v.from + i as usize];
         if o < v.base {
             return i;
@@ -58,7 +57,6 @@ fn gather(
         }
         cell_here(out, index, image, v.position + q as usize, h, w, keep);
         index += width;
-        i += 1;
     }
     v.n
 }
@@ -136,19 +134,6 @@ fn put_near(out: &mut [u8], to: usize, image: &[u8], words: &[u64], v: Window, h
     usual(out, to, image, words, v, h, false)
 }
 
-// Whether a record at the cursor lies whole in its fragment, and that in size bytes.
-fn lies(size: u64, c: Cursor, bytes: u64) -> bool
-    ensures { result ≡ true → (bytes ≤ c.left) × (c.position + c.left ≤ size) }
-{
-    if c.left < bytes {
-        return false;
-    }
-    if size < c.left {
-        return false;
-    }
-    c.position <= size - c.left
-}
-
 // The cells of some of n records, the first at the spot: of those that lie whole in its fragment, else of the first. How many they are.
 fn put_some(
     out: &mut [u8],
@@ -166,7 +151,7 @@ fn put_some(
     ensures { Some image.now fragments.now h words.now k from n to result out.old out.new }
 {
     let c = k.cursor;
-    if lies(image.len() as u64, c, h.length) {
+    if lies_here(image, c, h.length) {
         let v = Window {
             from,
             n,
@@ -222,19 +207,6 @@ fn put_words(
     Gathered { spot: k, count }
 }
 
-// Whether n of w each have room from an index on, in size.
-fn has_room(size: usize, at: usize, n: u64, w: u64) -> bool
-    ensures { (result ≡ true → at + n * w ≤ size) × (result ≡ false → at + n * w ≤ size → ⊥) }
-{
-    if size < at {
-        return false;
-    }
-    if w == 0 {
-        return true;
-    }
-    n <= (size - at) as u64 / w
-}
-
 // The cells of n records whose offsets in the joined data, of size bytes, are words from index from on, at index to: of all, or up to the first
 // that doesn't lie in the data. None, where the words aren't there, or out has no room for all cells.
 pub fn put_gathered(
@@ -254,13 +226,7 @@ pub fn put_gathered(
         → from + n ≤ length words.now → to + n * h.width ≤ length out.old
         → FewOrAll image.now fragments.now h words.now size from n to result out.old out.new) }
 {
-    if !is_sound(h) {
-        return Gathered { spot, count: 0 };
-    }
-    if !has_room(words.len(), from, n, 1) {
-        return Gathered { spot, count: 0 };
-    }
-    if !has_room(out.len(), to, n, h.width) {
+    if !is_sound(h) || !has_room(words.len(), from, n, 1) || !has_room(out.len(), to, n, h.width) {
         return Gathered { spot, count: 0 };
     }
     put_words(out, to, image, fragments, h, size, words, from, n, spot)

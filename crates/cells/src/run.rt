@@ -1,5 +1,5 @@
 // The cells of records at equal distances in joined data.
-ghost use Rattle.std.specs.Prelude.{◌≡◌, true, ◌+◌, ◌*◌, ◌≤◌, ◌<◌, length};
+ghost use Rattle.std.specs.Prelude.{◌≡◌, true, false, ◌+◌, ◌*◌, ◌≤◌, ◌<◌, length};
 ghost use Rattle.base.specs.Blit.{blit};
 ghost use Rattle.base.specs.Checked.{fine};
 ghost use Rattle.mdf.specs.Records.{ranges_in, joined, size_of};
@@ -18,7 +18,7 @@ use joined::cursor::Cursor;
 use joined::spot::{Spot, reach};
 
 // How many of n records begin at most so many bytes past the first one's start.
-fn run_of(room: u64, stride: u64, n: u64) -> u64
+pub fn run_of(room: u64, stride: u64, n: u64) -> u64
     requires { 0 < n }
     ensures { RunOf room stride n result }
 {
@@ -33,20 +33,14 @@ fn run_of(room: u64, stride: u64, n: u64) -> u64
 }
 
 // Whether so many bytes lie at the cursor in its fragment, and that in the image.
-fn lies_here(image: &[u8], k: Cursor, bytes: u64) -> bool
+pub fn lies_here(image: &[u8], k: Cursor, bytes: u64) -> bool
     ensures { result ≡ true → (bytes ≤ k.left) × (k.position + k.left ≤ length image.now) }
 {
     let end = image.len() as u64;
-    if k.left < bytes {
+    if k.left < bytes || end < k.left {
         return false;
     }
-    if end < k.position {
-        return false;
-    }
-    if end - k.position < k.left {
-        return false;
-    }
-    true
+    k.position <= end - k.left
 }
 
 // The cells of some of n records from the cursor on: of those that lie whole in its fragment, else of the first. How many they are.
@@ -83,29 +77,27 @@ pub fn product_within(n: u64, w: u64, most: u64) -> bool
     if w == 0 {
         return true;
     }
-    if most / w < n {
+    n <= most / w
+}
+
+// Whether n of w each have room from an index on, in size.
+pub(crate) fn has_room(size: usize, at: usize, n: u64, w: u64) -> bool
+    ensures { (result ≡ true → at + n * w ≤ size) × (result ≡ false → at + n * w ≤ size → ⊥) }
+{
+    if size < at {
         return false;
     }
-    true
+    product_within(n, w, (size - at) as u64)
 }
 
 // Whether the numbers of n records agree: those of the shape, the room for their cells in size bytes, and the last one's offset.
 fn is_roomy(h: Shape, size: usize, to: usize, first: u64, stride: u64, n: u64) -> bool
     ensures { (result ≡ true → Roomy h size to first stride n) × (Roomy h size to first stride n → result ≡ true) }
 {
-    if n == 0 {
+    if n == 0 || !is_sound(h) || !has_room(size, to, n, h.width) {
         return false;
     }
-    if size < to {
-        return false;
-    }
-    if !is_sound(h) {
-        return false;
-    }
-    if !product_within(n, h.width, (size - to) as u64) {
-        return false;
-    }
-    product_within(n - 1, stride, 18446744073709551615 - first)
+    product_within(n - 1, stride, u64::MAX - first)
 }
 
 // The cells of n records, the first at an offset of the joined data, at index to; the place of the last run.

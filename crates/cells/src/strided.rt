@@ -29,12 +29,10 @@ fn strided(
     let width = h.width as usize;
     let mut at = from;
     let mut index = to;
-    let mut left = n - 1;
-    while 0 < left {
+    for done in 1..n {
         at += stride;
         index += width;
         cell_here(out, index, image, at, h, w, keep);
-        left -= 1;
     }
 }
 
@@ -140,7 +138,7 @@ fn put_kept_other(
     strided(out, to, image, from, stride, n, h, h.bytes as usize, true);
 }
 
-// The same with a kept bit.
+// The same with a kept bit: apart, so that no loop asks for it at each record.
 fn put_kept(out: &mut [u8], to: usize, image: &[u8], from: usize, stride: usize, n: u64, h: Shape)
     requires { Sound h × Lying (length image.now) h.length from stride n × (to + n * h.width ≤ length out.old)
         × (h.keep ≡ true) }

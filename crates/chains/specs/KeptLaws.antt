@@ -1,13 +1,14 @@
 -- The laws of fragments kept in words.
-use Rattle.std.specs.Prelude.{ℕ, ◌+◌, ◌*◌, ◌≡◌, refl, List, [], ◌∷◌, ◌++◌, length}
+use Rattle.std.specs.Prelude.{ℕ, ◌+◌, ◌*◌, ◌≡◌, refl, List, [], ◌∷◌, ◌++◌, length, Result, Ok, Err}
 use Rattle.std.proofs.Common.{append_assoc, add_assoc, arith, length-append}
 use Rattle.base.specs.Choice.{if_eq}
 use Rattle.base.specs.Blit.{blit}
 use Rattle.base.specs.BlitLaws.{length-blit, blit-append}
 use Rattle.mdf.specs.Chain.{Kind, dt, dv, Fragment, Found, found, stopped}
 use Rattle.work_words.specs.Words.{kind_word, kind_of, fragment_words, fragments_of}
-use Rattle.chains.specs.declared.chain.Chained.{Chained}
-use Rattle.chains.specs.Kept.{kept, given, laid}
+use Rattle.fields.specs.declared.refusal.Refusal.{Refusal}
+use Rattle.chains.specs.declared.chain.Stopped.{Stopped}
+use Rattle.chains.specs.Kept.{kept, counted, given, laid}
 
 pub length-words : (fs : List Fragment) → length (fragment_words fs) ≡ 3 * length fs
 unfolding fragment_words
@@ -59,7 +60,24 @@ laid-onto fs (found gs) n w = rw (length-append, ← add_assoc, kept_append)
 laid-onto fs (stopped x p gs) n w = rw (length-append, ← add_assoc, kept_append)
 
 -- the words keep their length
-pub laid_same : (g : Found) (n : ℕ) (w : List ℕ) {r : Chained} {w' : List ℕ} → given r w' ≡ laid g n w → length w' ≡ length w
+pub laid_same : (g : Found) (n : ℕ) (w : List ℕ) (r : Result ℕ Stopped) (w' : List ℕ) → given r w' ≡ laid g n w → length w' ≡ length w
 unfolding laid
-laid_same (found fs) n w {w' = w'} e = let v : w' ≡ kept n fs w = cc in rw (v, length-kept)
-laid_same (stopped x p fs) n w {w' = w'} e = let v : w' ≡ kept n fs w = cc in rw (v, length-kept)
+laid_same (found fs) n w (Ok m) w' e = let v : w' ≡ kept n fs w = cc in rw (v, length-kept)
+laid_same (found fs) n w (Err x) w' e = absurd (let z : ◌≡◌ {A = ℕ} 0 1 = cc in omega arith)
+laid_same (stopped x p fs) n w (Ok m) w' e = absurd (let z : ◌≡◌ {A = ℕ} 0 1 = cc in omega arith)
+laid_same (stopped x p fs) n w (Err y) w' e = let v : w' ≡ kept n fs w = cc in rw (v, length-kept)
+
+-- what a refusal with a count says of the one without
+pub record Counted {A : Type 0} (n : ℕ) (o : Result A Refusal) (r : Result A Stopped) : Type 0 where
+  pub ok : {x : A} → r ≡ Ok x → o ≡ Ok x
+  pub refusal : {x : Stopped} → r ≡ Err x → o ≡ Err x.refusal
+  pub count : {x : Stopped} → r ≡ Err x → x.count ≡ n
+
+pub counted_by : {A : Type 0} (n : ℕ) (o : Result A Refusal) {r : Result A Stopped} → r ≡ counted n o → Counted n o r
+counted_by n (Ok y) e = record { ok = λ q. cc; refusal = λ q. absurd (let z : ◌≡◌ {A = ℕ} 0 1 = cc in omega arith); count = λ q. absurd (let z : ◌≡◌ {A = ℕ} 0 1 = cc in omega arith) }
+counted_by n (Err y) e =
+    record {
+      ok = λ q. absurd (let z : ◌≡◌ {A = ℕ} 0 1 = cc in omega arith);
+      refusal = λ {x} q. let v : x ≡ record { refusal = y; count = n } = cc in rw v;
+      count = λ {x} q. let v : x ≡ record { refusal = y; count = n } = cc in rw v;
+    }

@@ -1,17 +1,17 @@
 -- What stands at an address of a data chain, and the meaning of the code's answers.
-use Rattle.std.specs.Prelude.{ℕ, List, Bool, true, false}
+use Rattle.std.specs.Prelude.{ℕ, List, Bool, true, false, Option, Some, None, Result, Ok, Err}
 use Rattle.base.specs.Choice.{if_eq}
 use Rattle.base.specs.Checked.{Checked, ok, refused, and_then}
 use Rattle.mdf.specs.Block.{kind_dl, kind_hl, kind_at, header_in}
 use Rattle.mdf.specs.Chain.{dt, dv, fragment, Chain, records, signal, leaf, none, leaf_of, Limits, limits, file_limits}
 use Rattle.mdf.specs.Chain as mdf
+use Rattle.fields.specs.declared.refusal.Refusal.{Refusal}
+use Rattle.fields.specs.Answer.{number_of, place_of}
 use Rattle.chains.specs.declared.node.Kind as kinds
 use Rattle.chains.specs.declared.node.Kind.TheVariants.{Dt, Dv}
 use Rattle.chains.specs.declared.node.SrcBlock.{SrcBlock}
-use Rattle.chains.specs.declared.node.Leaf as leaves
-use Rattle.chains.specs.declared.node.Leaf.TheVariants.{Of, Other}
 use Rattle.chains.specs.declared.node.Node.{Node}
-use Rattle.chains.specs.declared.node.Node.TheVariants.{Refused, Fragment, Dl, Hl}
+use Rattle.chains.specs.declared.node.Node.TheVariants.{Fragment, Dl, Hl}
 
 -- false: a DG's data; true: a channel's signal data
 abbrev pub which : Bool → Chain
@@ -31,9 +31,9 @@ kind_of Dv = dv
 abbrev pub fragment_of : SrcBlock → mdf.Fragment
 fragment_of b = record { offset = b.offset; size = b.size; kind = kind_of b.kind }
 
-abbrev pub leaf_from : leaves.Leaf → mdf.Leaf
-leaf_from (Of k) = leaf (kind_of k)
-leaf_from Other = none
+abbrev pub leaf_from : Option kinds.Kind → mdf.Leaf
+leaf_from (Some k) = leaf (kind_of k)
+leaf_from None = none
 
 -- a fragment, a DL or an HL
 pub data Standing : Type 0 where
@@ -54,8 +54,8 @@ node_at c s a =
     (λ k. ok (data_block (fragment s a k))))
 
 -- the code's answer
-abbrev pub node_of : Node → Checked Standing
-node_of (Refused number place) = refused number place
-node_of (Fragment b) = ok (data_block (fragment_of b))
-node_of Dl = ok data_list
-node_of Hl = ok list-header
+abbrev pub node_of : Result Node Refusal → Checked Standing
+node_of (Ok (Fragment b)) = ok (data_block (fragment_of b))
+node_of (Ok Dl) = ok data_list
+node_of (Ok Hl) = ok list-header
+node_of (Err e) = refused (number_of e) (place_of e)

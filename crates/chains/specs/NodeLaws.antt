@@ -1,20 +1,17 @@
 -- The laws of what stands at an address of a data chain.
-use Rattle.std.specs.Prelude.{ℕ, suc, ◌+◌, ◌-◌, ◌≡◌, refl, Bool, true, false, List, [], ◌∷◌, length, eqb}
+use Rattle.std.specs.Prelude.{ℕ, suc, ◌+◌, ◌-◌, ◌≡◌, refl, Bool, true, false, List, [], ◌∷◌, length, eqb, Option, Some, None, Result, Ok, Err, ⊤}
 use Rattle.std.proofs.Math.Path.{ap}
 use Rattle.std.proofs.Common.{◌∙◌}
 use Rattle.base.specs.Choice.{pick, if_eq}
 use Rattle.base.specs.ChoiceLaws.{eq_yes, eq_no}
 use Rattle.base.specs.Checked.{Checked, ok, refused, and_then, Verdict}
 use Rattle.mdf.specs.Block.{kind_dt, kind_dv, kind_dl, kind_hl, kind_sd, kind_at, size_at, links_at, first_link, header_in}
-use Rattle.mdf.specs.Chain.{dt, dv, Kind, Fragment, fragment, Chain, Leaf, leaf, none, leaf_of, Found, found, stopped}
+use Rattle.mdf.specs.Chain.{dt, dv, Fragment, fragment, Chain, Leaf, leaf, none, leaf_of, Found, found, stopped}
 use Rattle.mdf.specs.Chain.{on_found, on_passed, on_leaf, Limits, added, fragment_at, listed, is_in, list_in, chain_from}
-use Rattle.fields.specs.declared.Check.{Check}
-use Rattle.fields.specs.declared.Check.TheVariants.{Fine, Refused}
-use Rattle.fields.specs.Answer.{verdict_of}
+use Rattle.fields.specs.declared.refusal.Refusal.{Refusal}
+use Rattle.fields.specs.Answer.{number_of, place_of, verdict_of}
 use Rattle.blocks.specs.AnswerLaws.{so_fine, so_refused}
 use Rattle.chains.specs.declared.node.Kind as kinds
-use Rattle.chains.specs.declared.node.Leaf as leaves
-use Rattle.chains.specs.declared.node.Leaf.TheVariants.{Of, Other}
 use Rattle.chains.specs.Node.{Standing, data_block, data_list, list-header, which, kind_of, fragment_of, leaf_from, by_leaf, node_at}
 use Rattle.chains.specs.Turn.{list_at, Turn, over, next, on_read, on_listed, list_turn, header_turn, on_standing, turn_at}
 
@@ -46,17 +43,17 @@ pub fragment-size : (s : List ℕ) (a : ℕ) (d : kinds.Kind) {n : ℕ} → n �
 fragment-size s a d e = rw e
 
 -- ---- the node: o is the header's check, k the block's kind, x the kind of fragment
-module _ (c : Chain) (s : List ℕ) (a : ℕ) {o : Check} (e : verdict_of o ≡ header_in s a) where
-  pub node_refused : {x p : ℕ} → o ≡ Refused x p → refused x p ≡ node_at c s a
+module _ (c : Chain) (s : List ℕ) (a : ℕ) {o : Result ⊤ Refusal} (e : verdict_of o ≡ header_in s a) where
+  pub node_refused : {x : Refusal} → o ≡ Err x → refused (number_of x) (place_of x) ≡ node_at c s a
   unfolding node_at
   node_refused q = rw (so_refused e q)
 
-  module _ (q : o ≡ Fine) {k : ℕ} (g : k ≡ kind_at s a) {x : leaves.Leaf} (f : leaf_from x ≡ leaf_of c k) where
-    pub node_block : {d : kinds.Kind} {r : Fragment} → x ≡ Of d → r ≡ fragment s a (kind_of d) → ok (data_block r) ≡ node_at c s a
+  module _ {u : ⊤} (q : o ≡ Ok u) {k : ℕ} (g : k ≡ kind_at s a) {x : Option kinds.Kind} (f : leaf_from x ≡ leaf_of c k) where
+    pub node_block : {d : kinds.Kind} {r : Fragment} → x ≡ Some d → r ≡ fragment s a (kind_of d) → ok (data_block r) ≡ node_at c s a
     unfolding node_at
     node_block h i = rw (so_fine e q, ← g, ← f, h, i)
 
-    module _ (h : x ≡ Other) where
+    module _ (h : x ≡ None) where
       pub node_dl : k ≡ kind_dl → ok data_list ≡ node_at c s a
       unfolding node_at
       node_dl i = rw (so_fine e q, ← g, ← f, h) (eq_yes _ _ _ _ i refl)

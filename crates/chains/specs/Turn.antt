@@ -1,9 +1,10 @@
 -- One block of a data chain, and the DL and HL that were met before it.
-use Rattle.std.specs.Prelude.{ℕ, zero, suc, ◌+◌, ◌-◌, List, [], ◌∷◌, length, get_or}
+use Rattle.std.specs.Prelude.{ℕ, zero, suc, ◌+◌, ◌-◌, List, [], ◌∷◌, length, get_or, Result, Ok, Err}
 use Rattle.base.specs.Choice.{if_lt, if_eq}
 use Rattle.base.specs.Checked.{Checked, ok, refused, and_then, Verdict, fine}
 use Rattle.mdf.specs.Block.{links_at, first_link, length_in}
 use Rattle.mdf.specs.Chain.{Fragment, Chain, Found, found, stopped, Limits, added, fragment_at, listed}
+use Rattle.chains.specs.declared.chain.Stopped.{Stopped}
 use Rattle.chains.specs.declared.chain.Step.{Step}
 use Rattle.chains.specs.declared.chain.Step.TheVariants.{Over, Next}
 use Rattle.chains.specs.Node.{Standing, data_block, data_list, list-header, node_at}
@@ -53,13 +54,17 @@ on_standing (ok list-header) f dl hl = hl
 unfoldable pub turn_at : Chain → Limits → List ℕ → ℕ → ℕ → ℕ → Turn
 turn_at c l s n k a = on_standing (node_at c s a) (λ f. over (added l n a f [])) (list_turn c l s n k a) (header_turn l s k a)
 
--- what a turn leaves: the code's answer and the words
+-- what a turn leaves: the end of the walk, or the address where it goes on, the fragments kept and the words
 pub data Moved : Type 0 where
-  moved : Step → List ℕ → Moved
+  ended : Given → Moved
+  goes : ℕ → ℕ → List ℕ → Moved
 
-abbrev pub ended : Given → Moved
-ended (given r w) = moved (Over r) w
+-- the code's answer
+abbrev pub moved : Result Step Stopped → List ℕ → Moved
+moved (Ok (Over count)) w = ended (given (Ok count) w)
+moved (Ok (Next a count)) w = goes a count w
+moved (Err e) w = ended (given (Err e) w)
 
 unfoldable pub laid_turn : Turn → ℕ → List ℕ → Moved
 laid_turn (over g) n w = ended (laid g n w)
-laid_turn (next a fs) n w = moved (Next a (n + length fs)) (kept n fs w)
+laid_turn (next a fs) n w = goes a (n + length fs) (kept n fs w)

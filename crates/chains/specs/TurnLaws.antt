@@ -1,7 +1,10 @@
 -- The laws of the code's ways: one for each return and each turn of a loop.
-use Rattle.std.specs.Prelude.{ℕ, zero, suc, ◌+◌, ◌*◌, ◌-◌, ◌≤◌, ◌<◌, Bool, true, false, get_or, set}
+use Rattle.std.specs.Prelude.{ℕ, zero, suc, ◌+◌, ◌*◌, ◌-◌, ◌≤◌, ◌<◌, Bool, true, false, get_or, set, Result, Ok, Err, ⊤}
 use Rattle.std.proofs.Math.Path.{◌≡◌, refl, ap}
-use Rattle.std.proofs.Common.{sym, ◌∙◌, add-zero, add-one, sub-one, eq-eqb, ne_eqb, get_or-set_same, get_or-set_other}
+use Rattle.std.proofs.Common.{sym, ◌∙◌, add-zero, add-one, sub-one, get_or-set_same, get_or-set_other, take}
+use Rattle.std.specs.Prelude.{eqb, ◌||◌}
+use Rattle.std.specs.List.{list_any}
+use Rattle.std.proofs.lemmas.List.Folds.{list_any_more}
 use mathlib.Core.List.{List, [], ◌∷◌}
 use native.Mathlib.Omega.{arith}
 use Rattle.std.proofs.Math.ListN.{length, length-set}
@@ -15,44 +18,38 @@ use Rattle.mdf.specs.Block.{links_at, link_at, first_link, length_in}
 use Rattle.work_words.specs.Words.{kind_word, fragment_words}
 use Rattle.mdf.specs.Chain.{Kind, Fragment, Chain, Found, found, stopped, on_found}
 use Rattle.mdf.specs.Chain.{Limits, added, fragment_at, listed, is_in, chain_from, chain}
-use Rattle.fields.specs.declared.Check.{Check}
-use Rattle.fields.specs.declared.Check.TheVariants.{Fine}
-use Rattle.fields.specs.declared.Check.TheVariants as checks
-use Rattle.fields.specs.Answer.{verdict_of}
+use Rattle.fields.specs.declared.refusal.Refusal.{Refusal}
+use Rattle.fields.specs.Answer.{number_of, place_of, refused_by, verdict_of}
 use Rattle.blocks.specs.AnswerLaws.{so_fine, so_refused, then_fine}
 use Rattle.blocks.specs.BlockLaws.{length-fits}
 use Rattle.chains.specs.declared.node.Node.{Node}
-use Rattle.chains.specs.declared.node.Node.TheVariants.{Refused, Dl, Hl}
+use Rattle.chains.specs.declared.node.Node.TheVariants.{Dl, Hl}
 use Rattle.chains.specs.declared.node.Node.TheVariants as nodes
 use Rattle.chains.specs.declared.node.SrcBlock.{SrcBlock}
-use Rattle.chains.specs.declared.chain.Chained.{Chained}
-use Rattle.chains.specs.declared.chain.Chained.TheVariants.{Stopped, Done}
+use Rattle.chains.specs.declared.chain.Stopped.{Stopped}
 use Rattle.chains.specs.declared.chain.Step.{Step}
 use Rattle.chains.specs.declared.chain.Step.TheVariants.{Over, Next}
 use Rattle.chains.specs.Node.{Standing, data_block, data_list, list-header, limits_for, fragment_of, node_at, node_of}
 use Rattle.chains.specs.NodeLaws.{fragment_node, resumed, chain_open}
-use Rattle.chains.specs.Kept.{kept, Given, given, laid}
-use Rattle.chains.specs.KeptLaws.{laid-onto, laid_same, kept-none, length-kept}
+use Rattle.chains.specs.Kept.{kept, Given, done, halted, given, laid}
+use Rattle.chains.specs.KeptLaws.{laid-onto, laid_same, kept-none, length-kept, Counted}
 use Rattle.chains.specs.ChainLaws.{Onto, listed-onto, chain-onto}
 use Rattle.chains.specs.Turn.{met_in, entry_at, list_at, Turn, over, next, on_read, on_listed}
-use Rattle.chains.specs.Turn.{list_turn, header_turn, on_standing, turn_at, Moved, moved, ended, laid_turn}
+use Rattle.chains.specs.Turn.{list_turn, header_turn, on_standing, turn_at, Moved, ended, goes, moved, laid_turn}
 
--- ---- the search for an address among the DL and HL met: m is what the whole search gives
-pub met_hit : (w : List ℕ) (i a : ℕ) {m : Bool} → is_in a (met_in w i) ≡ m → 0 < i → get_or w (i - 1) 0 ≡ a → true ≡ m
-unfolding met_in is_in
-met_hit w zero a e p h = absurd (omega arith)
-met_hit w (suc k) a e p h = let h' = rw (sub-one (suc k)) at h in rw (eq-eqb (get_or w k 0) a h') at e
+-- ---- the addresses of the DL and HL met
+or-pick : (x y : Bool) {z : Bool} → x ≡ z → (x || y) ≡ pick y true z
+or-pick true true e = refl
+or-pick true false e = e
+or-pick false true e = refl
+or-pick false false e = e
 
-pub met_pass : (w : List ℕ) (i a : ℕ) {m : Bool} → is_in a (met_in w i) ≡ m → 0 < i → (get_or w (i - 1) 0 ≡ a → ⊥)
-    → is_in a (met_in w (i - 1)) ≡ m
+met_any : (w : List ℕ) (k a : ℕ) → k ≤ length w → list_any (λ y. eqb y a) (take k w) ≡ is_in a (met_in w k)
 unfolding met_in is_in
-met_pass w zero a e p h = absurd (omega arith)
-met_pass w (suc k) a e p h = let h' = rw (sub-one (suc k)) at h in rw (sub-one (suc k)) (rw (ne_eqb (get_or w k 0) a h') at e)
-
-pub met_none : (w : List ℕ) (i a : ℕ) {m : Bool} → is_in a (met_in w i) ≡ m → i ≤ 0 → false ≡ m
-unfolding met_in is_in
-met_none w zero a e p = e
-met_none w (suc k) a e p = absurd (omega arith)
+met_any w zero a h = refl
+met_any w (suc k) a h =
+    rw (← add-one k)
+    (list_any_more (λ y. eqb y a) w k 0 (omega arith) ∙ or-pick (list_any (λ y. eqb y a) (take k w)) (eqb (get_or w k 0) a) (met_any w k a (omega arith)))
 
 pub length_met : (w : List ℕ) (k : ℕ) → length (met_in w k) ≡ k
 unfolding met_in
@@ -69,11 +66,11 @@ unfolding met_in
 met_add w k a h = rw (add-one, get_or-set_same w k a 0 h, met_kept w k k a (omega arith))
 
 -- ---- what stopped with no fragment leaves the words as they were
-laid_stopped : (x p n : ℕ) (w : List ℕ) → given (Stopped x p n) w ≡ laid (stopped x p []) n w
+laid_stopped : (x p n : ℕ) (w : List ℕ) → halted x p n w ≡ laid (stopped x p []) n w
 unfolding laid
 laid_stopped x p n w = rw (kept-none, add-zero)
 
-laid-found : (n : ℕ) (w : List ℕ) → given (Done n) w ≡ laid (found []) n w
+laid-found : (n : ℕ) (w : List ℕ) → done n w ≡ laid (found []) n w
 unfolding laid
 laid-found n w = rw (kept-none, add-zero)
 
@@ -119,28 +116,29 @@ module _ (file : Bool) {v : Verdict} (k : ℕ) (s : List ℕ) (a : ℕ) where
 
 -- ---- a fragment more
 module _ (l : Limits) (n a : ℕ) (f : Fragment) (w : List ℕ) where
-  pub add_kept : {w' : List ℕ} → n < l.fragments → w' ≡ kept n (f ∷ []) w → given (Done (n + 1)) w' ≡ laid (added l n a f []) n w
+  pub add_kept : {w' : List ℕ} → n < l.fragments → w' ≡ kept n (f ∷ []) w → done (n + 1) w' ≡ laid (added l n a f []) n w
   unfolding laid added
   add_kept h e = rw e (ap (λ (g : Found). laid g n w) (lt_yes _ _ _ _ (omega arith) refl))
 
-  pub add_full : l.fragments ≤ n → given (Stopped 19 a n) w ≡ laid (added l n a f []) n w
+  pub add_full : l.fragments ≤ n → halted 19 a n w ≡ laid (added l n a f []) n w
   unfolding added
   add_full h = laid_stopped 19 a n w ∙ ap (λ (g : Found). laid g n w) (lt_no _ _ _ _ (omega arith) refl)
 
--- ---- a fragment that a DL lists: r is the node there
-module _ (c : Chain) (l : Limits) (s : List ℕ) (n a : ℕ) (w : List ℕ) {r : Node} (e : node_of r ≡ node_at c s a) where
-  pub fragment_refused : {x p : ℕ} → r ≡ Refused x p → given (Stopped x p n) w ≡ laid (fragment_at c l s n a []) n w
-  fragment_refused {x} {p} q = rw (fragment_node c l s n a, ← e, q) (laid_stopped x p n w)
+-- ---- a fragment that a DL lists: o is the node there
+module _ (c : Chain) (l : Limits) (s : List ℕ) (n a : ℕ) (w : List ℕ) {o : Result Node Refusal} (e : node_of o ≡ node_at c s a) where
+  pub fragment_refused : {r : Result Node Stopped} {x : Stopped} → Counted n o r → r ≡ Err x
+      → given (Err x) w ≡ laid (fragment_at c l s n a []) n w
+  fragment_refused {x = x} m q =
+      rw (fragment_node c l s n a, ← e, m.refusal q, m.count q) (laid_stopped (number_of x.refusal) (place_of x.refusal) n w)
 
-  pub fragment-found : {b : SrcBlock} {g : Given} → r ≡ nodes.Fragment b → g ≡ laid (added l n a (fragment_of b) []) n w
+  pub fragment-found : {d : Node} {b : SrcBlock} {g : Given} → o ≡ Ok d → d ≡ nodes.Fragment b → g ≡ laid (added l n a (fragment_of b) []) n w
       → g ≡ laid (fragment_at c l s n a []) n w
-  fragment-found q h = rw (fragment_node c l s n a, ← e, q) h
+  fragment-found q i h = rw (fragment_node c l s n a, ← e, q, i) h
 
-  pub fragment-dl : r ≡ Dl → given (Stopped 12 a n) w ≡ laid (fragment_at c l s n a []) n w
-  fragment-dl q = rw (fragment_node c l s n a, ← e, q) (laid_stopped 12 a n w)
-
-  pub fragment_hl : r ≡ Hl → given (Stopped 12 a n) w ≡ laid (fragment_at c l s n a []) n w
-  fragment_hl q = rw (fragment_node c l s n a, ← e, q) (laid_stopped 12 a n w)
+  pub fragment-list : {d : Node} → o ≡ Ok d → ((b : SrcBlock) → ◌≡◌ {A = Node} d (nodes.Fragment b) → ⊥) → halted 12 a n w ≡ laid (fragment_at c l s n a []) n w
+  fragment-list {d = nodes.Fragment b} q h = absurd (h b refl)
+  fragment-list {d = Dl} q h = rw (fragment_node c l s n a, ← e, q) (laid_stopped 12 a n w)
+  fragment-list {d = Hl} q h = rw (fragment_node c l s n a, ← e, q) (laid_stopped 12 a n w)
 
 -- a link of a DL
 pub link_is : (s : List ℕ) (a i : ℕ) {x : ℕ} → x ≡ le_at 8 s (a + 24 + 8 * i) → x ≡ link_at s a i
@@ -148,7 +146,7 @@ unfolding link_at
 link_is s a i e = e
 
 module _ (c : Chain) (l : Limits) (s : List ℕ) (n x : ℕ) (w : List ℕ) where
-  pub entry_zero : x ≡ 0 → given (Done n) w ≡ laid (entry_at c l s n x) n w
+  pub entry_zero : x ≡ 0 → done n w ≡ laid (entry_at c l s n x) n w
   unfolding entry_at
   entry_zero z = laid-found n w ∙ ap (λ (g : Found). laid g n w) (eq_yes _ _ _ _ z refl)
 
@@ -158,14 +156,13 @@ module _ (c : Chain) (l : Limits) (s : List ℕ) (n x : ℕ) (w : List ℕ) wher
 
 -- ---- what was found goes on, or ends with it
 module _ (n : ℕ) (w : List ℕ) {w' : List ℕ} where
-  after_stop : (g : Found) (f : List Fragment → Found) {x p m : ℕ} → given (Stopped x p m) w' ≡ laid g n w
-      → given (Stopped x p m) w' ≡ laid (on_found g f) n w
+  after_stop : (g : Found) (f : List Fragment → Found) {x p m : ℕ} → halted x p m w' ≡ laid g n w → halted x p m w' ≡ laid (on_found g f) n w
   unfolding laid
   after_stop (found fs) f e = absurd (let z : ◌≡◌ {A = ℕ} 0 1 = cc in omega arith)
   after_stop (stopped x p fs) f e = e
 
   after_done : (g : Found) (f : List Fragment → Found) (F : ℕ → Found) → ((gs : List Fragment) → Onto gs (f gs) (F (n + length gs)))
-      → {m : ℕ} → given (Done m) w' ≡ laid g n w → laid (F m) m w' ≡ laid (on_found g f) n w
+      → {m : ℕ} → done m w' ≡ laid g n w → laid (F m) m w' ≡ laid (on_found g f) n w
   unfolding laid
   after_done (found fs) f F h {m} e =
       let k : m ≡ n + length fs = cc in
@@ -189,13 +186,13 @@ pub list_begin : {c : Chain} {l : Limits} {s : List ℕ} {a n : ℕ} {w : List �
 list_begin {a = a} = let e : a + 24 + 8 * 1 ≡ a + 32 = omega arith in record { same = refl; rest = rw e }
 
 module _ {c : Chain} {l : Limits} {s : List ℕ} {a n₀ : ℕ} {w₀ : List ℕ} {links i n : ℕ} {w : List ℕ} (t : Listing c l s a n₀ w₀ links i n w) where
-  pub list_end : links ≡ links_at s a → links ≤ i → given (Done n) w ≡ laid (listed c l s n₀ (links_at s a - 1) (a + 32) []) n₀ w₀
+  pub list_end : links ≡ links_at s a → links ≤ i → done n w ≡ laid (listed c l s n₀ (links_at s a - 1) (a + 32) []) n₀ w₀
   unfolding listed
   list_end q h =
       let z : links - i ≡ 0 = omega arith in
       rw (← q) (laid-found n w ∙ (rw z at t.rest))
 
-  module _ (h : i < links) {x : ℕ} (m : x ≡ link_at s a i) {r : Chained} {w' : List ℕ} (e : given r w' ≡ laid (entry_at c l s n x) n w) where
+  module _ (h : i < links) {x : ℕ} (m : x ≡ link_at s a i) where
     abbrev after-link : List Fragment → Found
     after-link gs = listed c l s n (links - i - 1) (a + 24 + 8 * i + 8) gs
 
@@ -203,38 +200,40 @@ module _ {c : Chain} {l : Limits} {s : List ℕ} {a n₀ : ℕ} {w₀ : List ℕ
     unfolding link_at
     list_open = rw m (rw (listed_open c l s n (links - i) (a + 24 + 8 * i) (omega arith)) at t.rest)
 
-    pub list_stop : {y q j : ℕ} → links ≡ links_at s a → r ≡ Stopped y q j
-        → given (Stopped y q j) w' ≡ laid (listed c l s n₀ (links_at s a - 1) (a + 32) []) n₀ w₀
-    list_stop k g = rw (← k) (after_stop n w (entry_at c l s n x) after-link (rw (← g) e) ∙ list_open)
+    module _ (r : Result ℕ Stopped) {w' : List ℕ} (e : given r w' ≡ laid (entry_at c l s n x) n w) where
+      pub list_stop : {y : Stopped} → links ≡ links_at s a → r ≡ Err y
+          → given (Err y) w' ≡ laid (listed c l s n₀ (links_at s a - 1) (a + 32) []) n₀ w₀
+      list_stop k g = rw (← k) (after_stop n w (entry_at c l s n x) after-link (rw g at e) ∙ list_open)
 
-    pub list_on : {j : ℕ} → r ≡ Done j → Listing c l s a n₀ w₀ links (i + 1) j w'
-    list_on {j} g =
-        let k : links - i - 1 ≡ links - (i + 1) = omega arith in
-        let p : a + 24 + 8 * i + 8 ≡ a + 24 + 8 * (i + 1) = omega arith in
-        record {
-          same = laid_same (entry_at c l s n x) n w e ∙ t.same;
-          rest = rw (← k, ← p)
-              (after_done n w (entry_at c l s n x) after-link (λ m. listed c l s m (links - i - 1) (a + 24 + 8 * i + 8) [])
-              (listed-onto c l s (links - i - 1) (a + 24 + 8 * i + 8) n) (rw (← g) e)
-              ∙ list_open);
-        }
+      pub list_on : {j : ℕ} → r ≡ Ok j → Listing c l s a n₀ w₀ links (i + 1) j w'
+      list_on {j} g =
+          let k : links - i - 1 ≡ links - (i + 1) = omega arith in
+          let p : a + 24 + 8 * i + 8 ≡ a + 24 + 8 * (i + 1) = omega arith in
+          record {
+            same = laid_same (entry_at c l s n x) n w r w' e ∙ t.same;
+            rest = rw (← k, ← p)
+                (after_done n w (entry_at c l s n x) after-link (λ m. listed c l s m (links - i - 1) (a + 24 + 8 * i + 8) [])
+                (listed-onto c l s (links - i - 1) (a + 24 + 8 * i + 8) n) (rw g at e)
+                ∙ list_open);
+          }
 
 -- ---- a DL or HL that is read: o is the check of its length
-module _ (most lists k : ℕ) (s : List ℕ) (a : ℕ) {o : Check} (e : verdict_of o ≡ length_in most s a) where
-  pub list_refused : {x p : ℕ} → o ≡ checks.Refused x p → refused x p ≡ list_at most lists k s a
+module _ (most lists k : ℕ) (s : List ℕ) (a : ℕ) {o : Result ⊤ Refusal} (e : verdict_of o ≡ length_in most s a) where
+  pub list_refused : {x : Refusal} → o ≡ Err x → refused_by x ≡ list_at most lists k s a
   unfolding list_at
   list_refused q = rw (so_refused e q)
 
-  pub list-fine : o ≡ Fine → k < lists → fine ≡ list_at most lists k s a
+  pub list-fine : {u : ⊤} → o ≡ Ok u → k < lists → fine ≡ list_at most lists k s a
   unfolding list_at
   list-fine q h = rw (so_fine e q) (lt_yes _ _ _ _ h refl)
 
-  pub list_full : o ≡ Fine → lists ≤ k → refused 19 a ≡ list_at most lists k s a
+  pub list_full : {u : ⊤} → o ≡ Ok u → lists ≤ k → refused 19 a ≡ list_at most lists k s a
   unfolding list_at
   list_full q h = rw (so_fine e q) (lt_no _ _ _ _ h refl)
 
 -- its links lie in the image
-pub list_lies : (file : Bool) (k : ℕ) (s : List ℕ) (a : ℕ) {o : Check} → verdict_of o ≡ list_at (limits_for file).dl_bytes (limits_for file).lists k s a → o ≡ Fine
+pub list_lies : (file : Bool) (k : ℕ) (s : List ℕ) (a : ℕ) {o : Result ⊤ Refusal} {u : ⊤}
+    → verdict_of o ≡ list_at (limits_for file).dl_bytes (limits_for file).lists k s a → o ≡ Ok u
     → a + 24 + 8 * links_at s a ≤ length s
 unfolding list_at
 list_lies file k s a e q =
@@ -251,58 +250,69 @@ list-room most lists k s a e = go (length_in most s a) e
     go (refused x p) f = absurd (let z : ◌≡◌ {A = ℕ} 0 1 = cc in omega arith)
 
 -- ---- the turn at an HL: o is the check of it
-module _ (l : Limits) (s : List ℕ) (n k a : ℕ) (w : List ℕ) {o : Check} (e : verdict_of o ≡ list_at l.hl_bytes l.lists k s a) where
-  pub hl_refused : {x p : ℕ} → o ≡ checks.Refused x p → moved (Over (Stopped x p n)) w ≡ laid_turn (header_turn l s k a) n w
+module _ (l : Limits) (s : List ℕ) (n k a : ℕ) (w : List ℕ) {o : Result ⊤ Refusal} (e : verdict_of o ≡ list_at l.hl_bytes l.lists k s a)
+    {t : Result ⊤ Stopped} (m : Counted n o t) where
+  pub hl_refused : {x : Stopped} → t ≡ Err x → moved (Err x) w ≡ laid_turn (header_turn l s k a) n w
   unfolding laid_turn header_turn
-  hl_refused {x} {p} q = rw (so_refused e q, ← laid_stopped x p n w)
+  hl_refused {x} q =
+      rw (so_refused e (m.refusal q), m.count q, ← laid_stopped (number_of x.refusal) (place_of x.refusal) n w)
 
-  pub hl_next : o ≡ Fine → {b : ℕ} → b ≡ first_link s a → moved (Next b n) w ≡ laid_turn (header_turn l s k a) n w
+  pub hl_next : {u : ⊤} → t ≡ Ok u → {b : ℕ} → b ≡ first_link s a → goes b n w ≡ laid_turn (header_turn l s k a) n w
   unfolding laid_turn header_turn
-  hl_next q f = rw (so_fine e q, f, kept-none, add-zero)
+  hl_next q f = rw (so_fine e (m.ok q), f, kept-none, add-zero)
 
 -- ---- the turn at a DL: o is the check of it
-module _ (c : Chain) (l : Limits) (s : List ℕ) (n k a : ℕ) (w : List ℕ) {o : Check} (e : verdict_of o ≡ list_at l.dl_bytes l.lists k s a) where
-  pub dl_refused : {x p : ℕ} → o ≡ checks.Refused x p → moved (Over (Stopped x p n)) w ≡ laid_turn (list_turn c l s n k a) n w
+module _ (c : Chain) (l : Limits) (s : List ℕ) (n k a : ℕ) (w : List ℕ) {o : Result ⊤ Refusal}
+    (e : verdict_of o ≡ list_at l.dl_bytes l.lists k s a) {t : Result ⊤ Stopped} (m : Counted n o t) where
+  pub dl_refused : {x : Stopped} → t ≡ Err x → moved (Err x) w ≡ laid_turn (list_turn c l s n k a) n w
   unfolding laid_turn list_turn
-  dl_refused {x} {p} q = rw (so_refused e q, ← laid_stopped x p n w)
+  dl_refused {x} q =
+      rw (so_refused e (m.refusal q), m.count q, ← laid_stopped (number_of x.refusal) (place_of x.refusal) n w)
 
-  module _ (q : o ≡ Fine) {r : Chained} {w' : List ℕ} (g : given r w' ≡ laid (listed c l s n (links_at s a - 1) (a + 32) []) n w) where
-    pub dl_stop : {x p j : ℕ} → r ≡ Stopped x p j → moved (Over (Stopped x p j)) w' ≡ laid_turn (list_turn c l s n k a) n w
+  module _ {u : ⊤} (q : t ≡ Ok u) {r : Result ℕ Stopped} {w' : List ℕ}
+      (g : given r w' ≡ laid (listed c l s n (links_at s a - 1) (a + 32) []) n w) where
+    pub dl_stop : {x : Stopped} → r ≡ Err x → moved (Err x) w' ≡ laid_turn (list_turn c l s n k a) n w
     unfolding laid laid_turn list_turn
-    dl_stop {x} {p} {j} h = rw (so_fine e q) (go (listed c l s n (links_at s a - 1) (a + 32) []) (rw (← h) g))
+    dl_stop {x} h = rw (so_fine e (m.ok q)) (go (listed c l s n (links_at s a - 1) (a + 32) []) (rw h at g))
       where
-        go : (i : Found) → given (Stopped x p j) w' ≡ laid i n w
-            → moved (Over (Stopped x p j)) w' ≡ laid_turn (on_listed i (next (first_link s a))) n w
+        go : (i : Found) → given (Err x) w' ≡ laid i n w → moved (Err x) w' ≡ laid_turn (on_listed i (next (first_link s a))) n w
         go (found fs) z = absurd (let i' : ◌≡◌ {A = ℕ} 0 1 = cc in omega arith)
         go (stopped y t fs) z = ap ended z
 
-    pub dl-next : {b j : ℕ} → r ≡ Done j → b ≡ first_link s a → moved (Next b j) w' ≡ laid_turn (list_turn c l s n k a) n w
+    pub dl-next : {b j : ℕ} → r ≡ Ok j → b ≡ first_link s a → goes b j w' ≡ laid_turn (list_turn c l s n k a) n w
     unfolding laid laid_turn list_turn
-    dl-next {b} {j} h f = rw (so_fine e q, f) (go (listed c l s n (links_at s a - 1) (a + 32) []) (rw (← h) g))
+    dl-next {b} {j} h f = rw (so_fine e (m.ok q), f) (go (listed c l s n (links_at s a - 1) (a + 32) []) (rw h at g))
       where
-        go : (i : Found) → given (Done j) w' ≡ laid i n w
-            → moved (Next (first_link s a) j) w' ≡ laid_turn (on_listed i (next (first_link s a))) n w
+        go : (i : Found) → done j w' ≡ laid i n w
+            → goes (first_link s a) j w' ≡ laid_turn (on_listed i (next (first_link s a))) n w
         go (found fs) z = cc
         go (stopped y t fs) z = absurd (let i' : ◌≡◌ {A = ℕ} 0 1 = cc in omega arith)
 
--- ---- the turn at a, by the node r there
-module _ (c : Chain) (l : Limits) (s : List ℕ) (n k a : ℕ) (w : List ℕ) {r : Node} (e : node_of r ≡ node_at c s a) where
-  pub turn_refused : {x p : ℕ} → r ≡ Refused x p → moved (Over (Stopped x p n)) w ≡ laid_turn (turn_at c l s n k a) n w
+-- ---- the turn at a, by the node o there
+module _ (c : Chain) (l : Limits) (s : List ℕ) (n k a : ℕ) (w : List ℕ) {o : Result Node Refusal} (e : node_of o ≡ node_at c s a) where
+  pub turn_refused : {r : Result Node Stopped} {x : Stopped} → Counted n o r → r ≡ Err x
+      → moved (Err x) w ≡ laid_turn (turn_at c l s n k a) n w
   unfolding laid_turn turn_at
-  turn_refused {x} {p} q = rw (← e, q, ← laid_stopped x p n w)
+  turn_refused {x = x} m q =
+      rw (← e, m.refusal q, m.count q, ← laid_stopped (number_of x.refusal) (place_of x.refusal) n w)
 
-  pub turn_block : {b : SrcBlock} {o : Chained} {w' : List ℕ} → r ≡ nodes.Fragment b
-      → given o w' ≡ laid (added l n a (fragment_of b) []) n w → moved (Over o) w' ≡ laid_turn (turn_at c l s n k a) n w
-  unfolding laid_turn turn_at
-  turn_block q h = rw (← e, q, ← h)
+  module _ {d : Node} {b : SrcBlock} (q : o ≡ Ok d) (p : d ≡ nodes.Fragment b) {r : Result ℕ Stopped} {w' : List ℕ}
+      (h : given r w' ≡ laid (added l n a (fragment_of b) []) n w) where
+    pub turn_full : {x : Stopped} → r ≡ Err x → moved (Err x) w' ≡ laid_turn (turn_at c l s n k a) n w
+    unfolding laid_turn turn_at
+    turn_full i = rw (← e, q, p, ← h, i)
 
-  pub turn_dl : {g : Moved} → r ≡ Dl → g ≡ laid_turn (list_turn c l s n k a) n w → g ≡ laid_turn (turn_at c l s n k a) n w
+    pub turn_block : {j : ℕ} → r ≡ Ok j → moved (Ok (Over j)) w' ≡ laid_turn (turn_at c l s n k a) n w
+    unfolding laid_turn turn_at
+    turn_block i = rw (← e, q, p, ← h, i)
+
+  pub turn_dl : {d : Node} {g : Moved} → o ≡ Ok d → d ≡ Dl → g ≡ laid_turn (list_turn c l s n k a) n w → g ≡ laid_turn (turn_at c l s n k a) n w
   unfolding turn_at
-  turn_dl q h = rw (← e, q) h
+  turn_dl q i h = rw (← e, q, i) h
 
-  pub turn_hl : {g : Moved} → r ≡ Hl → g ≡ laid_turn (header_turn l s k a) n w → g ≡ laid_turn (turn_at c l s n k a) n w
+  pub turn_hl : {d : Node} {g : Moved} → o ≡ Ok d → d ≡ Hl → g ≡ laid_turn (header_turn l s k a) n w → g ≡ laid_turn (turn_at c l s n k a) n w
   unfolding turn_at
-  turn_hl q h = rw (← e, q) h
+  turn_hl q i h = rw (← e, q, i) h
 
 over≢next : {A : Type 0} {g : Found} {b : ℕ} {fs : List Fragment} → over g ≡ next b fs → A
 over≢next e = absurd (let i : ◌≡◌ {A = ℕ} 0 1 = cc in omega arith)
@@ -323,11 +333,11 @@ turn_room c l s n k a e = go (node_at c s a) e
     go (ok data_list) f = read l.dl_bytes (list_at l.dl_bytes l.lists k s a) _ refl f
     go (ok list-header) f = read l.hl_bytes (list_at l.hl_bytes l.lists k s a) _ refl f
 
-ended_back : (g : Given) {o : Chained} {w : List ℕ} → moved (Over o) w ≡ ended g → given o w ≡ g
-ended_back (given r v) e = cc
+ended_back : {g h : Given} → ended g ≡ ended h → g ≡ h
+ended_back e = cc
 
-ended≢next : {A : Type 0} (g : Given) {b j : ℕ} {w : List ℕ} → moved (Next b j) w ≡ ended g → A
-ended≢next (given r v) e = absurd (let i : ◌≡◌ {A = ℕ} 0 1 = cc in omega arith)
+ended≢goes : {A : Type 0} (g : Given) {b j : ℕ} {w : List ℕ} → goes b j w ≡ ended g → A
+ended≢goes g e = absurd (let i : ◌≡◌ {A = ℕ} 0 1 = cc in omega arith)
 
 -- ---- the walk, where it stands: what is left of it gives what the whole of it gives
 pub record Walking (c : Chain) (l : Limits) (s : List ℕ) (n₀ a₀ : ℕ) (w₀ met : List ℕ) (k a n : ℕ) (w : List ℕ) : Type 0 where
@@ -358,31 +368,41 @@ module _ {c : Chain} {l : Limits} {s : List ℕ} {n₀ a₀ : ℕ} {w₀ met : L
       go zero h e = absurd (let r = t.room in omega arith)
       go (suc j) h e = rw (sub-one (suc j)) (rw (chain_open c l j s n (met_in met k) a, length_met met k) at e)
 
-  pub walk_end : a ≡ 0 → given (Done n) w ≡ laid (chain c l s n₀ a₀) n₀ w₀
+  pub walk_end : a ≡ 0 → done n w ≡ laid (chain c l s n₀ a₀) n₀ w₀
   walk_end z = laid-found n w ∙ ap (λ (g : Found). laid g n w) (eq_yes _ _ _ _ z refl) ∙ opened
 
-  module _ (z : a ≡ 0 → ⊥) {m : Bool} (e : m ≡ is_in a (met_in met k)) where
-    pub walk_met : m ≡ true → given (Stopped 11 a n) w ≡ laid (chain c l s n₀ a₀) n₀ w₀
+  module _ (z : a ≡ 0 → ⊥) {m : Bool} (any : m ≡ list_any (λ y. eqb y a) (take k met)) where
+    e : m ≡ is_in a (met_in met k)
+    e = any ∙ met_any met k a (let r = t.room in let d = t.sized in omega arith)
+
+    pub walk_met : m ≡ true → halted 11 a n w ≡ laid (chain c l s n₀ a₀) n₀ w₀
     walk_met q = laid_stopped 11 a n w ∙ ap (λ (g : Found). laid g n w) (eq_no _ _ _ _ z (rw (← e, q))) ∙ opened
 
-    module _ (q : m ≡ false) {r : Step} {w' : List ℕ} (h : moved r w' ≡ laid_turn (turn_at c l s n k a) n w) where
+    module _ (q : m ≡ false) where
       turned : laid (resumed (turn_at c l s n k a) after) n w ≡ laid (chain c l s n₀ a₀) n₀ w₀
       turned = ap (λ (g : Found). laid g n w) (eq_no _ _ _ _ z (rw (← e, q))) ∙ opened
 
-      pub walk-over : {o : Chained} → r ≡ Over o → given o w' ≡ laid (chain c l s n₀ a₀) n₀ w₀
+      walk-ended : {g : Given} → ended g ≡ laid_turn (turn_at c l s n k a) n w → g ≡ laid (chain c l s n₀ a₀) n₀ w₀
       unfolding laid_turn
-      walk-over {o} i = go (turn_at c l s n k a) (rw (← i) h) ∙ turned
+      walk-ended {g} h = go (turn_at c l s n k a) h ∙ turned
         where
-          go : (u : Turn) → moved (Over o) w' ≡ laid_turn u n w → given o w' ≡ laid (resumed u after) n w
-          go (over g) y = ended_back (laid g n w) y
+          go : (u : Turn) → ended g ≡ laid_turn u n w → g ≡ laid (resumed u after) n w
+          go (over f) y = ended_back y
           go (next b fs) y = absurd (let i' : ◌≡◌ {A = ℕ} 0 1 = cc in omega arith)
 
-      pub walk-next : {b j : ℕ} → r ≡ Next b j → Walking c l s n₀ a₀ w₀ (set met k a) (k + 1) b j w'
+    module _ (q : m ≡ false) (r : Result Step Stopped) {w' : List ℕ} (h : moved r w' ≡ laid_turn (turn_at c l s n k a) n w) where
+      pub walk-over : {d : Step} {j : ℕ} → r ≡ Ok d → d ≡ Over j → done j w' ≡ laid (chain c l s n₀ a₀) n₀ w₀
+      walk-over i y = walk-ended q (rw (i, y) at h)
+
+      pub walk_stop : {x : Stopped} → r ≡ Err x → given (Err x) w' ≡ laid (chain c l s n₀ a₀) n₀ w₀
+      walk_stop i = walk-ended q (rw i at h)
+
+      pub walk-next : {d : Step} {b j : ℕ} → r ≡ Ok d → d ≡ Next b j → Walking c l s n₀ a₀ w₀ (set met k a) (k + 1) b j w'
       unfolding laid_turn
-      walk-next {b} {j} i = go (turn_at c l s n k a) refl (rw (← i) h)
+      walk-next {b = b} {j = j} i y = go (turn_at c l s n k a) refl (rw (i, y) at h)
         where
-          go : (u : Turn) → turn_at c l s n k a ≡ u → moved (Next b j) w' ≡ laid_turn u n w → Walking c l s n₀ a₀ w₀ (set met k a) (k + 1) b j w'
-          go (over g) x y = ended≢next (laid g n w) y
+          go : (u : Turn) → turn_at c l s n k a ≡ u → goes b j w' ≡ laid_turn u n w → Walking c l s n₀ a₀ w₀ (set met k a) (k + 1) b j w'
+          go (over g) x y = ended≢goes (laid g n w) y
           go (next b' fs) x y =
               let v : w' ≡ kept n fs w = cc in
               let p : b ≡ b' = cc in
@@ -398,5 +418,5 @@ module _ {c : Chain} {l : Limits} {s : List ℕ} {n₀ a₀ : ℕ} {w₀ met : L
                 room = omega arith;
                 sized = length-set met k a ∙ t.sized;
                 same = rw (v, length-kept) t.same;
-                rest = rw (met_add met k a (rw t.sized f), v, p, d, ← laid-onto fs rest-found n w, ← onto-it.is) (rw x at turned);
+                rest = rw (met_add met k a (rw t.sized f), v, p, d, ← laid-onto fs rest-found n w, ← onto-it.is) (rw x at turned q);
               }

@@ -1,59 +1,64 @@
 // What stands at an address of a data chain.
 ghost use Rattle.std.specs.Prelude.{◌≡◌, ◌+◌, ◌≤◌, length};
 ghost use Rattle.mdf.specs.Chain.{fragment, leaf_of};
+ghost use Rattle.work_words.specs.Words.{kind_word};
 ghost use Rattle.chains.specs.Node.{which, kind_of, fragment_of, leaf_from, node_at, node_of};
 
 use blocks::block::{DL, DT, DV, HL, SD, header_in, kind_at, size_at};
-use fields::Check;
+use fields::refusal::Refusal;
 
 // The kind of a fragment: DT (SD too) or DV.
-#[derive(Drop)]
+#[derive(Clone, Copy, Debug, PartialEq, Eq)]
 pub enum Kind {
     Dt,
     Dv,
 }
 
+// The word of a kind.
+impl From<Kind> for u64 {
+    ghost from_gives = { λ k w. w ≡ kind_word (kind_of k) };
+
+    fn from(kind: Kind) -> u64 {
+        match kind {
+            Kind::Dt => 0,
+            Kind::Dv => 1,
+        }
+    }
+}
+
 // A fragment: where its data begins, its length and its kind.
-#[derive(Drop)]
+#[derive(Clone, Copy)]
 pub struct SrcBlock {
     pub offset: u64,
     pub size: u64,
     pub kind: Kind,
 }
 
-// The kind of fragment that a block is in a chain, or none.
-#[derive(Drop)]
-pub enum Leaf {
-    Of(Kind),
-    Other,
-}
-
-// A refusal, a fragment, a DL or an HL.
-#[derive(Drop)]
+// A fragment, a DL or an HL.
+#[derive(Clone, Copy)]
 pub enum Node {
-    Refused { number: u64, place: u64 },
     Fragment(SrcBlock),
     Dl,
     Hl,
 }
 
-// DT and DV are fragments of a DG's data, SD of a channel's signal data.
-pub fn leaf_of(signal: bool, kind: u64) -> Leaf
+// The kind of fragment that a block is in a chain: DT and DV are fragments of a DG's data, SD of a channel's signal data.
+pub fn leaf_of(signal: bool, kind: u64) -> Option<Kind>
     ensures { leaf_from result ≡ leaf_of (which signal) kind }
 {
     if signal {
         if kind == SD {
-            return Leaf::Of(Kind::Dt);
+            return Some(Kind::Dt);
         }
-        return Leaf::Other;
+        return None;
     }
     if kind == DT {
-        return Leaf::Of(Kind::Dt);
+        return Some(Kind::Dt);
     }
     if kind == DV {
-        return Leaf::Of(Kind::Dv);
+        return Some(Kind::Dv);
     }
-    Leaf::Other
+    None
 }
 
 // The fragment with its header at a: its data begins 24 past it; a length under 24 leaves no data.
@@ -77,26 +82,19 @@ fn fragment_of(image: &[u8], a: u64, kind: Kind) -> SrcBlock
 }
 
 // Header range, 12, then by the block's kind.
-pub fn node_at(signal: bool, image: &[u8], a: u64) -> Node
+pub fn node_at(signal: bool, image: &[u8], a: u64) -> Result<Node, Refusal>
     ensures { node_of result ≡ node_at (which signal) image.now a }
 {
-    let header = header_in(image, a);
-    if let Check::Refused { number, place } = header {
-        return Node::Refused { number, place };
-    }
+    header_in(image, a)?;
     let kind = kind_at(image, a);
-    let leaf = leaf_of(signal, kind);
-    if let Leaf::Of(k) = leaf {
-        return Node::Fragment(fragment_of(image, a, k));
+    if let Some(leaf) = leaf_of(signal, kind) {
+        return Ok(Node::Fragment(fragment_of(image, a, leaf)));
     }
     if kind == DL {
-        return Node::Dl;
+        return Ok(Node::Dl);
     }
     if kind == HL {
-        return Node::Hl;
+        return Ok(Node::Hl);
     }
-    Node::Refused {
-        number: 12,
-        place: a,
-    }
+    Err(Refusal::NotInChain(a))
 }

@@ -1,11 +1,12 @@
 -- Laws of the step, of the records of a block and of the number of blocks.
-use Rattle.std.specs.Prelude.{ℕ, zero, suc, ◌+◌, ◌*◌, ◌-◌, ◌/◌, ◌%◌, ◌≤◌, ◌<◌, ◌≡◌, refl}
-use Rattle.std.proofs.Common.{sym, ◌∙◌, le_trans, mul-pos, mul-zero, zero-mul, div-le_self, div-mul-le_self, arith}
-use Rattle.std.proofs.Math.Nat.{max-eq_left, max-eq_right, le-max_left, div-zero, add-div_right}
+use Rattle.std.specs.Prelude.{ℕ, zero, suc, ◌+◌, ◌*◌, ◌-◌, ◌/◌, ◌%◌, ◌<◌, ◌≡◌, refl, min, max}
+use Rattle.std.proofs.Common.{sym, ◌∙◌, le_trans, mul-pos, mul-zero, zero-mul, arith}
+use Rattle.std.proofs.lemmas.Bool.Decides.{nat_tests}
+use Rattle.std.proofs.Math.Nat.{le-max_left, div-zero, add-div_right}
 use Rattle.std.specs.Int.Count.{count_trailing_zeros}
-use Rattle.base.specs.Choice.{if_eq}
+use Rattle.base.specs.Choice.{if_le, if_eq}
 use Rattle.base.specs.ChoiceLaws.{eq_yes, eq_no}
-use Rattle.plan.specs.Geometry.{power_in, step_of, per_block, block_count}
+use Rattle.plan.specs.Geometry.{power_in, step_of, per_block, block_count, per_full}
 
 -- ---- the step by the trailing zeros: the lowest digit of w, and the zeros above it
 data Digit (k w : ℕ) : Type 0 where
@@ -70,17 +71,13 @@ pub per_none : (size w : ℕ) → w ≡ 0 → 1 ≡ per_block size w
 unfolding per_block step_of power_in if_eq
 per_none size w h = rw (h, div-zero)
 
-pub fit_le : (size w step : ℕ) → size / w / step * step ≤ size
-fit_le size w step = le_trans (div-mul-le_self (size / w) step) (div-le_self size w)
+pub per_larger : (size w : ℕ) {step : ℕ} → step ≡ step_of w → max step (size / w / step * step) ≡ per_block size w
+unfolding per_block
+per_larger size w e = rw e
 
-module _ (size w : ℕ) {step : ℕ} (e : step ≡ step_of w) where
-  pub per_step : size / w / step * step < step → step ≡ per_block size w
-  unfolding per_block
-  per_step h = rw (← e) (sym (max-eq_left (omega arith)))
-
-  pub per_fit : step ≤ size / w / step * step → size / w / step * step ≡ per_block size w
-  unfolding per_block
-  per_fit h = rw (← e) (sym (max-eq_right h))
+pub per_least : (size w n : ℕ) {full : ℕ} → full ≡ per_block size w → min n full ≡ per_full size w n
+unfolding per_full if_le
+per_least size w n e = rw (← e) (grind (arith, nat_tests))
 
 pub per_pos : (size w : ℕ) → 0 < per_block size w
 unfolding per_block

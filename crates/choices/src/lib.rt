@@ -1,11 +1,14 @@
 // What a call chooses (document 02), and the refusal of what can't be chosen.
+#![tactic(auto)]
+
 ghost use Rattle.std.specs.Prelude.{◌≡◌, ◌+◌, ◌<◌};
 ghost use Rattle.fields.specs.Answer.{verdict_of};
 ghost use Rattle.plan.specs.Table.{entry_of, is_sized, is_allowed, is_entry, are_entries, table_in, treatment};
 ghost use Rattle.plan.specs.Rules.{units, is_among, choices_in};
 ghost use Rattle.choices.specs.Chosen.{rules};
 
-use fields::{Check, u8_at};
+use fields::field_at;
+use fields::refusal::Refusal;
 
 // The unit on whose multiples columns start; whether equal time columns are shared; whether references to attachments are kept.
 #[derive(Clone, Copy)]
@@ -19,37 +22,7 @@ pub struct Choices {
 pub fn is_unit(u: u64) -> bool
     ensures { result ≡ is_among u units }
 {
-    if u == 8 {
-        return true;
-    }
-    if u == 16 {
-        return true;
-    }
-    if u == 32 {
-        return true;
-    }
-    if u == 64 {
-        return true;
-    }
-    if u == 128 {
-        return true;
-    }
-    if u == 256 {
-        return true;
-    }
-    if u == 512 {
-        return true;
-    }
-    if u == 1024 {
-        return true;
-    }
-    if u == 2048 {
-        return true;
-    }
-    if u == 4096 {
-        return true;
-    }
-    false
+    [8, 16, 32, 64, 128, 256, 512, 1024, 2048, 4096].contains(&u)
 }
 
 // The first of n entries of a table from entry k on that lists type t, k + n where none does.
@@ -57,38 +30,33 @@ fn entry_of(table: &[u8], t: u64, k: u64, n: u64) -> u64
     requires { k + n < 256 }
     ensures { result ≡ entry_of table.now t k n }
 {
-    let mut i = k;
-    let mut left = n;
-    while 0 < left {
-        if u8_at(table, 1 + i) == t {
+    for i in k..k + n {
+        if field_at::<1>(table, 1 + i) == t {
             return i;
         }
-        i += 1;
-        left -= 1;
     }
-    i
+    k + n
 }
 
-// How a table treats type t: 0 keep, 2 store as type 0, any other omit for that reason.
+// How a table treats type t: 0 keep, 2 store as type 0, any other omit for that reason. A number, as a table that was not
+// checked may hold any byte.
 pub fn treatment_of(table: &[u8], t: u64) -> u64
     ensures { result ≡ treatment table.now t }
 {
-    let n = u8_at(table, 0);
+    let n = field_at::<1>(table, 0);
     let k = entry_of(table, t, 0, n);
     if k < n {
-        let v = u8_at(table, 1 + n + k);
+        let v = field_at::<1>(table, 1 + n + k);
         if v == 1 {
             return 8;
         }
         return v;
     }
-    if t == 4 {
-        return 4;
+    match t {
+        4 => 4,
+        5 => 2,
+        _ => 0,
     }
-    if t == 5 {
-        return 2;
-    }
-    0
 }
 
 // No bytes, or a count from 1 to 7 and that many types and treatments.
@@ -99,7 +67,7 @@ fn is_sized(table: &[u8]) -> bool
     if size == 0 {
         return true;
     }
-    let n = u8_at(table, 0);
+    let n = field_at::<1>(table, 0);
     if n == 0 {
         return false;
     }
@@ -113,19 +81,13 @@ fn is_sized(table: &[u8]) -> bool
 fn is_allowed(t: u64, v: u64) -> bool
     ensures { result ≡ is_allowed t v }
 {
-    if t == 2 {
-        return v == 0;
+    match t {
+        2 => v == 0,
+        3 => v == 0,
+        5 => v != 0,
+        6 => v != 2,
+        _ => true,
     }
-    if t == 3 {
-        return v == 0;
-    }
-    if t == 5 {
-        return v != 0;
-    }
-    if t == 6 {
-        return v != 2;
-    }
-    true
 }
 
 // Entry k may stand in a table with n entries behind it.
@@ -133,7 +95,7 @@ fn is_entry(table: &[u8], k: u64, n: u64) -> bool
     requires { k + 1 + n < 256 }
     ensures { result ≡ is_entry table.now k n }
 {
-    let t = u8_at(table, 1 + k);
+    let t = field_at::<1>(table, 1 + k);
     let end = k + 1 + n;
     let again = entry_of(table, t, k + 1, n);
     if again < end {
@@ -142,7 +104,7 @@ fn is_entry(table: &[u8], k: u64, n: u64) -> bool
     if 6 < t {
         return false;
     }
-    let v = u8_at(table, 1 + u8_at(table, 0) + k);
+    let v = field_at::<1>(table, 1 + field_at::<1>(table, 0) + k);
     if 2 < v {
         return false;
     }
@@ -154,13 +116,8 @@ fn are_entries(table: &[u8], n: u64) -> bool
     requires { n < 256 }
     ensures { result ≡ are_entries table.now 0 n }
 {
-    let mut k: u64 = 0;
-    let mut left = n;
-    while 0 < left {
-        if is_entry(table, k, left - 1) {
-            k += 1;
-            left -= 1;
-        } else {
+    for k in 0..n {
+        if !is_entry(table, k, n - k - 1) {
             return false;
         }
     }
@@ -168,29 +125,23 @@ fn are_entries(table: &[u8], n: u64) -> bool
 }
 
 // 27.
-fn table_in(table: &[u8]) -> Check
+fn table_in(table: &[u8]) -> Result<(), Refusal>
     ensures { verdict_of result ≡ table_in table.now }
 {
     if is_sized(table) {
-        if are_entries(table, u8_at(table, 0)) {
-            return Check::Fine;
+        if are_entries(table, field_at::<1>(table, 0)) {
+            return Ok(());
         }
     }
-    Check::Refused {
-        number: 27,
-        place: 0,
-    }
+    Err(Refusal::Types)
 }
 
 // 26, then 27.
-pub fn choices_in(c: Choices, table: &[u8]) -> Check
+pub fn choices_in(c: Choices, table: &[u8]) -> Result<(), Refusal>
     ensures { verdict_of result ≡ choices_in (rules c table.now) }
 {
     if is_unit(c.unit) {
         return table_in(table);
     }
-    Check::Refused {
-        number: 26,
-        place: 0,
-    }
+    Err(Refusal::Unit)
 }

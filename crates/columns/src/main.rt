@@ -12,6 +12,13 @@ use writing::convert::convert;
 // An image has at most so many bytes.
 const IMAGE_BYTES: u64 = 65536;
 
+// How each image is converted.
+const CHOICES: Choices = Choices {
+    unit: 8,
+    share: false,
+    photos: false,
+};
+
 // The lines of an image's conversion.
 fn show<W: Write>(to: &mut W, image: &[u8]) -> io::Result<()> {
     let ident =
@@ -23,17 +30,13 @@ fn show<W: Write>(to: &mut W, image: &[u8]) -> io::Result<()> {
     let mut out = [0u8; 65536];
     let mut omitted = [0u64; 2049];
     let mut lines = [0u8; 131072];
-    convert(
+    let _ = convert(
         image,
         64,
         ident,
         b"convert",
         0,
-        Choices {
-            unit: 8,
-            share: false,
-            photos: false,
-        },
+        CHOICES,
         b"",
         &mut source,
         &mut fragments,
@@ -48,11 +51,7 @@ fn show<W: Write>(to: &mut W, image: &[u8]) -> io::Result<()> {
         64,
         ident,
         b"convert",
-        Choices {
-            unit: 8,
-            share: false,
-            photos: false,
-        },
+        CHOICES,
         b"",
         65536,
         2049,

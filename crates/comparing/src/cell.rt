@@ -5,7 +5,6 @@ ghost use Rattle.comparing.specs.Same.{JoinedSame, CellSame, HereSame};
 
 use cells::cell::Shape;
 use joined::cursor::{Cursor, byte_at, settle, skip};
-use puts::least;
 use sharing::bytes::parts_same;
 
 // The w bytes from cursor a on are those from cursor b on.
@@ -18,7 +17,7 @@ fn joined_same(image: &[u8], one: &[u64], a: Cursor, two: &[u64], b: Cursor, w: 
     while 0 < left {
         let p = settle(one, j);
         let q = settle(two, k);
-        let m = least(left, least(p.left, q.left));
+        let m = left.min(p.left).min(q.left);
         if m == 0 {
             return false;
         }

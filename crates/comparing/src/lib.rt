@@ -1,4 +1,6 @@
 // The time columns of two groups, compared cell by cell.
+#![tactic(auto)]
+
 mod cell;
 mod head;
 mod run;

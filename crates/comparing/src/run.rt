@@ -7,8 +7,8 @@ ghost use Rattle.comparing.specs.Run.{RunHere, StridedSame, SomeSame};
 use crate::cell::{cell_same, here_same};
 use crate::head::Head;
 use cells::cell::Shape;
+use cells::run::{lies_here, run_of};
 use joined::cursor::Cursor;
-use puts::least;
 
 // Records of each group that were compared: how many, and whether their cells are equal.
 #[derive(Drop)]
@@ -21,27 +21,10 @@ pub struct Compared {
 fn run_here(image: &[u8], k: Cursor, stride: u64, n: u64, bytes: u64) -> u64
     ensures { RunHere image.now k stride n bytes result }
 {
-    let end = image.len() as u64;
-    if k.left < bytes {
+    if n == 0 || !lies_here(image, k, bytes) {
         return 0;
     }
-    if end < k.left {
-        return 0;
-    }
-    if end - k.left < k.position {
-        return 0;
-    }
-    if n == 0 {
-        return 0;
-    }
-    if stride == 0 {
-        return 1;
-    }
-    let m = (k.left - bytes) / stride;
-    if n <= m {
-        return n;
-    }
-    m + 1
+    run_of(k.left - bytes, stride, n)
 }
 
 // The cells of n records in the image: one group's from p on, the other's from q on.
@@ -92,7 +75,7 @@ pub(crate) fn some_same(
     let b = q.spot.cursor;
     let x = run_here(image, a, p.stride, p.count, h.length);
     let y = run_here(image, b, q.stride, q.count, i.length);
-    let m = least(x, y);
+    let m = x.min(y);
     if m == 0 {
         let equal = cell_same(image, one, a, h, two, b, i);
         return Compared { equal, count: 1 };

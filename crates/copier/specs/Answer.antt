@@ -1,12 +1,11 @@
 -- The code's answers, as definitions speak of them.
-use Rattle.std.specs.Prelude.{ℕ}
+use Rattle.std.specs.Prelude.{ℕ, Some, None}
+use Rattle.std.specs.Prelude as std
 use Rattle.std.proofs.Math.Option.{Option, none, some}
-use Rattle.copier.specs.declared.memo.Found.{Found}
-use Rattle.copier.specs.declared.memo.Found.TheVariants.{At, Nothing}
 
-abbrev pub found_of : Found → Option ℕ
-found_of (At a) = some a
-found_of Nothing = none
+abbrev pub found_of : std.Option ℕ → Option ℕ
+found_of (Some a) = some a
+found_of None = none
 
 -- a link to a block that isn't copied becomes 0
 abbrev pub link_of : Option ℕ → ℕ

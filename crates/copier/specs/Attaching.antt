@@ -1,13 +1,14 @@
 -- The attachment chain in words: whether it goes on, and what the code answers.
-use Rattle.std.specs.Prelude.{ℕ, zero, suc, ◌+◌, ◌*◌, ◌≤◌, List, ◌≡◌, Bool, true, false, eqb, length, get_or}
+use Rattle.std.specs.Prelude.{ℕ, zero, suc, ◌+◌, ◌*◌, ◌≤◌, List, ◌≡◌, Bool, true, false, eqb, length, get_or, Result, Ok, Err}
 use Rattle.base.specs.Choice.{pick}
 use Rattle.base.specs.Checked.{Checked, ok, refused}
 use Rattle.base.specs.Blit.{blit}
 use Rattle.plan.specs.Copies.{Attached}
 use Rattle.work_words.specs.CopyWords.{attachment_words, attachments_at}
 use Rattle.copier.specs.declared.memo.Copying.{Copying}
-use Rattle.copier.specs.declared.attachments.Moved.{Moved}
-use Rattle.copier.specs.declared.attachments.Moved.TheVariants.{At, Refused}
+use Rattle.copier.specs.declared.memo.Chain.{Chain}
+use Rattle.fields.specs.declared.refusal.Refusal.{Refusal}
+use Rattle.fields.specs.Answer.{number_of, place_of}
 use Rattle.copier.specs.Standing.{standing, Past}
 
 -- whether a is one of so many attachments from word p on
@@ -36,6 +37,6 @@ pub record MovedAll (count : ℕ) (w w' : List ℕ) (s t : Copying) (v : Checked
   pub is : v ≡ ok moving.told
 
 -- with words w at entry and w' at exit the answer is what is defined; after a refusal the words are not said
-abbrev pub Moves : List ℕ → List ℕ → Copying → Moved → Checked Attached → Type 0
-Moves w w' s (At count t) v = MovedAll count w w' s t v
-Moves w w' s (Refused number place) v = v ≡ refused number place
+abbrev pub Moves : List ℕ → List ℕ → Copying → Result Chain Refusal → Checked Attached → Type 0
+Moves w w' s (Ok k) v = MovedAll k.count w w' s k.state v
+Moves w w' s (Err x) v = v ≡ refused (number_of x) (place_of x)

@@ -1,5 +1,5 @@
 -- The ways of the attachment chain.
-use Rattle.std.specs.Prelude.{ℕ, zero, suc, ◌+◌, ◌*◌, ◌-◌, ◌≤◌, ◌<◌, List, [], ◌∷◌, ◌++◌, ◌≡◌, refl, Bool, true, false, eqb, ltb, set, get_or}
+use Rattle.std.specs.Prelude.{ℕ, zero, suc, ◌+◌, ◌*◌, ◌-◌, ◌≤◌, ◌<◌, List, [], ◌∷◌, ◌++◌, ◌≡◌, refl, Bool, true, false, eqb, ltb, set, get_or, Result, Ok, Err}
 use Rattle.std.proofs.Math.Path.{sym, ap}
 use Rattle.std.proofs.Common.{◌∙◌, sub-one, eq-eqb, ne_eqb, length-drop, length-set, get_or-drop, get_or-set_same, get_or-set_other}
 use native.Mathlib.Omega.{arith}
@@ -14,8 +14,8 @@ use Rattle.plan.specs.Copies.{Copies, copies, copy_root, copy_links, Attachment,
 use Rattle.plan.specs.Photos.{kind_at_block, most_attachments, attachment_in}
 use Rattle.work_words.specs.CopyWords.{attachment_words, attachments_at}
 use Rattle.copier.specs.declared.memo.Copying.{Copying}
-use Rattle.copier.specs.declared.copies.Got.{Got}
-use Rattle.copier.specs.declared.copies.Got.TheVariants as got
+use Rattle.fields.specs.declared.refusal.Refusal.{Refusal}
+use Rattle.fields.specs.Answer.{number_of, place_of}
 use Rattle.copier.specs.Standing.{copies_from, copies_in, standing, Room, Ready, Past}
 use Rattle.copier.specs.StandingLaws.{length-copies, copies-set, align_near, past_more, past_then, past_same}
 use Rattle.copier.specs.Got.{Copied, AfterGot}
@@ -133,23 +133,22 @@ attach_open most (suc turns) s a t h =
     go false false (ok u) true (ok x) true = refl
     go false false (ok u) true (ok x) false = refl
 
-pub goes_by : (s : List ℕ) (a n : ℕ) {m b : Bool} {g h : Going} → b ≡ m → going_as g ≡ goes_on s a b n → g ≡ h → going_as h ≡ goes_on s a m n
-goes_by s a n e i q = rw (← q, ← e) i
+pub goes_by : (s : List ℕ) (a n : ℕ) {m b : Bool} {g h : Result Going Refusal} → b ≡ m → going_as g ≡ goes_on s a b n → g ≡ h → goes_on s a m n ≡ going_as h
+goes_by s a n e i q = rw (← e, ← q) (sym i)
 
 -- ---- the walk along the chain
-pub record Chaining (most : ℕ) (s w₀ : List ℕ) (a : ℕ) (st₀ : Copying) (w : List ℕ) (at count turns : ℕ) (st : Copying) : Type 0 where
+pub record Chaining (most : ℕ) (s w₀ : List ℕ) (a : ℕ) (st₀ : Copying) (w : List ℕ) (at count : ℕ) (st : Copying) : Type 0 where
   pub moving : Moving count w₀ w st₀ st
   pub same : length w ≡ length w₀
   pub words : 8192 ≤ length w
   pub limit : most ≤ 2050
   pub short : length s ≤ 140737488355328
   pub start : st₀.next ≤ 576460752303423488
-  pub sum : count + turns ≡ 66
   pub room : Room st.used st.next
-  pub rest : attachments_from most turns s at moving.told ≡ attachments_of most s a (standing w₀ st₀)
+  pub rest : attachments_from most (66 - count) s at moving.told ≡ attachments_of most s a (standing w₀ st₀)
 
 pub chain_begin : (most : ℕ) (s w : List ℕ) (a : ℕ) (st : Copying) → Ready w most st → length s ≤ 140737488355328
-    → Chaining most s w a st w a 0 66 st
+    → Chaining most s w a st w a 0 st
 unfolding attachments_of attachment_words blit
 chain_begin most s w a st r l =
     record {
@@ -168,17 +167,12 @@ chain_begin most s w a st r l =
       limit = r.limit;
       short = l;
       start = r.near;
-      sum = refl;
       room = record { few = r.few; near = omega (arith, r.near) };
       rest = refl;
     }
 
-module _ {most : ℕ} {s w₀ : List ℕ} {a : ℕ} {st₀ : Copying} {w : List ℕ} {at count turns : ℕ} {st : Copying}
-    (u : Chaining most s w₀ a st₀ w at count turns st) where
-  pub chain-out : turns ≡ 0 → MovedAll count w₀ w st₀ st (attachments_of most s a (standing w₀ st₀))
-  unfolding attachments_from
-  chain-out e = record { moving = u.moving; is = sym (rw e at u.rest) }
-
+module _ {most : ℕ} {s w₀ : List ℕ} {a : ℕ} {st₀ : Copying} {w : List ℕ} {at count : ℕ} {st : Copying}
+    (u : Chaining most s w₀ a st₀ w at count st) where
   met_told : attached_in w 4100 count at ≡ is_attached at u.moving.told.attachments
   met_told =
       let m = u.moving in
@@ -186,73 +180,72 @@ module _ {most : ℕ} {s w₀ : List ℕ} {a : ℕ} {st₀ : Copying} {w : List 
       ∙ ap (λ (k : ℕ). attached_in (blit 4100 (attachment_words m.told.attachments) w₀) 4100 k at) (sym m.counted)
       ∙ attached_blit m.told.attachments w₀ 4100 at (omega arith)
 
-  module _ (h : 0 < turns) where
-    opened : {v : Checked Bool} → goes_on s at (attached_in w 4100 count at) count ≡ v
-        → on_attaches v u.moving.told (attach_more most (turns - 1) s at u.moving.told) ≡ attachments_of most s a (standing w₀ st₀)
-    opened e =
-        ap (λ (v : Checked Bool). on_attaches v u.moving.told (attach_more most (turns - 1) s at u.moving.told))
-        (sym e ∙ ap (λ (b : Bool). goes_on s at b count) met_told
-        ∙ ap (λ (n : ℕ). goes_on s at (is_attached at u.moving.told.attachments) n) (sym u.moving.counted))
-        ∙ sym (attach_open most turns s at u.moving.told h) ∙ u.rest
+  opened : {v : Checked Bool} → goes_on s at (attached_in w 4100 count at) count ≡ v
+      → on_attaches v u.moving.told (attach_more most (66 - count - 1) s at u.moving.told) ≡ attachments_of most s a (standing w₀ st₀)
+  opened e =
+      ap (λ (v : Checked Bool). on_attaches v u.moving.told (attach_more most (66 - count - 1) s at u.moving.told))
+      (sym e ∙ ap (λ (b : Bool). goes_on s at b count) met_told
+      ∙ ap (λ (n : ℕ). goes_on s at (is_attached at u.moving.told.attachments) n) (sym u.moving.counted))
+      ∙ sym (attach_open most (66 - count) s at u.moving.told (omega (arith, u.moving.few))) ∙ u.rest
 
-    pub chain-ends : goes_on s at (attached_in w 4100 count at) count ≡ ok false → MovedAll count w₀ w st₀ st (attachments_of most s a (standing w₀ st₀))
-    chain-ends e = record { moving = u.moving; is = sym (opened e) }
+  pub chain-ends : goes_on s at (attached_in w 4100 count at) count ≡ ok false → MovedAll count w₀ w st₀ st (attachments_of most s a (standing w₀ st₀))
+  chain-ends e = record { moving = u.moving; is = sym (opened e) }
 
-    pub chain_refused : {n p : ℕ} → goes_on s at (attached_in w 4100 count at) count ≡ refused n p → attachments_of most s a (standing w₀ st₀) ≡ refused n p
-    chain_refused e = sym (opened e)
+  pub chain_refused : {n p : ℕ} → goes_on s at (attached_in w 4100 count at) count ≡ refused n p → attachments_of most s a (standing w₀ st₀) ≡ refused n p
+  chain_refused e = sym (opened e)
 
-    module _ (e : goes_on s at (attached_in w 4100 count at) count ≡ ok true) {n : ℕ} (l : n ≡ links_at s at) {w' : List ℕ} {g : Got}
-        (c : Copied w w' g (copy_links (copy_root most s) s (n - 1) (at + 32) (standing w st))) where
-      followed : {v : Checked Copies} → v ≡ copy_links (copy_root most s) s (n - 1) (at + 32) (standing w st)
-          → copy_links (copy_root most s) s (links_at s at - 1) (at + 32) (standing w st) ≡ v
-      followed q = rw (← l) (sym q)
+  module _ (e : goes_on s at (attached_in w 4100 count at) count ≡ ok true) {n : ℕ} (l : n ≡ links_at s at) {w' : List ℕ} {g : Result Copying Refusal}
+      (c : Copied w w' g (copy_links (copy_root most s) s (n - 1) (at + 32) (standing w st))) where
+    followed : {v : Checked Copies} → v ≡ copy_links (copy_root most s) s (n - 1) (at + 32) (standing w st)
+        → copy_links (copy_root most s) s (links_at s at - 1) (at + 32) (standing w st) ≡ v
+    followed q = rw (← l) (sym q)
 
-      pub chain_stopped : {k p : ℕ} → g ≡ got.Refused k p → attachments_of most s a (standing w₀ st₀) ≡ refused k p
-      unfolding attach_more
-      chain_stopped q = sym (rw (u.moving.made, followed (copied_refused c q)) at (opened e))
+    pub chain_stopped : {x : Refusal} → g ≡ Err x → attachments_of most s a (standing w₀ st₀) ≡ refused (number_of x) (place_of x)
+    unfolding attach_more
+    chain_stopped q = sym (rw (u.moving.made, followed (copied_refused c q)) at (opened e))
 
-      pub chain_next : {t r : Copying} {b size : ℕ} {x : List ℕ} → AfterGot g st → g ≡ got.At t → length w' ≡ length w → size ≡ size_at s at
-          → x ≡ blit (4100 + 3 * count) (at ∷ align8 t.next ∷ (t.used - st.used) ∷ []) w'
-          → r ≡ record { used = t.used; next = align8 (align8 t.next + size) } → b ≡ first_link s at
-          → Chaining most s w₀ a st₀ x b (count + 1) (turns - 1) r
-      unfolding attach_more attach
-      chain_next {t} {r} {b} {size} {x} f q k z j i y =
-          let d = copied_at c q in
-          let k' = after-at f q in
-          let m = u.moving in
-          let g = goes_fits s at (attached_in w 4100 count at) count e in
-          let new : Attachment = record { from = at; to = align8 t.next; own = drop (length (copies_in w st.used)) (copies_in w' t.used) } in
-          let own : length new.own ≡ t.used - st.used = simp (length-drop, length-copies) in
-          let told : Attached = record { attachments = m.told.attachments ++ (new ∷ []); made = copies (copies_in w' t.used) (align8 (align8 t.next + size_at s at)) } in
-          let kept : copies_in x t.used ≡ copies_in w' t.used = rw j (copies-blit _ w' t.used (4100 + 3 * count) (omega arith)) in
-          let long : length x ≡ length w' = rw j (length-blit _ _ w') in
-          let near = align_near t.next in
-          let near' = align_near (align8 t.next + size) in
-          let words : length (attachment_words m.told.attachments) ≡ 3 * count = length-words m.told.attachments ∙ ap (λ (n : ℕ). 3 * n) m.counted in
-          let past : Past (2 * t.used) (blit attachments_at (attachment_words told.attachments) w₀) x =
-          rw (words_snoc m.told.attachments new, own, blit-append (attachment_words m.told.attachments) 4100 _ w₀, words, j)
-          (past-blit _ (4100 + 3 * count) (omega arith) (past_then (past_more _ (omega arith) m.past) d.1)) in
-          rw i
-          (record {
-            moving = record {
-              told = told;
-              made = rw (kept, z);
-              counted = simp length-append (omega arith);
-              few = omega arith;
-              more = omega arith;
-              most = omega arith;
-              near = omega arith;
-              past = past;
-            };
-            same = long ∙ k ∙ u.same;
-            words = omega arith;
-            limit = u.limit;
-            short = u.short;
-            start = u.start;
-            sum = omega arith;
-            room = record { few = omega arith; near = omega arith };
-            rest = rw y (rw (u.moving.made, followed d.0) at (opened e));
-          })
+    pub chain_next : {t r : Copying} {b size : ℕ} {x : List ℕ} → AfterGot g st → g ≡ Ok t → length w' ≡ length w → size ≡ size_at s at
+        → x ≡ blit (4100 + 3 * count) (at ∷ align8 t.next ∷ (t.used - st.used) ∷ []) w'
+        → r ≡ record { used = t.used; next = align8 (align8 t.next + size) } → b ≡ first_link s at
+        → Chaining most s w₀ a st₀ x b (count + 1) r
+    unfolding attach_more attach
+    chain_next {t} {r} {b} {size} {x} f q k z j i y =
+        let d = copied_at c q in
+        let k' = after-at f q in
+        let m = u.moving in
+        let g = goes_fits s at (attached_in w 4100 count at) count e in
+        let turns : 66 - (count + 1) ≡ 66 - count - 1 = omega arith in
+        let new : Attachment = record { from = at; to = align8 t.next; own = drop (length (copies_in w st.used)) (copies_in w' t.used) } in
+        let own : length new.own ≡ t.used - st.used = simp (length-drop, length-copies) in
+        let told : Attached = record { attachments = m.told.attachments ++ (new ∷ []); made = copies (copies_in w' t.used) (align8 (align8 t.next + size_at s at)) } in
+        let kept : copies_in x t.used ≡ copies_in w' t.used = rw j (copies-blit _ w' t.used (4100 + 3 * count) (omega arith)) in
+        let long : length x ≡ length w' = rw j (length-blit _ _ w') in
+        let near = align_near t.next in
+        let near' = align_near (align8 t.next + size) in
+        let words : length (attachment_words m.told.attachments) ≡ 3 * count = length-words m.told.attachments ∙ ap (λ (n : ℕ). 3 * n) m.counted in
+        let past : Past (2 * t.used) (blit attachments_at (attachment_words told.attachments) w₀) x =
+        rw (words_snoc m.told.attachments new, own, blit-append (attachment_words m.told.attachments) 4100 _ w₀, words, j)
+        (past-blit _ (4100 + 3 * count) (omega arith) (past_then (past_more _ (omega arith) m.past) d.1)) in
+        rw i
+        (record {
+          moving = record {
+            told = told;
+            made = rw (kept, z);
+            counted = simp length-append (omega arith);
+            few = omega arith;
+            more = omega arith;
+            most = omega arith;
+            near = omega arith;
+            past = past;
+          };
+          same = long ∙ k ∙ u.same;
+          words = omega arith;
+          limit = u.limit;
+          short = u.short;
+          start = u.start;
+          room = record { few = omega arith; near = omega arith };
+          rest = rw (turns, y) (rw (u.moving.made, followed d.0) at (opened e));
+        })
 
 -- ---- words past the copies leave the index
 pub indexed_blit : (bs w x : List ℕ) (n j : ℕ) → 2 * n ≤ j → Indexed w n x → Indexed (blit j bs w) n x

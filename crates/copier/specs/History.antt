@@ -1,6 +1,6 @@
 -- The history chain in words: whether it goes on, and what the code answers.
 use Prim.{Unit}
-use Rattle.std.specs.Prelude.{ℕ, ◌*◌, ◌≤◌, List, [], ◌≡◌, Bool, true, false}
+use Rattle.std.specs.Prelude.{ℕ, ◌*◌, ◌≤◌, List, [], ◌≡◌, Bool, true, false, Result, Ok, Err}
 use Rattle.std.proofs.Math.Option.{some}
 use Rattle.base.specs.Choice.{pick, if_eq}
 use Rattle.base.specs.Checked.{Checked, ok, refused, and_then}
@@ -10,8 +10,9 @@ use Rattle.mdf.specs.Chain.{is_in}
 use Rattle.plan.specs.Copies.{Copies, copies, is_copied, copy_of, copy_root, History, history, history_of}
 use Rattle.work_words.specs.CopyWords.{history_at}
 use Rattle.copier.specs.declared.memo.Copying.{Copying}
-use Rattle.copier.specs.declared.history.Chain.{Chain}
-use Rattle.copier.specs.declared.history.Chain.TheVariants.{At, Refused}
+use Rattle.copier.specs.declared.memo.Chain.{Chain}
+use Rattle.fields.specs.declared.refusal.Refusal.{Refusal}
+use Rattle.fields.specs.Answer.{number_of, place_of}
 use Rattle.copier.specs.Standing.{copies_in, standing, Past}
 use Rattle.copier.specs.Got.{After}
 
@@ -31,9 +32,9 @@ on_goes (refused number place) h more = refused number place
 abbrev pub chain_in : List ℕ → ℕ → List ℕ
 chain_in w k = part history_at k w
 
-abbrev pub chain_of : Chain → List ℕ → Checked History
-chain_of (At count s) w = ok (history (chain_in w count) (standing w s))
-chain_of (Refused number place) w = refused number place
+abbrev pub chain_of : Result Chain Refusal → List ℕ → Checked History
+chain_of (Ok k) w = ok (history (chain_in w k.count) (standing w k.state))
+chain_of (Err x) w = refused (number_of x) (place_of x)
 
 -- each of them is copied
 pub record ChainCopied (w : List ℕ) (count used : ℕ) : Type 0 where
@@ -45,12 +46,12 @@ pub record ChainLaid (count : ℕ) (w w' : List ℕ) (s t : Copying) : Type 0 wh
   pub after : After 0 s t
   pub past : Past (2 * t.used) (blit history_at (chain_in w' count) w) w'
 
-abbrev pub Laid : Chain → List ℕ → List ℕ → Copying → Type 0
-Laid (At count t) w w' s = ChainLaid count w w' s t
-Laid (Refused number place) w w' s = Unit {0}
+abbrev pub Laid : Result Chain Refusal → List ℕ → List ℕ → Copying → Type 0
+Laid (Ok k) w w' s = ChainLaid k.count w w' s k.state
+Laid (Err x) w w' s = Unit {0}
 
 -- with words w at entry and w' at exit the answer r is what is defined; after a refusal the words are not said
-pub record Chained (w w' : List ℕ) (s : Copying) (r : Chain) (v : Checked History) : Type 0 where
+pub record Chained (w w' : List ℕ) (s : Copying) (r : Result Chain Refusal) (v : Checked History) : Type 0 where
   pub is : chain_of r w' ≡ v
   pub laid : Laid r w w' s
 
@@ -68,8 +69,8 @@ pub record FirstCopies (most count : ℕ) (s m m' : List ℕ) (t : Copying) : Ty
   pub after : After 0 start t
   pub past : Past (2 * t.used) (blit history_at (chain_in m' count) m) m'
 
-abbrev pub Begins : ℕ → List ℕ → List ℕ → List ℕ → Chain → Type 0
-Begins most s m m' (At count t) = FirstCopies most count s m m' t
-Begins most s m m' (Refused number place) =
+abbrev pub Begins : ℕ → List ℕ → List ℕ → List ℕ → Result Chain Refusal → Type 0
+Begins most s m m' (Ok k) = FirstCopies most k.count s m m' k.state
+Begins most s m m' (Err x) =
     and_then (copy_root most s (link_at s 64 5) (copies [] 168)) (λ x. history_of most s (link_at s 64 1) x)
-    ≡ refused number place
+    ≡ refused (number_of x) (place_of x)

@@ -1,8 +1,8 @@
 -- The ways of the history chain.
 use Prim.{tt}
-use Rattle.std.specs.Prelude.{ℕ, zero, suc, ◌+◌, ◌*◌, ◌-◌, ◌≤◌, ◌<◌, ◌≡◌, refl, Bool, true, false, eqb, take, drop, set}
+use Rattle.std.specs.Prelude.{ℕ, zero, suc, ◌+◌, ◌*◌, ◌-◌, ◌≤◌, ◌<◌, ◌≡◌, refl, Bool, true, false, eqb, take, drop, set, Result, Ok, Err}
 use mathlib.Core.List.{List, [], ◌∷◌, ◌++◌}
-use Rattle.std.proofs.Common.{sym, ◌∙◌, subst, zero-add, sub-one, add-one, eqb-true, length-drop, take-suc-set, length-take-le}
+use Rattle.std.proofs.Common.{sym, ◌∙◌, subst, sub-one, add-one, eqb-true, length-drop, take-suc-set, length-take-le}
 use Rattle.std.proofs.Math.Path.{ap}
 use Rattle.std.proofs.Math.Option.{Option, none, some}
 use native.Mathlib.Omega.{arith}
@@ -11,6 +11,8 @@ use Rattle.blocks.specs.AnswerLaws.{refused≢ok}
 use Rattle.base.specs.CheckedLaws.{ok_same}
 use Rattle.std.proofs.Math.ListN.{length, length-set}
 use Rattle.std.proofs.lemmas.List.{drop-set-add}
+use Rattle.std.specs.List.{list_any}
+use Rattle.photos.specs.FollowedLaws.{is_in-any}
 use Rattle.base.specs.Choice.{pick, if_eq}
 use Rattle.base.specs.ChoiceLaws.{eq_yes, eq_no}
 use Rattle.base.specs.Checked.{Checked, ok, refused, and_then, Verdict}
@@ -22,10 +24,9 @@ use Rattle.plan.specs.Copies.{copies, copy_of, copy_root, is_copied, History, hi
 use Rattle.work_words.specs.CopyWords.{history_at}
 use Rattle.copies_laws.specs.MemoLaws.{root_kept}
 use Rattle.copier.specs.declared.memo.Copying.{Copying}
-use Rattle.copier.specs.declared.copies.Got.{Got}
-use Rattle.copier.specs.declared.copies.Got.TheVariants as got
-use Rattle.copier.specs.declared.history.Chain.{Chain}
-use Rattle.copier.specs.declared.history.Chain.TheVariants.{At, Refused}
+use Rattle.copier.specs.declared.memo.Chain.{Chain}
+use Rattle.fields.specs.declared.refusal.Refusal.{Refusal}
+use Rattle.fields.specs.Answer.{number_of, place_of}
 use Rattle.copier.specs.Standing.{copies_from, copies_in, standing, Room, Past}
 use Rattle.copier.specs.StandingLaws.{copies-set, past_more, past_then, past_same}
 use Rattle.copier.specs.Got.{Copied, After, AfterGot}
@@ -60,11 +61,10 @@ module _ (s : List ℕ) (a : ℕ) (chain : List ℕ) (link : a ≡ 0 → ⊥) wh
       unfolding goes_on
       goes_on_lem k l = eq_no _ _ _ _ link (rw (i, v, k) (eq_no _ _ _ _ l refl))
 
--- in the chain or not, by the search of the words
-pub in_chain : (w : List ℕ) (i k a : ℕ) {b : Bool} → b ≡ is_in a (part i (i + k - i) w) → {x : Bool} → b ≡ x → is_in a (part i k w) ≡ x
-in_chain w i k a q h =
-    let e : i + k - i ≡ k = omega arith in
-    sym (rw e at q) ∙ h
+-- in the chain or not, by std's search of the words
+pub in_chain : (w : List ℕ) (k a : ℕ) → list_any (λ y. eqb y a) (take (4352 + k - 4352) (drop 4352 w)) ≡ is_in a (chain_in w k)
+unfolding part
+in_chain w k a = let e : 4352 + k - 4352 ≡ k = omega arith in rw e (is_in-any a (take k (drop 4352 w)))
 
 -- ---- the next block: whether the chain goes on, then its copy, then the rest
 history_more : ℕ → ℕ → List ℕ → ℕ → History → Checked History
@@ -167,77 +167,78 @@ past_snoc i bs x k b l h p =
     rw (blit-append bs i (b ∷ []) x, l, blit-one (i + k) b (blit i bs x)) (past-both (i + k) b (omega arith) p)
 
 -- ---- the walk along the chain
-pub record Walked (most : ℕ) (s w₀ : List ℕ) (a : ℕ) (st₀ : Copying) (w : List ℕ) (at count turns : ℕ) (st : Copying) : Type 0 where
+pub record Walked (most : ℕ) (s w₀ : List ℕ) (a : ℕ) (st₀ : Copying) (w : List ℕ) (at count : ℕ) (st : Copying) : Type 0 where
   pub same : length w ≡ length w₀
   pub words : 8192 ≤ length w
-  pub sum : count + turns ≡ most + 1
+  pub within : count ≤ most + 1
   pub limit : most ≤ 2050
   pub after : After 0 st₀ st
   pub past : Past (2 * st.used) (blit history_at (chain_in w count) w₀) w
-  pub rest : history_from most turns s at (history (chain_in w count) (standing w st)) ≡ history_of most s a (standing w₀ st₀)
+  pub rest : history_from most (most + 1 - count) s at (history (chain_in w count) (standing w st)) ≡ history_of most s a (standing w₀ st₀)
 
 pub walk_begin : (most : ℕ) (s w : List ℕ) (a : ℕ) (st : Copying) → 8192 ≤ length w → most ≤ 2050 → Room st.used st.next
-    → Walked most s w a st w a 0 (most + 1) st
+    → Walked most s w a st w a 0 st
 unfolding history_of part blit
 walk_begin most s w a st h l r =
-    record { same = refl; words = h; sum = zero-add (most + 1); limit = l; after = after_same st r; past = past_same _ w; rest = refl }
+    record { same = refl; words = h; within = omega arith; limit = l; after = after_same st r; past = past_same _ w; rest = let z : most + 1 - 0 ≡ most + 1 = omega arith in rw z }
 
-module _ {most : ℕ} {s w₀ : List ℕ} {a : ℕ} {st₀ : Copying} {w : List ℕ} {at count turns : ℕ} {st : Copying}
-    (u : Walked most s w₀ a st₀ w at count turns st) where
+module _ {most : ℕ} {s w₀ : List ℕ} {a : ℕ} {st₀ : Copying} {w : List ℕ} {at count : ℕ} {st : Copying}
+    (u : Walked most s w₀ a st₀ w at count st) where
   laid-here : ChainLaid count w₀ w st₀ st
   laid-here = record { few = omega arith; after = u.after; past = u.past }
 
-  pub walk-out : turns ≡ 0 → Chained w₀ w st₀ (At count st) (history_of most s a (standing w₀ st₀))
+  pub walk-out : most + 1 ≤ count → Chained w₀ w st₀ (Ok (record { count = count; state = st })) (history_of most s a (standing w₀ st₀))
   unfolding history_from
-  walk-out e = record { is = rw e at u.rest; laid = laid-here }
+  walk-out e = let z : most + 1 - count ≡ 0 = omega arith in record { is = rw z at u.rest; laid = laid-here }
 
-  module _ (h : 0 < turns) where
+  module _ (h : count < most + 1) where
     opened : {v : Checked Bool} → goes_on s at (chain_in w count) ≡ v
-        → on_goes v (history (chain_in w count) (standing w st)) (history_more most (turns - 1) s at (history (chain_in w count) (standing w st)))
+        → on_goes v (history (chain_in w count) (standing w st)) (history_more most (most + 1 - count - 1) s at (history (chain_in w count) (standing w st)))
         ≡ history_of most s a (standing w₀ st₀)
     opened e =
-        ap (λ (v : Checked Bool). on_goes v (history (chain_in w count) (standing w st)) (history_more most (turns - 1) s at (history (chain_in w count) (standing w st)))) (sym e)
-        ∙ sym (history_open most turns s at (history (chain_in w count) (standing w st)) h) ∙ u.rest
+        ap (λ (v : Checked Bool). on_goes v (history (chain_in w count) (standing w st)) (history_more most (most + 1 - count - 1) s at (history (chain_in w count) (standing w st)))) (sym e)
+        ∙ sym (history_open most (most + 1 - count) s at (history (chain_in w count) (standing w st)) (omega arith)) ∙ u.rest
 
-    pub walk_ends : goes_on s at (chain_in w count) ≡ ok false → Chained w₀ w st₀ (At count st) (history_of most s a (standing w₀ st₀))
+    pub walk_ends : goes_on s at (chain_in w count) ≡ ok false → Chained w₀ w st₀ (Ok (record { count = count; state = st })) (history_of most s a (standing w₀ st₀))
     walk_ends e = record { is = opened e; laid = laid-here }
 
-    pub walk_refused : {n p : ℕ} → goes_on s at (chain_in w count) ≡ refused n p → Chained w₀ w st₀ (Refused n p) (history_of most s a (standing w₀ st₀))
+    pub walk_refused : {x : Refusal} → goes_on s at (chain_in w count) ≡ refused (number_of x) (place_of x) → Chained w₀ w st₀ (Err x) (history_of most s a (standing w₀ st₀))
     walk_refused e = record { is = opened e; laid = tt }
 
-    module _ (e : goes_on s at (chain_in w count) ≡ ok true) {w' : List ℕ} {g : Got} (c : Copied w w' g (copy_root most s at (standing w st))) where
-      pub walk_stopped : {n p : ℕ} → g ≡ got.Refused n p → Chained w₀ w' st₀ (Refused n p) (history_of most s a (standing w₀ st₀))
+    module _ (e : goes_on s at (chain_in w count) ≡ ok true) {w' : List ℕ} {g : Result Copying Refusal} (c : Copied w w' g (copy_root most s at (standing w st))) where
+      pub walk_stopped : {x : Refusal} → g ≡ Err x → Chained w₀ w' st₀ (Err x) (history_of most s a (standing w₀ st₀))
       unfolding history_more
       walk_stopped q = record { is = rw (sym (copied_refused c q)) at (opened e); laid = tt }
 
-      pub walk-next : {t : Copying} {b : ℕ} → AfterGot g st → g ≡ got.At t → length w' ≡ length w → b ≡ first_link s at
-          → Walked most s w₀ a st₀ (set w' (4352 + count) at) b (count + 1) (turns - 1) t
+      pub walk-next : {t : Copying} {b : ℕ} → AfterGot g st → g ≡ Ok t → length w' ≡ length w → b ≡ first_link s at
+          → Walked most s w₀ a st₀ (set w' (4352 + count) at) b (count + 1) t
       unfolding history_more
       walk-next {t} {b} f q l z =
           let k = after-at f q in
           let d = copied_at c q in
           let i : 4352 + count < length w' = omega arith in
           let chain : chain_in w' count ≡ chain_in w count = part-past history_at count d.1 (omega arith) in
+          let turns : most + 1 - (count + 1) ≡ most + 1 - count - 1 = omega arith in
           let more : chain_in (set w' (4352 + count) at) (count + 1) ≡ chain_in w count ++ (at ∷ []) = part_snoc 4352 count at w' i ∙ ap (λ (x : List ℕ). x ++ (at ∷ [])) chain in
           let kept : copies_in (set w' (4352 + count) at) t.used ≡ copies_in w' t.used = copies-set w' 0 t.used (4352 + count) at (omega arith) in
           record {
             same = length-set w' (4352 + count) at ∙ l ∙ u.same;
             words = simp length-set (omega arith);
-            sum = omega arith;
+            within = omega arith;
             limit = u.limit;
             after = after_then u.after k;
             past = rw more (past_snoc history_at (chain_in w count) w₀ count at (length_part 4352 count w (omega arith)) (omega arith)
                 (past_then (past_more _ (omega arith) u.past) d.1));
-            rest = rw (more, kept, z) (rw (sym d.0) at (opened e));
+            rest = rw (more, kept, z, turns) (rw (sym d.0) at (opened e));
           }
 
 -- a block more
-pub copied_next : {most : ℕ} {s w₀ : List ℕ} {a : ℕ} {st₀ : Copying} {w : List ℕ} {at count turns : ℕ} {st : Copying} → Walked most s w₀ a st₀ w at count turns st → 0 < turns
-    → ChainCopied w count st.used → goes_on s at (chain_in w count) ≡ ok true → {w' : List ℕ} {t : Copying} {g : Got} → Copied w w' g (copy_root most s at (standing w st))
-    → AfterGot g st → g ≡ got.At t → length w' ≡ length w → ChainCopied (set w' (4352 + count) at) (count + 1) t.used
-copied_next {most} {s} {w₀} {a} {st₀} {w} {at} {count} {turns} {st} v h u e {w'} {t} c f q l =
+pub copied_next : {most : ℕ} {s w₀ : List ℕ} {a : ℕ} {st₀ : Copying} {w : List ℕ} {at count : ℕ} {st : Copying} → Walked most s w₀ a st₀ w at count st → count < most + 1
+    → ChainCopied w count st.used → goes_on s at (chain_in w count) ≡ ok true → {w' : List ℕ} {t : Copying} {g : Result Copying Refusal} → Copied w w' g (copy_root most s at (standing w st))
+    → AfterGot g st → g ≡ Ok t → length w' ≡ length w → ChainCopied (set w' (4352 + count) at) (count + 1) t.used
+copied_next {most} {s} {w₀} {a} {st₀} {w} {at} {count} {st} v h u e {w'} {t} c f q l =
     let n = after-at f q in
-    let i : 4352 + count < length w' = omega (arith, v.sum, v.limit, v.words) in
+    let i : 4352 + count < length w' = omega (arith, v.limit, v.words) in
     let d = copied_at c q in
     let k = root_kept most s at (standing w st) (standing w' t) (sym d.0) in
     let o = going s at (chain_in w count) e in
@@ -256,17 +257,17 @@ start-standing : (m : List ℕ) → standing m start ≡ copies [] 168
 unfolding copies_from
 start-standing m = refl
 
-module _ (most : ℕ) (s m : List ℕ) {a : ℕ} (i : a ≡ link_at s 64 5) {m₁ : List ℕ} {g : Got} (c : Copied m m₁ g (copy_root most s a (standing m start))) where
+module _ (most : ℕ) (s m : List ℕ) {a : ℕ} (i : a ≡ link_at s 64 5) {m₁ : List ℕ} {g : Result Copying Refusal} (c : Copied m m₁ g (copy_root most s a (standing m start))) where
   comment_is_lem : copy_root most s a (standing m start) ≡ copy_root most s (link_at s 64 5) (copies [] 168)
   comment_is_lem = rw (i, start-standing m)
 
-  pub first_refused : {n p : ℕ} → g ≡ got.Refused n p
-      → and_then (copy_root most s (link_at s 64 5) (copies [] 168)) (λ x. history_of most s (link_at s 64 1) x) ≡ refused n p
+  pub first_refused : {x : Refusal} → g ≡ Err x
+      → and_then (copy_root most s (link_at s 64 5) (copies [] 168)) (λ x. history_of most s (link_at s 64 1) x) ≡ refused (number_of x) (place_of x)
   first_refused e = rw (← comment_is_lem, ← copied_refused c e)
 
-  module _ {t : Copying} (e : g ≡ got.At t) (f : AfterGot g start) {b : ℕ} (j : b ≡ link_at s 64 1) where
-    pub first-chain : {m' : List ℕ} (r : Chain) → Chained m₁ m' t r (history_of most s b (standing m₁ t)) → Begins most s m m' r
-    first-chain {m'} (At count u) h =
+  module _ {t : Copying} (e : g ≡ Ok t) (f : AfterGot g start) {b : ℕ} (j : b ≡ link_at s 64 1) where
+    pub first-chain : {m' : List ℕ} (r : Result Chain Refusal) → Chained m₁ m' t r (history_of most s b (standing m₁ t)) → Begins most s m m' r
+    first-chain {m'} (Ok u) h =
         let d = copied_at c e in
         let l = h.laid in
         let k = after-at f e in
@@ -276,12 +277,12 @@ module _ (most : ℕ) (s m : List ℕ) {a : ℕ} (i : a ≡ link_at s 64 5) {m�
           is_past_lem = rw (← j) (sym h.is);
           few = l.few;
           after = after_then k l.after;
-          past = past_then (past_more _ (omega (arith, l.after.more)) (past-blit (chain_in m' count) 4352 (omega (arith, k.most)) d.1)) l.past;
+          past = past_then (past_more _ (omega (arith, l.after.more)) (past-blit (chain_in m' u.count) 4352 (omega (arith, k.most)) d.1)) l.past;
         }
-    first-chain {m'} (Refused n p) h = rw (← comment_is_lem, ← d.0, ← j) (sym h.is)
+    first-chain {m'} (Err x) h = rw (← comment_is_lem, ← d.0, ← j) (sym h.is)
       where
         d : (ok (standing m₁ t) ≡ copy_root most s a (standing m start)) × Past (2 * t.used) m m₁
         d = copied_at c e
 
-pub begins-at : (most : ℕ) (s m m' : List ℕ) (g : Chain) {count : ℕ} {t : Copying} → Begins most s m m' g → g ≡ At count t → FirstCopies most count s m m' t
+pub begins-at : (most : ℕ) (s m m' : List ℕ) (g : Result Chain Refusal) {k : Chain} → Begins most s m m' g → g ≡ Ok k → FirstCopies most k.count s m m' k.state
 begins-at most s m m' g h e = subst (Begins most s m m') e h

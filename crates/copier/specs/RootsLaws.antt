@@ -1,13 +1,13 @@
 -- The copies for columns, out of their words: what is left of them gives what all give.
 use Prim.{tt}
-use Rattle.std.specs.Prelude.{ℕ, zero, suc, ◌+◌, ◌*◌, ◌-◌, ◌≤◌, ◌<◌, List, ◌≡◌, refl, length, get_or}
+use Rattle.std.specs.Prelude.{ℕ, zero, suc, ◌+◌, ◌*◌, ◌-◌, ◌≤◌, ◌<◌, List, ◌≡◌, refl, length, get_or, Result, Ok, Err}
 use Rattle.std.proofs.Common.{sym, ◌∙◌, sub-one, arith}
 use Rattle.std.proofs.Math.ListN.{get_or-eq_default}
 use Rattle.base.specs.Checked.{ok, refused, and_then}
 use Rattle.plan.specs.Copies.{Copies, copy_roots}
 use Rattle.copier.specs.declared.memo.Copying.{Copying}
-use Rattle.copier.specs.declared.copies.Got.{Got}
-use Rattle.copier.specs.declared.copies.Got.TheVariants as got
+use Rattle.fields.specs.declared.refusal.Refusal.{Refusal}
+use Rattle.fields.specs.Answer.{number_of, place_of}
 use Rattle.copier.specs.Standing.{standing, Room, Ready}
 use Rattle.copier.specs.Got.{Copied, AfterGot}
 use Rattle.copier.specs.TurnLaws.{Held, held_begin, held_next, copied_at, copied_refused}
@@ -49,19 +49,19 @@ roots-by s w p d g c = rw (d, g, c)
 
 module _ {most : ℕ} {s w : List ℕ} {n₀ : ℕ} {m₀ : List ℕ} {st₀ : Copying} {m : List ℕ} {p n : ℕ} {st : Copying}
     (u : CopyingOf most s w n₀ m₀ st₀ m p n st) where
-  pub copying_end : n ≡ 0 → Copied m₀ m (got.At st) (copies_of most s w 0 n₀ (standing m₀ st₀))
+  pub copying_end : n ≡ 0 → Copied m₀ m (Ok st) (copies_of most s w 0 n₀ (standing m₀ st₀))
   copying_end e = record { is = sym (copying_none most s w p n (standing m st) e) ∙ u.rest; past = u.held.past }
 
   module _ (h : 0 < n) {d g c : ℕ} (i : d ≡ get_or w (p + 2) 0) (j : g ≡ get_or w (p + 1) 0) (k : c ≡ get_or w p 0)
-      {m' : List ℕ} {r : Got} (x : Copied m m' r (copy_roots most s (roots s d g c) (standing m st))) where
-    pub copying_refused : {a b : ℕ} → r ≡ got.Refused a b
-        → Copied m₀ m' (got.Refused a b) (copies_of most s w 0 n₀ (standing m₀ st₀))
-    copying_refused {a} {b} e =
-        let v : copy_roots most s (roots_at s w p) (standing m st) ≡ refused a b =
+      {m' : List ℕ} {r : Result Copying Refusal} (x : Copied m m' r (copy_roots most s (roots s d g c) (standing m st))) where
+    pub copying_refused : {y : Refusal} → r ≡ Err y
+        → Copied m₀ m' (Err y) (copies_of most s w 0 n₀ (standing m₀ st₀))
+    copying_refused {y} e =
+        let v : copy_roots most s (roots_at s w p) (standing m st) ≡ refused (number_of y) (place_of y) =
         rw (roots-by s w p i j k) at (sym (copied_refused x e)) in
         record { is = rw (copying_cons most s w p n (standing m st) h, v) at u.rest; past = tt }
 
-    pub copying_next : {t : Copying} → AfterGot r st → r ≡ got.At t → length m' ≡ length m
+    pub copying_next : {t : Copying} → AfterGot r st → r ≡ Ok t → length m' ≡ length m
         → CopyingOf most s w n₀ m₀ st₀ m' (p + 8) (n - 1) t
     copying_next {t} f e l =
         let v : copy_roots most s (roots_at s w p) (standing m st) ≡ ok (standing m' t) =

@@ -1,20 +1,20 @@
 -- The laws of the copies that stand in words: the search for one, one copy more, what a store past them leaves.
-use Rattle.std.specs.Prelude.{ℕ, zero, suc, ◌+◌, ◌*◌, ◌-◌, ◌≤◌, ◌<◌, List, [], ◌∷◌, ◌++◌, ◌≡◌, Bool, true, false, eqb, length, get_or, set, drop}
+use Rattle.std.specs.Prelude.{ℕ, zero, suc, ◌+◌, ◌*◌, ◌-◌, ◌≤◌, ◌<◌, List, [], ◌∷◌, ◌++◌, ◌≡◌, Bool, true, false, eqb, ltb, min, ◌/◌, length, take, get_or, set, drop}
 use Rattle.std.proofs.Math.Path.{refl}
-use Rattle.std.proofs.Common.{sym, ap, ◌∙◌, add-zero, sub-one, add-one, length-set, get_or-set_same, get_or-set_other, drop-set-lt, drop-drop, drop-cons}
+use Rattle.std.proofs.Common.{ltb-true, ltb-false, sym, ap, ◌∙◌, add-zero, sub-one, length-set, get_or-set_same, get_or-set_other, drop-set-lt, drop-drop}
 use Rattle.std.proofs.Math.Option.{Option, none, some}
+use Rattle.std.specs.Prelude.{Some, None}
+use Rattle.std.specs.Prelude as std
+use Rattle.std.specs.Option.{unwrap_or}
 use native.Mathlib.Omega.{arith}
-use borrow.Author.Tests.{eq-eqb, ne_eqb}
 use Rattle.std.proofs.Math.ListN.{get_or-eq_default}
+use Rattle.std.proofs.lemmas.List.{get_or-take}
+use Rattle.std.proofs.Common.{length-take-le}
 use Rattle.base.specs.Choice.{pick, if_eq}
 use Rattle.base.specs.ChoiceLaws.{eq_yes, eq_no}
-use Rattle.base.specs.Blit.{part}
-use Rattle.mdf.specs.Chain.{is_in}
 use Rattle.plan.specs.Geometry.{align8}
 use Rattle.plan.specs.Copies.{Copy, copy_of, with_copy}
 use Rattle.copier.specs.declared.memo.Copying.{Copying}
-use Rattle.copier.specs.declared.memo.Found.{Found}
-use Rattle.copier.specs.declared.memo.Found.TheVariants.{At, Nothing}
 use Rattle.copier.specs.Answer.{found_of, link_of}
 use Rattle.copier.specs.Standing.{copy, copies_from, copies_in, standing, Past}
 
@@ -48,15 +48,9 @@ module _ (w : List ℕ) (p k a : ℕ) {o : Option ℕ} where
   find_miss i h e = eq_no _ _ _ _ e refl ∙ (rw (copies_cons w p k h) at i)
 
 -- ---- a link led to its copy
-pub link_at : {o : Found} {v : Option ℕ} {x : ℕ} → found_of o ≡ v → o ≡ At x → x ≡ link_of v
-link_at {o} {v} {x} e q =
-    let k : some x ≡ v = rw q at e in
-    ap link_of k
-
-pub link-none : {o : Found} {v : Option ℕ} → found_of o ≡ v → o ≡ Nothing → 0 ≡ link_of v
-link-none {o} {v} e q =
-    let k : none ≡ v = rw q at e in
-    ap link_of k
+pub link_found : (o : std.Option ℕ) {v : Option ℕ} → found_of o ≡ v → unwrap_or o 0 ≡ link_of v
+link_found (Some x) e = ap link_of e
+link_found None e = ap link_of e
 
 -- a copy that stands past the words leads to 0
 link-past : (w : List ℕ) (p k a : ℕ) → length w ≤ p + 1 → link_of (copy_of a (copies_from w p k)) ≡ 0
@@ -87,27 +81,22 @@ link_whole w p (suc j) (suc k) a h l =
 pub link-words : (w : List ℕ) (j k a : ℕ) {r : ℕ} → r ≡ link_of (copy_of a (copies_in w j)) → j ≤ k → length w ≤ 2 * j + 1 → r ≡ link_of (copy_of a (copies_in w k))
 link-words w j k a e h l = e ∙ link_whole w 0 j k a h (omega arith)
 
--- ---- the search among single words, up to an end
-part_cons : (w : List ℕ) (i e : ℕ) → i < e → i < length w → part i (e - i) w ≡ get_or w i 0 ∷ part (i + 1) (e - (i + 1)) w
-unfolding part
-part_cons w i e h l =
-    let n : e - i ≡ suc (e - (i + 1)) = omega arith in
-    rw (n, add-one, drop-cons w i 0 l)
+-- the first words give the first copies
+copies_first : (w : List ℕ) (p k m : ℕ) → p + 2 * k ≤ m → copies_from (take m w) p k ≡ copies_from w p k
+unfolding copies_from
+copies_first w p zero m h = refl
+copies_first w p (suc k) m h = rw (get_or-take m w p 0 (omega arith), get_or-take m w (p + 1) 0 (omega arith), copies_first w (p + 2) k m (omega arith))
 
-module _ (w : List ℕ) (i e a : ℕ) {b : Bool} where
-  pub in_end : is_in a (part i (e - i) w) ≡ b → e ≤ i → false ≡ b
-  unfolding is_in part
-  in_end k h =
-      let z : e - i ≡ 0 = omega arith in
-      rw z at k
+pub copies_lent : (w : List ℕ) (k : ℕ) → 2 * k ≤ length w → copies_in (take (2 * k) w) (length (take (2 * k) w) / 2) ≡ copies_in w k
+copies_lent w k h = let e : length (take (2 * k) w) / 2 ≡ k = rw (length-take-le (2 * k) w h) (omega arith) in rw e (copies_first w 0 k (2 * k) (omega arith))
 
-  pub in_hit : is_in a (part i (e - i) w) ≡ b → i < e → i < length w → get_or w i 0 ≡ a → true ≡ b
-  unfolding is_in
-  in_hit k h l q = rw (part_cons w i e h l, eq-eqb _ _ q) at k
-
-  pub in_miss : is_in a (part i (e - i) w) ≡ b → i < e → i < length w → (get_or w i 0 ≡ a → ⊥) → is_in a (part (i + 1) (e - (i + 1)) w) ≡ b
-  unfolding is_in
-  in_miss k h l q = rw (part_cons w i e h l, ne_eqb _ _ q) at k
+-- as many copies as the words have room for give the link
+pub link_least : (w : List ℕ) (k a : ℕ) {j r : ℕ} → j ≡ min k (length w / 2) → r ≡ link_of (copy_of a (copies_in w j)) → r ≡ link_of (copy_of a (copies_in w k))
+link_least w k a {j} {r} e q = go (ltb (length w / 2) k) refl
+  where
+    go : (b : Bool) → ltb (length w / 2) k ≡ b → r ≡ link_of (copy_of a (copies_in w k))
+    go true h = let l = ltb-true (length w / 2) k h in link-words w j k a q (omega arith) (omega arith)
+    go false h = let l = ltb-false (length w / 2) k h in let z : k ≡ j = omega arith in rw z q
 
 -- ---- a store past the copies leaves them
 pub copies-set : (w : List ℕ) (p k i x : ℕ) → p + 2 * k ≤ i → copies_from (set w i x) p k ≡ copies_from w p k

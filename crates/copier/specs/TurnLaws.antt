@@ -1,6 +1,6 @@
 -- The turns of the walk over a block's links: what is left of the links gives what all give. And the ways of the copier, from there to `copy_at`.
 use Prim.{tt}
-use Rattle.std.specs.Prelude.{ℕ, zero, suc, ◌+◌, ◌*◌, ◌-◌, ◌≤◌, ◌<◌, List, [], ◌∷◌, ◌≡◌, refl, Bool, true, false, length, get_or, set, drop, eqb}
+use Rattle.std.specs.Prelude.{ℕ, zero, suc, ◌+◌, ◌*◌, ◌-◌, ◌≤◌, ◌<◌, List, [], ◌∷◌, ◌≡◌, refl, Bool, true, false, length, get_or, set, drop, eqb, Result, Ok, Err}
 use Rattle.std.proofs.Common.{sym, ap, ◌∙◌, subst, sub-one, add-one, arith, length-append, length-drop, length-set, drop_of_length-le, drop-cons, drop-set-lt, get_or-set_same}
 use Rattle.base.specs.Choice.{pick, if_eq}
 use Rattle.base.specs.Checked.{Checked, ok, refused, and_then}
@@ -8,10 +8,8 @@ use Rattle.base.specs.Field.{le_at}
 use Rattle.mdf.specs.Block.{kind_at, size_at, links_at}
 use Rattle.plan.specs.Copies.{kind_fh, Copies, lost_links, copy_links, copy_at, copy_root, copy_roots, with_copy}
 use Rattle.copier.specs.declared.memo.Copying.{Copying}
-use Rattle.copier.specs.declared.copies.Got.{Got}
-use Rattle.copier.specs.declared.copies.Got.TheVariants as got
-use Rattle.copier.specs.declared.copies.Begun.{Begun}
-use Rattle.copier.specs.declared.copies.Begun.TheVariants as begun
+use Rattle.fields.specs.declared.refusal.Refusal.{Refusal}
+use Rattle.fields.specs.Answer.{number_of, place_of}
 use Rattle.copier.specs.Standing.{copies_in, standing, Room, Past}
 use Rattle.copier.specs.StandingLaws.{length-copies, past_more, past_then, past_same}
 use Rattle.copier.specs.Got.{begun_of, Copied, After, AfterGot, IndexedGot}
@@ -42,14 +40,14 @@ module _ (step : ℕ → Copies → Checked Copies) (s : List ℕ) (n p b : ℕ)
       rw (links_cons step s n p m h, v) at i
 
 -- ---- what an answer says
-pub copied_at : {w w' : List ℕ} {r : Got} {v : Checked Copies} {t : Copying} → Copied w w' r v → r ≡ got.At t → (ok (standing w' t) ≡ v) × Past (2 * t.used) w w'
-copied_at {w} {w'} {r} {v} c e = let d = subst (λ (x : Got). Copied w w' x v) e c in (d.is, d.past)
+pub copied_at : {w w' : List ℕ} {r : Result Copying Refusal} {v : Checked Copies} {t : Copying} → Copied w w' r v → r ≡ Ok t → (ok (standing w' t) ≡ v) × Past (2 * t.used) w w'
+copied_at {w} {w'} {r} {v} c e = let d = subst (λ (x : Result Copying Refusal). Copied w w' x v) e c in (d.is, d.past)
 
-pub copied_refused : {w w' : List ℕ} {r : Got} {v : Checked Copies} {n p : ℕ} → Copied w w' r v → r ≡ got.Refused n p → refused n p ≡ v
-copied_refused {w} {w'} {r} {v} c e = (subst (λ (x : Got). Copied w w' x v) e c).is
+pub copied_refused : {w w' : List ℕ} {r : Result Copying Refusal} {v : Checked Copies} {x : Refusal} → Copied w w' r v → r ≡ Err x → refused (number_of x) (place_of x) ≡ v
+copied_refused {w} {w'} {r} {v} c e = (subst (λ (x : Result Copying Refusal). Copied w w' x v) e c).is
 
-pub indexed_at : {r : Got} {w x : List ℕ} {t : Copying} → IndexedGot r w x → r ≡ got.At t → Indexed w t.used x
-indexed_at {r} {w} {x} h e = subst (λ (g : Got). IndexedGot g w x) e h
+pub indexed_at : {r : Result Copying Refusal} {w x : List ℕ} {t : Copying} → IndexedGot r w x → r ≡ Ok t → Indexed w t.used x
+indexed_at {r} {w} {x} h e = subst (λ (g : Result Copying Refusal). IndexedGot g w x) e h
 
 after_grown : (d : ℕ) (w w' : List ℕ) (s t : Copying) → Room s.used s.next → Grown d (standing w s) (standing w' t) → After d s t
 after_grown d w w' s t h g =
@@ -83,8 +81,8 @@ turn_begin most left s down w links p st l h d f r =
 
 module _ {most left : ℕ} {s down w₀ : List ℕ} {links₀ p₀ : ℕ} {st₀ : Copying} {w : List ℕ} {links p : ℕ} {st : Copying}
     (u : Turn most left s down w₀ links₀ p₀ st₀ w links p st) (h : 0 < links) where
-  pub turn_next : {w' : List ℕ} {r : Got} {t : Copying} {b : ℕ} → Copied w w' r (copy_at most (left - 1) s (drop (left - 1) down) b (standing w st))
-      → r ≡ got.At t → b ≡ le_at 8 s p → length w' ≡ length w → Turn most left s down w₀ links₀ p₀ st₀ w' (links - 1) (p + 8) t
+  pub turn_next : {w' : List ℕ} {r : Result Copying Refusal} {t : Copying} {b : ℕ} → Copied w w' r (copy_at most (left - 1) s (drop (left - 1) down) b (standing w st))
+      → r ≡ Ok t → b ≡ le_at 8 s p → length w' ≡ length w → Turn most left s down w₀ links₀ p₀ st₀ w' (links - 1) (p + 8) t
   turn_next {w'} {r} {t} {b} c e q l =
       let d = copied_at c e in
       let z : st.used + length (drop (left - 1) down) ≤ 2050 = omega arith in
@@ -101,8 +99,8 @@ module _ {most left : ℕ} {s down w₀ : List ℕ} {links₀ p₀ : ℕ} {st₀
         rest = links_ok (copy_at most (left - 1) s (drop (left - 1) down)) s links p b (standing w st) u.rest h q d.0;
       }
 
-  turn_refused : {w' : List ℕ} {r : Got} {b n k : ℕ} → Copied w w' r (copy_at most (left - 1) s (drop (left - 1) down) b (standing w st))
-      → r ≡ got.Refused n k → b ≡ le_at 8 s p → refused n k ≡ copy_links (copy_at most (left - 1) s (drop (left - 1) down)) s links₀ p₀ (standing w₀ st₀)
+  turn_refused : {w' : List ℕ} {r : Result Copying Refusal} {b : ℕ} {x : Refusal} → Copied w w' r (copy_at most (left - 1) s (drop (left - 1) down) b (standing w st))
+      → r ≡ Err x → b ≡ le_at 8 s p → refused (number_of x) (place_of x) ≡ copy_links (copy_at most (left - 1) s (drop (left - 1) down)) s links₀ p₀ (standing w₀ st₀)
   turn_refused c e q = links_refused (copy_at most (left - 1) s (drop (left - 1) down)) s links p _ (standing w st) u.rest h q (copied_refused c e)
 
 turn_end : {most left : ℕ} {s down w₀ : List ℕ} {links₀ p₀ : ℕ} {st₀ : Copying} {w : List ℕ} {links p : ℕ} {st : Copying}
@@ -118,19 +116,19 @@ placed_used a size w w' s t e =
     let l = length-copies w' 0 t.used in
     omega (arith, simp length-append at (ap (λ (m : Copies). length m.memo) e))
 
-pub so_begun : {o : Begun} {v : Checked Bool} → begun_of o ≡ v → {x : Begun} → o ≡ x → v ≡ begun_of x
+pub so_begun : {o : Result Bool Refusal} {v : Checked Bool} → begun_of o ≡ v → {x : Result Bool Refusal} → o ≡ x → v ≡ begun_of x
 so_begun e q = sym e ∙ ap begun_of q
 
 pub copy-nothing : (most left : ℕ) (s way : List ℕ) (a : ℕ) (w : List ℕ) (st : Copying) → begin_at most left s way a (copies_in w st.used) ≡ ok false
-    → Copied w w (got.At st) (copy_at most left s way a (standing w st))
+    → Copied w w (Ok st) (copy_at most left s way a (standing w st))
 copy-nothing most left s way a w st e =
     record {
       is = sym (copy-begun most left s way a (standing w st) ∙ ap (λ (v : Checked Bool). on_begun v (standing w st) (through_links most (left - 1) s way a (standing w st))) e);
       past = past_same _ w;
     }
 
-pub copy_refused : (most left : ℕ) (s way : List ℕ) (a : ℕ) (w : List ℕ) (st : Copying) {n p : ℕ} → begin_at most left s way a (copies_in w st.used) ≡ refused n p
-    → Copied w w (got.Refused n p) (copy_at most left s way a (standing w st))
+pub copy_refused : (most left : ℕ) (s way : List ℕ) (a : ℕ) (w : List ℕ) (st : Copying) {x : Refusal} → begin_at most left s way a (copies_in w st.used) ≡ refused (number_of x) (place_of x)
+    → Copied w w (Err x) (copy_at most left s way a (standing w st))
 copy_refused most left s way a w st e =
     record {
       is = sym (copy-begun most left s way a (standing w st) ∙ ap (λ (v : Checked Bool). on_begun v (standing w st) (through_links most (left - 1) s way a (standing w st))) e);
@@ -153,15 +151,15 @@ down_way way left a l h k =
 module _ {most left : ℕ} {s down w₀ : List ℕ} {links₀ p₀ : ℕ} {st₀ : Copying} {w : List ℕ} {links p : ℕ} {st : Copying} (a : ℕ) (way : List ℕ)
     (u : Turn most left s down w₀ links₀ p₀ st₀ w links p st) (b : begin_at most left s way a (copies_in w₀ st₀.used) ≡ ok true) (d : drop (left - 1) down ≡ a ∷ way)
     (n : links₀ ≡ links_at s a - lost_links s a) (o : p₀ ≡ a + 24 + 8 * lost_links s a) where
-  pub copy_stopped : {w' : List ℕ} {r : Got} {c k q : ℕ} → 0 < links → Copied w w' r (copy_at most (left - 1) s (drop (left - 1) down) c (standing w st))
-      → r ≡ got.Refused k q → c ≡ le_at 8 s p → Copied w₀ w' (got.Refused k q) (copy_at most left s way a (standing w₀ st₀))
+  pub copy_stopped : {w' : List ℕ} {r : Result Copying Refusal} {c : ℕ} {x : Refusal} → 0 < links → Copied w w' r (copy_at most (left - 1) s (drop (left - 1) down) c (standing w st))
+      → r ≡ Err x → c ≡ le_at 8 s p → Copied w₀ w' (Err x) (copy_at most left s way a (standing w₀ st₀))
   unfolding through_links
   copy_stopped h c e q =
       let f = turn_refused u h c e q in
       record { is = rw (copy_through most left s way a w₀ st₀ b, ← n, ← o, ← d, ← f); past = tt }
 
   pub copy_done : {w' : List ℕ} {t : Copying} {size : ℕ} → links ≡ 0 → size ≡ size_at s a → standing w' t ≡ with_copy a size (standing w st)
-      → Past (2 * t.used) w w' → Copied w₀ w' (got.At t) (copy_at most left s way a (standing w₀ st₀))
+      → Past (2 * t.used) w w' → Copied w₀ w' (Ok t) (copy_at most left s way a (standing w₀ st₀))
   unfolding through_links
   copy_done {w'} {t} {size} z e q k =
       let f = turn_end u z in
@@ -190,8 +188,8 @@ pub record Started (most left : ℕ) (s way : List ℕ) (a : ℕ) (w : List ℕ)
   pub lost : lost_links s a ≤ 1
   pub short : size_at s a ≤ 268435456
 
-pub started : (most left : ℕ) (s way : List ℕ) (a : ℕ) (w : List ℕ) (st : Copying) {o : Begun}
-    → begun_of o ≡ begin_at most left s (drop left way) a (copies_in w st.used) → o ≡ begun.Links → length way ≡ 65 → left ≤ 65 → most ≤ 2050
+pub started : (most left : ℕ) (s way : List ℕ) (a : ℕ) (w : List ℕ) (st : Copying) {o : Result Bool Refusal}
+    → begun_of o ≡ begin_at most left s (drop left way) a (copies_in w st.used) → o ≡ Ok true → length way ≡ 65 → left ≤ 65 → most ≤ 2050
     → 8192 ≤ length w → Room st.used st.next → Started most left s way a w st
 started most left s way a w st e q l k j n r =
     let b = so_begun e q in
@@ -216,14 +214,14 @@ started most left s way a w st e q l k j n r =
     }
 
 -- ---- from outside of any copied block
-pub root_copied : (most : ℕ) (s : List ℕ) (a : ℕ) (m : Copies) {w w' : List ℕ} {r : Got} → Copied w w' r (copy_at most 65 s [] a m) → Copied w w' r (copy_root most s a m)
+pub root_copied : (most : ℕ) (s : List ℕ) (a : ℕ) (m : Copies) {w w' : List ℕ} {r : Result Copying Refusal} → Copied w w' r (copy_at most 65 s [] a m) → Copied w w' r (copy_root most s a m)
 unfolding copy_root
 root_copied most s a m c = c
 
-pub root_after : (most : ℕ) (s : List ℕ) (a : ℕ) (w w' : List ℕ) (st : Copying) (r : Got) → Copied w w' r (copy_at most 65 s [] a (standing w st))
+pub root_after : (most : ℕ) (s : List ℕ) (a : ℕ) (w w' : List ℕ) (st : Copying) (r : Result Copying Refusal) → Copied w w' r (copy_at most 65 s [] a (standing w st))
     → most ≤ 2050 → Room st.used st.next → AfterGot r st
-root_after most s a w w' st (got.At t) c l h = copy-after most 65 s [] a w w' st t c.is l (omega arith) h
-root_after most s a w w' st (got.Refused n p) c l h = tt
+root_after most s a w w' st (Ok t) c l h = copy-after most 65 s [] a w w' st t c.is l (omega arith) h
+root_after most s a w w' st (Err x) c l h = tt
 
 -- ---- several blocks one after the other
 pub record Held (w₀ : List ℕ) (st₀ : Copying) (w : List ℕ) (st : Copying) : Type 0 where
@@ -237,14 +235,14 @@ after_same st h = record { more = omega arith; most = omega arith; near = omega 
 pub after_then : {x y z : Copying} → After 0 x y → After 0 y z → After 0 x z
 after_then f g = record { more = omega arith; most = omega arith; near = omega arith; room = g.room }
 
-pub after-at : {r : Got} {s t : Copying} → AfterGot r s → r ≡ got.At t → After 0 s t
-after-at {r} {s} h e = subst (λ (x : Got). AfterGot x s) e h
+pub after-at : {r : Result Copying Refusal} {s t : Copying} → AfterGot r s → r ≡ Ok t → After 0 s t
+after-at {r} {s} h e = subst (λ (x : Result Copying Refusal). AfterGot x s) e h
 
 pub held_begin : (w : List ℕ) (st : Copying) → Room st.used st.next → Held w st w st
 held_begin w st h = record { same = refl; after = after_same st h; past = past_same _ w }
 
-pub held_next : {w₀ : List ℕ} {st₀ : Copying} {w : List ℕ} {st : Copying} {w' : List ℕ} {r : Got} {v : Checked Copies} {t : Copying}
-    → Held w₀ st₀ w st → Copied w w' r v → AfterGot r st → r ≡ got.At t → length w' ≡ length w → Held w₀ st₀ w' t
+pub held_next : {w₀ : List ℕ} {st₀ : Copying} {w : List ℕ} {st : Copying} {w' : List ℕ} {r : Result Copying Refusal} {v : Checked Copies} {t : Copying}
+    → Held w₀ st₀ w st → Copied w w' r v → AfterGot r st → r ≡ Ok t → length w' ≡ length w → Held w₀ st₀ w' t
 held_next u c h e l =
     let f = after-at h e in
     record {
@@ -255,15 +253,15 @@ held_next u c h e l =
 
 -- ---- links from outside of any copied block: a turn, a refusal, the end
 module _ (most : ℕ) (s : List ℕ) (links p : ℕ) (w : List ℕ) (st : Copying) {r : Checked Copies} where
-  pub follow_next : {w' : List ℕ} {g : Got} {t : Copying} {b : ℕ} → copy_links (copy_root most s) s links p (standing w st) ≡ r → 0 < links
-      → Copied w w' g (copy_root most s b (standing w st)) → g ≡ got.At t → b ≡ le_at 8 s p → copy_links (copy_root most s) s (links - 1) (p + 8) (standing w' t) ≡ r
+  pub follow_next : {w' : List ℕ} {g : Result Copying Refusal} {t : Copying} {b : ℕ} → copy_links (copy_root most s) s links p (standing w st) ≡ r → 0 < links
+      → Copied w w' g (copy_root most s b (standing w st)) → g ≡ Ok t → b ≡ le_at 8 s p → copy_links (copy_root most s) s (links - 1) (p + 8) (standing w' t) ≡ r
   follow_next i h c e q = links_ok (copy_root most s) s links p _ (standing w st) i h q (copied_at c e).0
 
-  pub follow_refused : {w₀ w' : List ℕ} {g : Got} {b n k : ℕ} → copy_links (copy_root most s) s links p (standing w st) ≡ r → 0 < links
-      → Copied w w' g (copy_root most s b (standing w st)) → g ≡ got.Refused n k → b ≡ le_at 8 s p → Copied w₀ w' (got.Refused n k) r
+  pub follow_refused : {w₀ w' : List ℕ} {g : Result Copying Refusal} {b : ℕ} {x : Refusal} → copy_links (copy_root most s) s links p (standing w st) ≡ r → 0 < links
+      → Copied w w' g (copy_root most s b (standing w st)) → g ≡ Err x → b ≡ le_at 8 s p → Copied w₀ w' (Err x) r
   follow_refused i h c e q = record { is = links_refused (copy_root most s) s links p _ (standing w st) i h q (copied_refused c e); past = tt }
 
-  pub follow_end : {w₀ : List ℕ} {st₀ : Copying} → copy_links (copy_root most s) s links p (standing w st) ≡ r → links ≡ 0 → Held w₀ st₀ w st → Copied w₀ w (got.At st) r
+  pub follow_end : {w₀ : List ℕ} {st₀ : Copying} → copy_links (copy_root most s) s links p (standing w st) ≡ r → links ≡ 0 → Held w₀ st₀ w st → Copied w₀ w (Ok st) r
   follow_end i e u = record { is = sym (links_none (copy_root most s) s links p (standing w st) e) ∙ i; past = u.past }
 
 -- ---- roots, from number i on
@@ -273,19 +271,19 @@ unfolding copy_roots
 roots_cons most s l i m h = rw (drop-cons l i 0 h, add-one)
 
 module _ (most : ℕ) (s l : List ℕ) (i b : ℕ) (w : List ℕ) (st : Copying) {r : Checked Copies} where
-  pub roots-next : {w' : List ℕ} {g : Got} {t : Copying} → copy_roots most s (drop i l) (standing w st) ≡ r → i < length l
-      → Copied w w' g (copy_root most s b (standing w st)) → g ≡ got.At t → b ≡ get_or l i 0 → copy_roots most s (drop (i + 1) l) (standing w' t) ≡ r
+  pub roots-next : {w' : List ℕ} {g : Result Copying Refusal} {t : Copying} → copy_roots most s (drop i l) (standing w st) ≡ r → i < length l
+      → Copied w w' g (copy_root most s b (standing w st)) → g ≡ Ok t → b ≡ get_or l i 0 → copy_roots most s (drop (i + 1) l) (standing w' t) ≡ r
   roots-next {w'} {g} {t} k h c e q =
       let v : copy_root most s (get_or l i 0) (standing w st) ≡ ok (standing w' t) = rw q at (sym (copied_at c e).0) in
       rw (roots_cons most s l i (standing w st) h, v) at k
 
-  pub roots_refused : {w₀ w' : List ℕ} {g : Got} {n p : ℕ} → copy_roots most s (drop i l) (standing w st) ≡ r → i < length l
-      → Copied w w' g (copy_root most s b (standing w st)) → g ≡ got.Refused n p → b ≡ get_or l i 0 → Copied w₀ w' (got.Refused n p) r
-  roots_refused {w₀} {w'} {g} {n} {p} k h c e q =
-      let v : copy_root most s (get_or l i 0) (standing w st) ≡ refused n p = rw q at (sym (copied_refused c e)) in
+  pub roots_refused : {w₀ w' : List ℕ} {g : Result Copying Refusal} {x : Refusal} → copy_roots most s (drop i l) (standing w st) ≡ r → i < length l
+      → Copied w w' g (copy_root most s b (standing w st)) → g ≡ Err x → b ≡ get_or l i 0 → Copied w₀ w' (Err x) r
+  roots_refused {w₀} {w'} {g} {x} k h c e q =
+      let v : copy_root most s (get_or l i 0) (standing w st) ≡ refused (number_of x) (place_of x) = rw q at (sym (copied_refused c e)) in
       record { is = rw (roots_cons most s l i (standing w st) h, v) at k; past = tt }
 
 pub roots_end : (most : ℕ) (s l : List ℕ) (i : ℕ) (w : List ℕ) (st : Copying) {r : Checked Copies} {w₀ : List ℕ} {st₀ : Copying}
-    → copy_roots most s (drop i l) (standing w st) ≡ r → length l ≤ i → Held w₀ st₀ w st → Copied w₀ w (got.At st) r
+    → copy_roots most s (drop i l) (standing w st) ≡ r → length l ≤ i → Held w₀ st₀ w st → Copied w₀ w (Ok st) r
 unfolding copy_roots
 roots_end most s l i w st k h u = record { is = rw (drop_of_length-le l h) at k; past = u.past }

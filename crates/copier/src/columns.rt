@@ -5,19 +5,15 @@ ghost use Rattle.copier.specs.Got.{Copied, AfterGot};
 ghost use Rattle.copier.specs.Index.{Indexed};
 ghost use Rattle.copier.specs.Roots.{copies_of};
 
-use crate::copies::Got;
 use crate::memo::{Copying, index_copies, is_ready};
 use crate::roots::column_roots;
+use fields::refusal::Refusal;
 
 // Word i, 0 past the end.
 pub fn word(w: &[u64], i: u64) -> u64
     ensures { result ≡ get_or w.now i 0 }
 {
-    let k = i as usize;
-    if k < w.len() {
-        return w[k];
-    }
-    0
+    w.get(i as usize).copied().unwrap_or(0)
 }
 
 // The blocks that n columns refer to, and all that they link to, in order.
@@ -29,32 +25,21 @@ fn copy_all(
     index: &mut [u16; 4096],
     most: u64,
     state: Copying,
-) -> Got
+) -> Result<Copying, Refusal>
     requires { Ready memo.old most state × (n ≤ 512) × Indexed memo.old state.used index.old }
     ensures copied { Copied memo.old memo.new result
         (copies_of most image.now columns.now 0 n (standing memo.old state)) }
     ensures after { AfterGot result state }
 {
-    let mut p: u64 = 0;
-    let mut left = n;
     let mut st = state;
-    while 0 < left {
+    for k in 0..n {
+        let p = 8 * k;
         let dg = word(columns, p + 2);
         let cg = word(columns, p + 1);
         let cn = word(columns, p);
-        let got = column_roots(image, memo, index, dg, cg, cn, most, st);
-        match got {
-            Got::At(t) => {
-                st = t;
-            }
-            Got::Refused { number, place } => {
-                return Got::Refused { number, place };
-            }
-        }
-        p += 8;
-        left -= 1;
+        st = column_roots(image, memo, index, dg, cg, cn, most, st)?;
     }
-    Got::At(st)
+    Ok(st)
 }
 
 // The same, with at most so many copies; 1 where copying can't begin (`Ready`), and for more than 512 columns.
@@ -65,20 +50,15 @@ pub fn copy_columns(
     memo: &mut [u64],
     most: u64,
     state: Copying,
-) -> Got
+) -> Result<Copying, Refusal>
     ensures copied { Ready memo.old most state → n ≤ 512
         → Copied memo.old memo.new result
         (copies_of most image.now columns.now 0 n (standing memo.old state)) }
     ensures after { Ready memo.old most state → n ≤ 512 → AfterGot result state }
 {
-    if is_ready(memo, most, state) {
-        if n <= 512 {
-            let mut index = index_copies(memo, state.used);
-            return copy_all(image, columns, n, memo, &mut index, most, state);
-        }
+    if !is_ready(memo, most, state) || 512 < n {
+        return Err(Refusal::Arguments);
     }
-    Got::Refused {
-        number: 1,
-        place: 0,
-    }
+    let mut index = index_copies(memo, state.used);
+    copy_all(image, columns, n, memo, &mut index, most, state)
 }

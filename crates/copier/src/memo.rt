@@ -1,110 +1,65 @@
 // Copies kept in lent words, two words each: where a block stood and where it is placed.
-ghost use Rattle.std.specs.Prelude.{◌≡◌, true, false, ◌+◌, ◌*◌, ◌-◌, ◌%◌, ◌≤◌, ◌<◌, length, get_or, set};
-ghost use Rattle.base.specs.Blit.{part};
-ghost use Rattle.base.specs.Choice.{if_eq};
-ghost use Rattle.mdf.specs.Chain.{is_in};
+ghost use Rattle.std.specs.Prelude.{◌≡◌, true, false, ◌+◌, ◌*◌, ◌/◌, ◌%◌, ◌≤◌, ◌<◌, length, get_or, set};
 ghost use Rattle.plan.specs.Geometry.{align8};
 ghost use Rattle.plan.specs.Copies.{copy_of, with_copy};
 ghost use Rattle.copier.specs.Standing.{copies_in, standing, Room, Ready, Past};
 ghost use Rattle.copier.specs.Answer.{found_of, link_of};
 ghost use Rattle.copier.specs.Index.{Indexed, Indexes};
 
+use index::enter_at;
+
 // How many copies stand in the words, and the end of what is placed.
-#[derive(Clone, Copy)]
+#[derive(Clone, Copy, Debug, PartialEq, Eq)]
 pub struct Copying {
     pub used: u64,
     pub next: u64,
 }
 
-// The place of a copy.
-#[derive(Drop)]
-pub enum Found {
-    At(u64),
-    Nothing,
+// How many blocks of a chain were met, and what stands after them.
+#[derive(Clone, Copy, Debug, PartialEq, Eq)]
+pub struct Chain {
+    pub count: u64,
+    pub state: Copying,
 }
 
-// The copy of a among the first copies of the words.
-fn find(memo: &[u64], used: u64, a: u64) -> Found
-    requires { 2 * used ≤ length memo.now }
-    ensures { found_of result ≡ copy_of a (copies_in memo.now used) }
+// The place of the copy of a among those of the words.
+fn find(memo: &[u64], a: u64) -> Option<u64>
+    ensures { found_of result ≡ copy_of a (copies_in memo.now (length memo.now / 2)) }
 {
-    let mut p: usize = 0;
-    let mut left = used;
-    while 0 < left {
-        if memo[p] == a {
-            return Found::At(memo[p + 1]);
+    for i in 0..memo.len() / 2 {
+        if memo[2 * i] == a {
+            return Some(memo[2 * i + 1]);
         }
-        p += 2;
-        left -= 1;
     }
-    Found::Nothing
+    None
 }
 
-// Copy number i, counted from 1 on, if it is one of a, else hit.
-fn met(memo: &[u64], i: usize, hit: usize, a: u64) -> usize
-    requires { (0 < i) × (2 * i ≤ length memo.now) }
-    ensures { result ≡ if_eq (get_or memo.now (2 * (i - 1)) 0) a i hit }
-{
-    if memo[2 * (i - 1)] == a {
-        return i;
-    }
-    hit
-}
-
-fn wide(x: u16) -> usize
-    ensures { result ≡ x }
-{
-    x as usize
-}
-
-// The copy of a, by the index: the last that is met in its chain.
-pub(crate) fn find_in(memo: &[u64], index: &[u16; 4096], used: u64, a: u64) -> Found
+// The place of the copy of a, by the index: the last that is met in its chain.
+pub(crate) fn find_in(memo: &[u64], index: &[u16; 4096], used: u64, a: u64) -> Option<u64>
     requires { (used ≤ 2050) × (2 * used ≤ length memo.now) }
     ensures { Indexed memo.now used index.now
         → found_of result ≡ copy_of a (copies_in memo.now used) }
 {
     let most = used as usize;
-    let mut i = wide(index[2050 + (a % 2039) as usize]);
+    let mut i = usize::from(index[2050 + (a % 2039) as usize]);
     let mut hit: usize = 0;
     while 0 < i {
         if most < i {
-            return Found::Nothing;
+            return None;
         }
-        hit = met(memo, i, hit, a);
-        let older = wide(index[i - 1]);
+        if memo[2 * (i - 1)] == a {
+            hit = i;
+        }
+        let older = usize::from(index[i - 1]);
         if i <= older {
-            return Found::Nothing;
+            return None;
         }
         i = older;
     }
     if hit == 0 {
-        return Found::Nothing;
+        return None;
     }
-    Found::At(memo[2 * hit - 1])
-}
-
-// Copy number `used`, of the block at a, becomes the newest of its chain.
-fn enter(index: &mut [u16; 4096], used: u64, a: u64)
-    requires { used < 2050 }
-    ensures { index.new
-        ≡ set (set index.old used (get_or index.old (2050 + a % 2039) 0))
-        (2050 + a % 2039) (used + 1) }
-{
-    let head = 2050 + (a % 2039) as usize;
-    index[used as usize] = index[head];
-    index[head] = (used + 1) as u16;
-}
-
-// The place of the copy of a, 0 where it isn't copied.
-fn link_in(memo: &[u64], used: u64, a: u64) -> u64
-    requires { 2 * used ≤ length memo.now }
-    ensures { result ≡ link_of (copy_of a (copies_in memo.now used)) }
-{
-    let found = find(memo, used, a);
-    match found {
-        Found::At(to) => to,
-        Found::Nothing => 0,
-    }
+    Some(memo[2 * hit - 1])
 }
 
 // A link to a, led to its copy: 0 where a isn't copied. A word past the end counts as 0.
@@ -112,10 +67,7 @@ pub fn new_link(memo: &[u64], used: u64, a: u64) -> u64
     ensures { result ≡ link_of (copy_of a (copies_in memo.now used)) }
 {
     let n = (memo.len() / 2) as u64;
-    if n < used {
-        return link_in(memo, n, a);
-    }
-    link_in(memo, used, a)
+    find(&memo[..2 * used.min(n) as usize], a).unwrap_or(0)
 }
 
 // The index of the first copies of the words, as many as it has room for.
@@ -123,16 +75,11 @@ pub fn index_copies(memo: &[u64], used: u64) -> [u16; 4096]
     ensures { Indexes memo.now used result }
 {
     let mut index = [0u16; 4096];
-    if 2050 < used {
+    if 2050 < used || ((memo.len() / 2) as u64) < used {
         return index;
     }
-    if ((memo.len() / 2) as u64) < used {
-        return index;
-    }
-    let mut n: u64 = 0;
-    while n < used {
-        enter(&mut index, n, memo[(2 * n) as usize]);
-        n += 1;
+    for n in 0..used {
+        enter_at::<2050>(&mut index, n, memo[(2 * n) as usize]);
     }
     index
 }
@@ -142,32 +89,10 @@ pub fn link_by(memo: &[u64], index: &[u16; 4096], used: u64, a: u64) -> u64
     ensures { Indexes memo.now used index.now
         → result ≡ link_of (copy_of a (copies_in memo.now used)) }
 {
-    if 2050 < used {
+    if 2050 < used || ((memo.len() / 2) as u64) < used {
         return new_link(memo, used, a);
     }
-    if ((memo.len() / 2) as u64) < used {
-        return new_link(memo, used, a);
-    }
-    let found = find_in(memo, index, used, a);
-    match found {
-        Found::At(to) => to,
-        Found::Nothing => 0,
-    }
-}
-
-// Whether a is one of the words from an index to an end.
-pub(crate) fn is_in(words: &[u64], from: usize, end: usize, a: u64) -> bool
-    requires { (from ≤ end) × (end ≤ length words.now) }
-    ensures { result ≡ is_in a (part from (end - from) words.now) }
-{
-    let mut i = from;
-    while i < end {
-        if words[i] == a {
-            return true;
-        }
-        i += 1;
-    }
-    false
+    find_in(memo, index, used, a).unwrap_or(0)
 }
 
 // The next multiple of 8, where it fits.
@@ -220,7 +145,7 @@ pub(crate) fn place(
     let to = aligned(state.next);
     memo[at] = a;
     memo[at + 1] = to;
-    enter(index, used, a);
+    enter_at::<2050>(index, used, a);
     Copying {
         used: used + 1,
         next: to + size,

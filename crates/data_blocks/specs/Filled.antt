@@ -1,5 +1,5 @@
 -- Bookkeeping: the records of a group, found in stretches, in the blocks of its column.
-use Rattle.std.specs.Prelude.{ℕ, ◌+◌, ◌-◌, ◌*◌, ◌≤◌, max, Bool, true, false, List, ◌≡◌, length, get_or}
+use Rattle.std.specs.Prelude.{ℕ, ◌+◌, ◌-◌, ◌*◌, ◌≤◌, max, Bool, true, false, Option, Some, None, List, ◌≡◌, get_or}
 use Rattle.base.specs.Checked.{fine}
 use Rattle.mdf.specs.Records.{most64, ranges_in, size_of}
 use Rattle.work_words.specs.Words.{fragments_of}
@@ -9,13 +9,12 @@ use Rattle.places.specs.Stretch.{number_in, Ready}
 use Rattle.places.specs.Pool.{Pooled}
 use Rattle.cells.specs.Strided.{Lying}
 use Rattle.data_blocks.specs.declared.piece.Form.{Form}
-use Rattle.data_blocks.specs.declared.total.Total.{Total}
 use Rattle.data_blocks.specs.Region.{region_of, reach_to, Due, Grown, places_of, PieceOf}
 
 -- the fragments lie in the image and have so many bytes together, or it is not so
-pub record TotalOf (s ws : List ℕ) (r : Total) : Type 0 where
-  pub yes : r.known ≡ true → (ranges_in s (fragments_of ws) ≡ fine) × (r.bytes ≡ size_of (fragments_of ws)) × (r.bytes ≤ most64)
-  pub no : r.known ≡ false → ranges_in s (fragments_of ws) ≡ fine → size_of (fragments_of ws) ≤ most64 → ⊥
+pub record TotalOf (s ws : List ℕ) (r : Option ℕ) : Type 0 where
+  pub yes : (n : ℕ) → r ≡ Some n → (ranges_in s (fragments_of ws) ≡ fine) × (n ≡ size_of (fragments_of ws)) × (n ≤ most64)
+  pub no : r ≡ None → ranges_in s (fragments_of ws) ≡ fine → size_of (fragments_of ws) ≤ most64 → ⊥
 
 -- a stretch of records from a number on, of those that the column has, in data of so many bytes
 pub record Usable (size : ℕ) (f : Form) (at : ℕ) (t : Stretch) : Type 0 where

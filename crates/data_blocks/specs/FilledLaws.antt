@@ -29,7 +29,7 @@ use Rattle.joined.specs.Spot.{front, SpotOf}
 use Rattle.cells.specs.Spot.{Readable}
 use Rattle.joined.specs.SpotLaws.{spot_front}
 use Rattle.data_blocks.specs.declared.piece.Form.{Form}
-use Rattle.data_blocks.specs.declared.total.Total.{Total}
+use Rattle.std.specs.Prelude.{Option, Some, None}
 use Rattle.data_blocks.specs.Region.{reach_to, Due, PieceIn, places_of, PieceOf, PutPiece}
 use Rattle.data_blocks.specs.RegionLaws.{piece_back, lying_past, grown_none}
 use Rattle.data_blocks.specs.Filled.{TotalOf, Usable, IfUsable, past_of, PutRest, Filled, PoolFilled}
@@ -79,15 +79,15 @@ unfolding later
 totalling_begin s ws = record { within = omega arith; on = λ e. e; back = λ e. e; sizes = omega arith }
 
 module _ {s ws : List ℕ} {i sum : ℕ} (t : Totalling s ws i sum) where
-  pub totalling_end : length ws < i + 3 → sum ≤ most64 → {r : Total} → r ≡ record { known = true; bytes = sum } → TotalOf s ws r
+  pub totalling_end : length ws < i + 3 → sum ≤ most64 → {r : Option ℕ} → r ≡ Some sum → TotalOf s ws r
   unfolding ranges_in size_of
   totalling_end h m e =
       let n = later-none ws i h in
       let o : ranges_in s (later ws i) ≡ fine = rw n refl in
       let z : size_of (later ws i) ≡ 0 = rw n in
       rw e (record {
-        yes = λ q. (t.on o, omega (arith, t.sizes), m);
-        no = λ q. absurd (false≢true (sym q));
+        yes = λ n q. let x : n ≡ sum = cc in (t.on o, omega (arith, t.sizes, x), omega (arith, m, x));
+        no = λ q a b. cc;
       })
 
   module _ (h : i + 3 ≤ length ws) where
@@ -105,19 +105,19 @@ module _ {s ws : List ℕ} {i sum : ℕ} (t : Totalling s ws i sum) where
           sizes = omega (arith, t.sizes);
         }
 
-    pub totalling_out : length s < get_or ws i 0 + get_or ws (i + 1) 0 → {r : Total} → r ≡ record { known = false; bytes = 0 } → TotalOf s ws r
+    pub totalling_out : length s < get_or ws i 0 + get_or ws (i + 1) 0 → {r : Option ℕ} → r ≡ None → TotalOf s ws r
     totalling_out l e =
         rw e (record {
-          yes = λ q. absurd (false≢true q);
+          yes = λ n q. cc;
           no = λ q a b. let x = ranges_head s _ (later ws (i + 3)) (rw here_is at (t.back a)) in omega arith;
         })
 
-    pub totalling_over : most64 < sum + get_or ws (i + 1) 0 → {r : Total} → r ≡ record { known = false; bytes = 0 } → TotalOf s ws r
+    pub totalling_over : most64 < sum + get_or ws (i + 1) 0 → {r : Option ℕ} → r ≡ None → TotalOf s ws r
     unfolding size_of
     totalling_over l e =
         let z = ap size_of here_is in
         rw e (record {
-          yes = λ q. absurd (false≢true q);
+          yes = λ n q. cc;
           no = λ q a b. omega (arith, t.sizes);
         })
 

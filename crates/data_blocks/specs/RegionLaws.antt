@@ -235,12 +235,12 @@ module _ {s : List ℕ} {f : Form} {room : ℕ} (d : Formed s f room) where
 
   pub begin_room : (i : ℕ) → i < f.records
       → (0 < f.per) × (i < f.records)
-      × (0 + (24 * (i / f.per) + i * f.shape.width + 24 + min f.per (f.records - i) * f.shape.width) ≤ room)
+      × (24 * (i / f.per) + i * f.shape.width + 24 + min f.per (f.records - i) * f.shape.width ≤ room)
   begin_room i h = (per_some, h, omega (arith, region_room i h, d.ends))
 
   -- n records from number i on, of one block, have room past its header
   pub piece_room : (i n : ℕ) → 0 < n → i % f.per + n ≤ f.per → i + n ≤ f.records
-      → 0 + (24 * (i / f.per) + i * f.shape.width) + 24 + n * f.shape.width ≤ room
+      → 24 * (i / f.per) + i * f.shape.width + 24 + n * f.shape.width ≤ room
   piece_room i n z a b =
       let u : n * f.shape.width ≤ min f.per (f.records - i) * f.shape.width =
       mul-le-mul_right f.shape.width (least_of n f.per (f.records - i) (omega arith) (omega arith)) in
@@ -394,16 +394,14 @@ module _ (s ws : List ℕ) (f : Form) where
 
   -- those of one block
   pub piece_block : {room : ℕ} → Formed s f room → (i n : ℕ) (ps out : List ℕ) → 0 < n → i % f.per + n ≤ f.per → i + n ≤ f.records
-      → {mid last : List ℕ} {body : ℕ} → body ≡ 0 + (24 * (i / f.per) + i * f.shape.width) + 24
-      → mid ≡ blit (0 + (24 * (i / f.per) + i * f.shape.width)) (start_of f.kind f.per f.records f.shape.width i) out
+      → {mid last : List ℕ} {body : ℕ} → body ≡ 24 * (i / f.per) + i * f.shape.width + 24
+      → mid ≡ blit (24 * (i / f.per) + i * f.shape.width) (start_of f.kind f.per f.records f.shape.width i) out
       → last ≡ blit body (cells s f.shape.group f.shape.channel (records_at (joined s (fragments_of ws)) f.shape.length ps)) mid
       → PutPiece s ws f i n ps out last
   piece_block d i n ps out z a h {mid} {last} b x y rs e q =
-      let o : 0 + (24 * (i / f.per) + i * f.shape.width) ≡ 24 * (i / f.per) + i * f.shape.width = omega arith in
       let y1 : last ≡ blit (24 * (i / f.per) + i * f.shape.width + 24) (cells s f.shape.group f.shape.channel (take n (drop i rs))) mid =
-      rw (b, o, ← q) at y in
-      let x1 : mid ≡ blit (24 * (i / f.per) + i * f.shape.width) (start_of f.kind f.per f.records f.shape.width i) out = rw o at x in
-      grown_piece d e i n out z a h x1 y1
+      rw (b, ← q) at y in
+      grown_piece d e i n out z a h x y1
 
 -- what is left of a stretch past m records lies in the data
 pub lying_past : {size bytes first stride n : ℕ} (m : ℕ) → Lying size bytes first stride n → m < n
@@ -485,8 +483,8 @@ piece_of m at c left z l e =
 -- they lie in the data, and their cells have room past the block's header
 pub piece_ready : {s ws : List ℕ} {f : Form} {t : Stretch} {at offset left : ℕ} {out₀ out : List ℕ} → Piecing s ws f t at offset left out₀ out
     → PieceIn ws f t → {c body : ℕ} {mid : List ℕ} → Formed s f (length out₀) → Piece f.per at c left
-    → body ≡ 0 + (24 * (at / f.per) + at * f.shape.width) + 24
-    → mid ≡ blit (0 + (24 * (at / f.per) + at * f.shape.width)) (start_of f.kind f.per f.records f.shape.width at) out
+    → body ≡ 24 * (at / f.per) + at * f.shape.width + 24
+    → mid ≡ blit (24 * (at / f.per) + at * f.shape.width) (start_of f.kind f.per f.records f.shape.width at) out
     → Lying (size_of (fragments_of ws)) f.shape.length offset t.stride c × (body + c * f.shape.width ≤ length mid)
 piece_ready {at = at} {out = out} v p {c = c} {mid = mid} d q e m =
     let l : length mid ≡ length out = ap length m ∙ length-blit _ _ out in (

@@ -29,7 +29,7 @@ use Rattle.offsets.specs.Offsets.{OffsetsFor, KeepsOffsets}
 use Rattle.cells.specs.Spot.{Readable}
 use Rattle.data_blocks.specs.declared.column.Column.{Column}
 use Rattle.data_blocks.specs.declared.piece.Form.{Form}
-use Rattle.data_blocks.specs.declared.total.Total.{Total}
+use Rattle.std.specs.Prelude.{Option, Some, None}
 use Rattle.data_blocks.specs.Region.{region_of, reach_to, Formed, Due}
 use Rattle.data_blocks.specs.RegionLaws.{filled_none, region_size, region_full}
 use Rattle.data_blocks.specs.Filled.{TotalOf, Filled, PoolFilled}
@@ -113,9 +113,9 @@ module _ {s : List ℕ} {size : ℕ} {c : Column} {f : Form} (o : FormOf s size 
     pub form_formed : {room : ℕ} → Room room f → Formed s f room
     form_formed r = record { shaped = o.shape_of.shaped; split = form_split; wide = r.wide; ends = r.ends }
 
-    pub form_readable : (ws : List ℕ) {t : Total} → TotalOf s ws t → t.known ≡ true → Readable s ws f.shape
-    form_readable ws t e =
-        let x = t.yes e in
+    pub form_readable : (ws : List ℕ) {t : Option ℕ} {n : ℕ} → TotalOf s ws t → t ≡ Some n → Readable s ws f.shape
+    form_readable ws {n = n} t e =
+        let x = t.yes n e in
         let w = o.shape_of.shaped in
         let y = width-within s f.shape.group f.shape.channel w.fitting in
         record {
@@ -171,7 +171,7 @@ module _ {s : List ℕ} {size : ℕ} {c : Column} {f : Form} (o : FormOf s size 
           let n : length (region_of s f (column_records s gs ws c)) ≤ room = rw r b.ends in
           record { wide = form_some.0; ends = omega arith }
 
-      pub ready_total : {t : Total} → TotalOf s ws t → t.known ≡ false → ⊥
+      pub ready_total : {t : Option ℕ} → TotalOf s ws t → t ≡ None → ⊥
       ready_total t e =
           let h = b.listed in
           t.no e (group_ranges s c.parent gs (fragments_of ws) (omega arith) (b.checked wide_some form_some.1))
@@ -278,5 +278,5 @@ module _ {s : List ℕ} {size : ℕ} {c : Column} {f : Form} (o : FormOf s size 
   pub written_full : (b : Bool) → IfRoom (length out) f b → not b ≡ true → WritesBlocks s size gs ws c p p q q out out
   written_full b r n gs_of ws_of x y h d = absurd (r.no (not-true b n) (ready_room o z d))
 
-  pub written_outside : {t : Total} → TotalOf s ws t → not t.known ≡ true → WritesBlocks s size gs ws c p p q q out out
-  written_outside {t} r n gs_of ws_of x y h d = absurd (ready_total o z d r (not-true t.known n))
+  pub written_outside : {t : Option ℕ} → TotalOf s ws t → t ≡ None → WritesBlocks s size gs ws c p p q q out out
+  written_outside r n gs_of ws_of x y h d = absurd (ready_total o z d r n)

@@ -8,6 +8,7 @@ ghost use Rattle.data_blocks.specs.Region.{Formed, PieceIn};
 ghost use Rattle.data_blocks.specs.Filled.{IfUsable, past_of, PutRest, Filled, PoolFilled};
 
 use crate::piece::{Form, put_piece};
+use cells::run::product_within;
 use joined::spot::{Spot, begin};
 use places::pool::find;
 use places::several::several_next;
@@ -16,41 +17,31 @@ use places::stretch::{Scan, Stretch};
 use records::group::id_size;
 use records::table::make_tables;
 
+// The place before all records of a group.
+pub const START: Scan = Scan {
+    at: 0,
+    position: 0,
+    left: 0,
+    offset: 0,
+    number: 0,
+};
+
 // Whether a stretch is of records from number at on that the column has, in data of so many bytes.
 pub fn usable(t: Stretch, at: u64, f: Form, size: u64) -> bool
     ensures { IfUsable size f at t result }
 {
-    if t.number != at {
-        return false;
-    }
-    if t.count == 0 {
-        return false;
-    }
-    if f.records < at {
-        return false;
-    }
-    if f.records - at < t.count {
-        return false;
-    }
     let length = f.shape.length;
-    if size < length {
-        return false;
-    }
-    let room = size - length;
-    if room < t.first {
-        return false;
-    }
-    if t.count == 1 {
-        return true;
-    }
-    if (room - t.first) / (t.count - 1) < t.stride {
-        return false;
-    }
-    true
+    t.number == at
+        && t.count != 0
+        && at <= f.records
+        && t.count <= f.records - at
+        && length <= size
+        && t.first <= size - length
+        && product_within(t.count - 1, t.stride, size - length - t.first)
 }
 
 // The records of a stretch past the first m.
-fn past(t: Stretch, m: u64) -> Stretch
+pub fn past(t: Stretch, m: u64) -> Stretch
     requires { (m ≤ t.count) × (t.number + m < 18446744073709551616) × (t.first + m * t.stride < 18446744073709551616) }
     ensures { result ≡ past_of t m }
 {
@@ -100,13 +91,7 @@ pub(crate) fn by_sorted(
         × (size ≡ size_of (fragments_of fragments.now)) }
     ensures { Filled image.now d 0 (g ∷ []) fragments.now f 0 f.records out.old out.new }
 {
-    let mut scan = Scan {
-        at: 0,
-        position: 0,
-        left: 0,
-        offset: 0,
-        number: 0,
-    };
+    let mut scan = START;
     let mut spot = begin();
     let mut at = 0;
     while at < f.records {
@@ -173,13 +158,7 @@ pub(crate) fn by_several(
     let mut hints = [0u64; 1536];
     make_tables(image, groups, &mut ids, &mut sizes, &mut hints);
     let n = id_size(image, d);
-    let mut scan = Scan {
-        at: 0,
-        position: 0,
-        left: 0,
-        offset: 0,
-        number: 0,
-    };
+    let mut scan = START;
     let mut spot = begin();
     let mut at = 0;
     while at < f.records {

@@ -16,6 +16,7 @@ use crate::listed::by_offsets;
 use crate::piece::Form;
 use crate::total::total_of;
 use cells::cell::shape_of;
+use cells::run::product_within;
 use channels::{block_count, fits_in, per_full};
 use offsets::fill::fill_offsets;
 use offsets::kept::{Offsets, offsets_of};
@@ -35,25 +36,19 @@ pub struct Column {
 fn data_kind(keep: bool) -> u64
     ensures { result ≡ data_kind keep }
 {
-    if keep {
-        return 0x5444_2323;
-    }
-    0x5644_2323
+    if keep { 0x5444_2323 } else { 0x5644_2323 }
 }
 
 // The number of the group at g among groups, or how many they are.
 pub fn number_in(groups: &[u64], g: u64) -> u64
     ensures { result ≡ number_in g groups.now }
 {
-    let n = groups.len();
-    let mut i = 0;
-    while i < n {
+    for i in 0..groups.len() {
         if groups[i] == g {
             return i as u64;
         }
-        i += 1;
     }
-    n as u64
+    groups.len() as u64
 }
 
 // How the column's blocks are formed, if its channel fits.
@@ -78,16 +73,7 @@ pub fn has_room(room: u64, f: Form) -> bool
     ensures { IfRoom room f result }
 {
     let w = f.shape.width;
-    if w == 0 {
-        return false;
-    }
-    if room / w < f.records {
-        return false;
-    }
-    if (room - f.records * w) / 24 < f.blocks {
-        return false;
-    }
-    true
+    w != 0 && product_within(f.records, w, room) && f.blocks <= (room - f.records * w) / 24
 }
 
 // Stretches of the DG's groups come to be kept, if none of the group at g is.
@@ -208,20 +194,10 @@ pub fn write_blocks(
     if !has_room(out.len() as u64, f) {
         return;
     }
-    let total = total_of(image, fragments);
-    if !total.known {
+    let Some(bytes) = total_of(image, fragments) else {
         return;
-    }
+    };
     put_records(
-        out,
-        image,
-        groups,
-        counts,
-        fragments,
-        pool,
-        words,
-        c,
-        f,
-        total.bytes,
+        out, image, groups, counts, fragments, pool, words, c, f, bytes,
     );
 }

@@ -9,7 +9,6 @@ ghost use Rattle.data_blocks.specs.Listed.{ListFilled};
 use crate::piece::{Form, begin_block};
 use cells::gathered::put_gathered;
 use joined::spot::begin;
-use puts::least;
 
 // From number a up to n, block by block; word number first is of the first record. Up to which number they were put: where a record does not lie
 // in the data, no further.
@@ -33,8 +32,8 @@ fn listed(
     let mut k = begin();
     let mut at = a;
     while at < n {
-        let body = begin_block(out, 0, f.kind, f.per, f.records, h.width, at);
-        let c = least(f.per - at % f.per, n - at);
+        let body = begin_block(out, f, at);
+        let c = (f.per - at % f.per).min(n - at);
         let from = (first + at) as usize;
         let r = put_gathered(out, body, image, fragments, h, size, words, from, c, k);
         if r.count < c {
@@ -64,14 +63,8 @@ pub(crate) fn by_offsets(
         × ListFilled image.now fragments.now f words.now first count a result out.old out.new }
 {
     let all = words.len() as u64;
-    if all < count {
-        return a;
-    }
-    if all - count < first {
-        return a;
-    }
-    let n = least(count, f.records);
-    if n < a {
+    let n = count.min(f.records);
+    if all < count || all - count < first || n < a {
         return a;
     }
     listed(out, image, fragments, words, first, n, f, size, a)

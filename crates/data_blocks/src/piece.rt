@@ -9,7 +9,7 @@ use cells::cell::Shape;
 use cells::run::put_stretch;
 use joined::spot::Spot;
 use places::stretch::Stretch;
-use puts::{header, least};
+use puts::header;
 
 // A column's blocks: the shape of its cells, the kind of the blocks, the records of one that is not the last, how many blocks and records.
 #[derive(Clone, Copy)]
@@ -21,26 +21,19 @@ pub struct Form {
     pub records: u64,
 }
 
-// The place of the cell of record number at, of n in blocks of m; if it is a block's first, the block's header is put before it.
-pub(crate) fn begin_block(
-    out: &mut [u8],
-    first: usize,
-    kind: u64,
-    m: u64,
-    n: u64,
-    w: u64,
-    at: u64,
-) -> usize
-    requires { (0 < m) × (at < n) × (first + (24 * (at / m) + at * w + 24 + min m (n - at) * w) ≤ length out.old) }
-    ensures { (result ≡ first + (24 * (at / m) + at * w) + 24)
-        × (out.new ≡ blit (first + (24 * (at / m) + at * w)) (start_of kind m n w at) out.old) }
+// The place of the cell of record number at; if it is a block's first, the block's header is put before it.
+pub(crate) fn begin_block(out: &mut [u8], f: Form, at: u64) -> usize
+    requires { (0 < f.per) × (at < f.records)
+        × (24 * (at / f.per) + at * f.shape.width + 24 + min f.per (f.records - at) * f.shape.width ≤ length out.old) }
+    ensures { (result ≡ 24 * (at / f.per) + at * f.shape.width + 24)
+        × (out.new ≡ blit (24 * (at / f.per) + at * f.shape.width) (start_of f.kind f.per f.records f.shape.width at) out.old) }
 {
-    let place = first + (24 * (at / m) + at * w) as usize;
-    if 0 < at % m {
+    let place = (24 * (at / f.per) + at * f.shape.width) as usize;
+    if 0 < at % f.per {
         return place + 24;
     }
-    let count = least(m, n - at);
-    header(&mut out[place..], kind, 24 + count * w, 0);
+    let count = f.per.min(f.records - at);
+    header(&mut out[place..], f.kind, 24 + count * f.shape.width, 0);
     place + 24
 }
 
@@ -64,8 +57,8 @@ pub(crate) fn put_piece(
     let mut offset = t.first;
     let mut left = t.count;
     loop {
-        let body = begin_block(out, 0, f.kind, f.per, f.records, h.width, at);
-        let c = least(f.per - at % f.per, left);
+        let body = begin_block(out, f, at);
+        let c = (f.per - at % f.per).min(left);
         k = put_stretch(out, body, image, fragments, h, offset, t.stride, c, k);
         if c == left {
             return k;

@@ -172,13 +172,12 @@ pub dl-none : (n : ℕ) → n ≡ 0 → le 8 0 ≡ le 8 (dl_size n)
 unfolding dl_size
 dl-none n e = ap (le 8) (eq_yes n 0 0 (24 + 8 * (n + 1) + 16) e refl)
 
-pub dl-some : (n r : ℕ) → 0 < n → r ≡ (n % 2305843009213693952 * 8 + 48) % 2 ^ 64 → le 8 r ≡ le 8 (dl_size n)
+pub dl-some : (n : ℕ) {q r : ℕ} → 0 < n → q ≡ n * 8 % 2 ^ 64 → r ≡ (q + 48) % 2 ^ 64 → le 8 r ≡ le 8 (dl_size n)
 unfolding dl_size
-dl-some n r h q =
-    let x : ℕ = n % 2305843009213693952 * 8 + 48 in
+dl-some n {q} {r} h i j =
     let long : 24 + 8 * (n + 1) + 16 ≡ dl_size n = eq_no n 0 0 (24 + 8 * (n + 1) + 16) (λ z. omega arith) refl in
-    let e : x + n / 2305843009213693952 * 256 ^ 8 ≡ 24 + 8 * (n + 1) + 16 = omega (arith, div-add-mod' n 2305843009213693952) in
-    ap (le 8) q ∙ le_wrap 8 x ∙ sym (le-add 8 (n / 2305843009213693952) x) ∙ ap (le 8) (e ∙ long)
+    let e : q + 48 + n * 8 / 2 ^ 64 * 256 ^ 8 ≡ 24 + 8 * (n + 1) + 16 = omega (arith, div-add-mod' (n * 8) (2 ^ 64)) in
+    ap (le 8) j ∙ le_wrap 8 (q + 48) ∙ sym (le-add 8 (n * 8 / 2 ^ 64) (q + 48)) ∙ ap (le 8) (e ∙ long)
 
 links_add : (payload n k a : ℕ) → block_links payload n (a + k * 2 ^ 64) ≡ block_links payload n a
 unfolding block_links

@@ -1,4 +1,6 @@
 // Each block of the result, laid over a slice that begins at the block's place. What would lie past the slice's end is lost.
+#![tactic(auto)]
+
 ghost use Rattle.std.specs.Prelude.{◌≡◌, ◌+◌, ◌-◌, ◌*◌, ◌%◌, ◌<◌, ◌≤◌, ◌++◌, take, replicate};
 ghost use Rattle.base.specs.Field.{le};
 ghost use Rattle.base.specs.Blit.{blit, part};
@@ -10,8 +12,8 @@ ghost use Rattle.result.specs.Fill.{one, md_bytes, fh_bytes, data_of, hd_bytes, 
 ghost use Rattle.filling.specs.Blocks.{Laid, dg_from, flags_from, cg_header, cg_front, cg_counts, cg_data_from, cg_from};
 ghost use Rattle.filling.specs.Blocks.{cn_links, cn_types, cn_rest, cn_front, cn_data_from, dl_from};
 
-use blocks::block::{CG, CN, DG, DL, HD, MD, data_at, data_u16, data_u32, links_at, size_at};
-use puts::{copy, header, least, put_u8, put_u16, put_u32, put_u64, zero};
+use blocks::block::{CG, CN, DG, DL, HD, MD, data_at, data_field, links_at, size_at};
+use puts::{copy, header, put_u8, put_u16, put_u32, put_u64, zero};
 
 const FH: u64 = 1212556067;
 
@@ -26,7 +28,7 @@ fn put_data(d: &mut [u8], at: usize, image: &[u8], a: u64, i: u64, n: u64) -> us
         return at;
     }
     copy(d, at, image, from + i, n);
-    let k = least(n, all - (from + i));
+    let k = n.min(all - (from + i));
     at + k as usize
 }
 
@@ -35,10 +37,7 @@ fn put_padding(d: &mut [u8], n: usize)
     ensures { d.new ≡ blit (24 + n) (replicate (8 - n % 8) 0) d.old }
 {
     let room = d.len();
-    if room < 24 {
-        return;
-    }
-    if room - 24 < n {
+    if room < 24 || room - 24 < n {
         return;
     }
     zero(d, 24 + n, (8 - n % 8) as u64);
@@ -50,7 +49,7 @@ pub fn put_md(d: &mut [u8], text: &[u8])
 {
     let n = text.len();
     let whole = n as u64;
-    header(d, MD, std::num::wrapping_add_u64(whole / 8 * 8, 32), 0);
+    header(d, MD, (whole / 8 * 8).wrapping_add(32), 0);
     copy(d, 24, text, 0, whole);
     put_padding(d, n);
 }
@@ -66,19 +65,12 @@ pub fn put_fh(d: &mut [u8], md: u64, time: u64)
     put_u64(d, 48, 0);
 }
 
-// How many bytes of data the block at a has.
+// How many bytes of data the block at a has; as in copying, which stands beside this crate.
 fn data_size(image: &[u8], a: u64) -> u64
     ensures { result ≡ size_at image.now a - (24 + 8 * links_at image.now a) }
 {
-    let size = size_at(image, a);
     let links = links_at(image, a);
-    if size < 24 {
-        return 0;
-    }
-    if (size - 24) / 8 < links {
-        return 0;
-    }
-    size - 24 - 8 * links
+    size_at(image, a).saturating_sub(links.saturating_mul(8).saturating_add(24))
 }
 
 // n bytes of the data of the block at a, cut or filled with zeros, at index at.
@@ -89,8 +81,8 @@ pub fn put_cut_data(d: &mut [u8], at: usize, n: u64, image: &[u8], a: u64)
     if room <= at {
         return;
     }
-    let m = least(n, (room - at) as u64);
-    let k = least(m, data_size(image, a));
+    let m = n.min((room - at) as u64);
+    let k = m.min(data_size(image, a));
     let p = put_data(d, at, image, a, 0, k);
     zero(d, p, (at + m as usize - p) as u64);
 }
@@ -125,7 +117,7 @@ pub fn put_dg(d: &mut [u8], next: u64, cg: u64, dl: u64, comment: u64)
 fn cg_flags(image: &[u8], g: u64, remote: bool) -> u64
     ensures { result ≡ flags_from (group_flags image.now g) remote }
 {
-    let f = data_u16(image, g, 16);
+    let f = data_field::<2>(image, g, 16);
     if remote { f / 16 * 16 + 8 } else { f / 16 * 16 }
 }
 
@@ -164,13 +156,6 @@ fn put_cg_counts(d: &mut [u8], at: usize, image: &[u8], g: u64, remote: bool, re
     put_data(d, at + 18, image, g, 18, 2)
 }
 
-// 1 for true.
-fn one_if(b: bool) -> u64
-    ensures { result ≡ one b }
-{
-    if b { 1 } else { 0 }
-}
-
 // Its data.
 fn put_cg_data(
     d: &mut [u8],
@@ -188,7 +173,7 @@ fn put_cg_data(
     let p = put_cg_counts(d, at, image, g, remote, records);
     put_u32(d, p, 0);
     put_u32(d, p + 4, bytes);
-    put_u32(d, p + 8, one_if(inval));
+    put_u32(d, p + 8, u64::from(inval));
 }
 
 // A column's CG, from the CG at g; master is the master's CG where it is remote.
@@ -221,11 +206,13 @@ pub fn put_cg(
 fn cn_flags(image: &[u8], c: u64, keeps: bool) -> u64
     ensures { result ≡ cn_flags (channel_flags image.now c) keeps }
 {
-    let f = data_u32(image, c, 12);
+    let f = data_field::<4>(image, c, 12);
+    let cleared = f - f / 4096 % 2 * 4096;
     if keeps {
-        return f - f / 4096 % 2 * 4096;
+        cleared
+    } else {
+        cleared - f / 2 % 2 * 2
     }
-    f - f / 4096 % 2 * 4096 - f / 2 % 2 * 2
 }
 
 // Its header, of so many bytes and links, and the first seven links.
@@ -306,7 +293,7 @@ fn dl_size(n: u64) -> u64
     if n == 0 {
         return 0;
     }
-    std::num::wrapping_add_u64(n % 0x2000_0000_0000_0000 * 8, 48)
+    n.wrapping_mul(8).wrapping_add(48)
 }
 
 // The places of n blocks, 24 + payload apart, the first at a, at index 32.
@@ -316,18 +303,15 @@ fn put_links(d: &mut [u8], payload: u64, n: u64, a: u64)
     if d.len() <= 32 {
         return;
     }
-    let step = std::num::wrapping_add_u64(24, payload);
-    let mut left = n;
-    let mut p = 32;
+    let step = 24u64.wrapping_add(payload);
     let mut b = a;
-    while 0 < left {
+    for i in 0..n {
+        let p = 32 + 8 * i as usize;
         put_u64(d, p, b);
         if d.len() - p <= 8 {
             return;
         }
-        p += 8;
-        b = std::num::wrapping_add_u64(b, step);
-        left -= 1;
+        b = b.wrapping_add(step);
     }
 }
 
@@ -345,10 +329,7 @@ fn put_dl_past(d: &mut [u8], n: u64, payload: u64)
     ensures { d.new ≡ blit (32 + 8 * n) (le 4 1 ++ le 4 n ++ le 8 payload) d.old }
 {
     let room = d.len() as u64;
-    if room < 32 {
-        return;
-    }
-    if (room - 32) / 8 < n {
+    if room < 32 || (room - 32) / 8 < n {
         return;
     }
     let p = (32 + 8 * n) as usize;
@@ -359,7 +340,7 @@ fn put_dl_past(d: &mut [u8], n: u64, payload: u64)
 pub fn put_dl(d: &mut [u8], payload: u64, n: u64, a: u64)
     ensures { d.new ≡ blit 0 (dl_from payload n a) d.old }
 {
-    header(d, DL, dl_size(n), std::num::wrapping_add_u64(n, 1));
+    header(d, DL, dl_size(n), n.wrapping_add(1));
     put_u64(d, 24, 0);
     put_links(d, payload, n, a);
     put_dl_past(d, n, payload);

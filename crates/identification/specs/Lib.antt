@@ -1,5 +1,4 @@
 pub mod Answer
-pub mod Range
-pub mod RangeLaws
+pub mod Cut
 pub mod IdentificationLaws
 pub mod Cases

@@ -1,246 +1,202 @@
 // The identification block, the first 64 bytes of the image: refusals 4, 5, 6 and 7.
-ghost use Rattle.std.specs.Prelude.{◌≡◌, ◌≤◌, length};
-ghost use Rattle.fields.specs.Answer.{verdict_of};
-ghost use Rattle.mdf.specs.Identification.{is_zero, is_space, trimmed, digits, number, second, version_of, is_ascii, version_in, identified};
-ghost use Rattle.identification.specs.Answer.{number_of};
-ghost use Rattle.identification.specs.Range.{range, EndsAt, BeginsAt, Dot, past};
+#![tactic(auto)]
 
-use fields::{Check, u64_at};
+ghost use Rattle.std.specs.Prelude.{◌≡◌, ℕ, Bool};
+ghost use Rattle.fields.specs.Answer.{verdict_of};
+ghost use Rattle.mdf.specs.Identification.{drop_while, is_zero, is_space, trimmed, first_part, past_dot, digits, number, second, version_of, is_ascii, version_in, identified};
+ghost use Rattle.identification.specs.Answer.{number_of, rest_of};
+ghost use Rattle.identification.specs.Cut.{trim_end};
+
+use fields::field_at;
+use fields::refusal::Refusal;
 
 // `MDF` and five blanks
 const FILE_MARK: u64 = 2314885530820953165;
 
-// What a text is as a decimal number.
-#[derive(Drop)]
-enum Parsed {
-    Unreadable,
-    Value(u64),
-}
-
-// Whether every byte of the version is at most 127.
-fn is_ascii(image: &[u8]) -> bool
-    requires { 16 ≤ length image.now }
-    ensures { result ≡ is_ascii (range image.now 8 16) }
+// Whether every byte is at most 127.
+fn is_ascii(text: &[u8]) -> bool
+    ensures { result ≡ is_ascii text.now }
 {
-    let mut i: usize = 8;
-    while i < 16 {
-        if 127 < image[i] {
+    for &b in text {
+        if 127 < b {
             return false;
         }
-        i += 1;
     }
     true
 }
 
-// Whether a byte is ASCII white space.
-fn is_space(b: u8) -> bool
-    ensures { result ≡ is_space b }
-{
-    if b == 32 {
-        return true;
-    }
-    if b < 9 {
-        return false;
-    }
-    b <= 13
+// A kind of byte that is cut off.
+trait Cut {
+    ghost test: { ℕ → Bool };
+
+    fn cuts(b: u8) -> bool
+        ensures { result ≡ test b };
 }
 
-// The version's end without the zero bytes there.
-fn zeros_cut(image: &[u8]) -> usize
-    requires { 16 ≤ length image.now }
-    ensures { EndsAt is_zero image.now 16 result }
-{
-    let mut hi: usize = 16;
-    while 8 < hi {
-        if image[hi - 1] != 0 {
-            return hi;
-        }
-        hi -= 1;
+struct Zero;
+
+impl Cut for Zero {
+    ghost test = { is_zero };
+
+    fn cuts(b: u8) -> bool {
+        b == 0
     }
-    hi
 }
 
-// The end without the white space there.
-fn spaces_cut(image: &[u8], end: usize) -> usize
-    requires { (8 ≤ end) × (end ≤ length image.now) }
-    ensures { EndsAt is_space image.now end result }
-{
-    let mut hi = end;
-    while 8 < hi {
-        let space = is_space(image[hi - 1]);
-        if !space {
-            return hi;
+// ASCII white space
+struct Space;
+
+impl Cut for Space {
+    ghost test = { is_space };
+
+    fn cuts(b: u8) -> bool {
+        if b == b' ' {
+            return true;
         }
-        hi -= 1;
+        if b < 9 {
+            return false;
+        }
+        b <= 13
     }
-    hi
 }
 
-// The start past the white space there.
-fn spaces_passed(image: &[u8], hi: usize) -> usize
-    requires { (8 ≤ hi) × (hi ≤ length image.now) }
-    ensures { BeginsAt image.now hi result }
+// The text without what is cut off at its end.
+fn cut_end<C: Cut>(text: &[u8]) -> &[u8]
+    ensures { result.now ≡ trim_end C.test text.now }
 {
-    let mut lo: usize = 8;
-    while lo < hi {
-        let space = is_space(image[lo]);
-        if !space {
-            return lo;
+    let mut left = text;
+    while let Some((&last, before)) = left.split_last() {
+        if !C::cuts(last) {
+            return left;
         }
-        lo += 1;
+        left = before;
     }
-    lo
+    left
 }
 
-// The first dot in a range, or the range's end.
-fn dot_in(image: &[u8], lo: usize, hi: usize) -> usize
-    requires { (lo ≤ hi) × (hi ≤ length image.now) }
-    ensures { Dot image.now lo hi result }
+// The text without what is cut off in front.
+fn cut_front<C: Cut>(text: &[u8]) -> &[u8]
+    ensures { result.now ≡ drop_while C.test text.now }
 {
-    let mut i = lo;
-    while i < hi {
-        if image[i] == 46 {
-            return i;
+    let mut left = text;
+    while let Some((&first, past)) = left.split_first() {
+        if !C::cuts(first) {
+            return left;
         }
-        i += 1;
+        left = past;
     }
-    i
+    left
+}
+
+// What stands before the first dot and past it; all of the text, and none, where there is no dot.
+fn at_dot(text: &[u8]) -> (&[u8], Option<&[u8]>)
+    ensures before { result.0.now ≡ first_part text.now }
+    ensures past { rest_of result.1 ≡ past_dot text.now }
+{
+    for (i, &b) in text.iter().enumerate() {
+        if b == b'.' {
+            return (&text[..i], Some(&text[i + 1..]));
+        }
+    }
+    (text, None)
 }
 
 // One or more digits, a 16-bit number.
-fn digits_in(image: &[u8], lo: usize, hi: usize) -> Parsed
-    requires { hi ≤ length image.now }
-    ensures { number_of result ≡ digits (range image.now lo hi) }
+fn digits(text: &[u8]) -> Option<u64>
+    ensures { number_of result ≡ digits text.now }
 {
-    if hi <= lo {
-        return Parsed::Unreadable;
+    if text.is_empty() {
+        return None;
     }
     let mut n: u64 = 0;
-    let mut i = lo;
-    while i < hi {
-        let b = image[i];
-        if b < 48 {
-            return Parsed::Unreadable;
+    for &b in text {
+        if b < b'0' {
+            return None;
         }
-        if 57 < b {
-            return Parsed::Unreadable;
+        if b'9' < b {
+            return None;
         }
-        n = 10 * n + (b - 48) as u64;
+        n = 10 * n + (b - b'0') as u64;
         if 65535 < n {
-            return Parsed::Unreadable;
+            return None;
         }
-        i += 1;
     }
-    Parsed::Value(n)
+    Some(n)
 }
 
 // A 16-bit number, a leading `+` allowed.
-fn number_in(image: &[u8], lo: usize, hi: usize) -> Parsed
-    requires { hi ≤ length image.now }
-    ensures { number_of result ≡ number (range image.now lo hi) }
+fn number(text: &[u8]) -> Option<u64>
+    ensures { number_of result ≡ number text.now }
 {
-    if hi <= lo {
-        return Parsed::Unreadable;
+    if text.is_empty() {
+        return None;
     }
-    if image[lo] == 43 {
-        return digits_in(image, lo + 1, hi);
+    if text[0] == b'+' {
+        return digits(&text[1..]);
     }
-    digits_in(image, lo, hi)
+    digits(text)
 }
 
-// The number past the first dot, 0 where there is no dot.
-fn second_in(image: &[u8], dot: usize, hi: usize) -> Parsed
-    requires { hi ≤ length image.now }
-    ensures { number_of result ≡ second (past image.now dot hi) }
+// The number up to the next dot, 0 where there was no dot.
+fn second(past: Option<&[u8]>) -> Option<u64>
+    ensures { number_of result ≡ second (rest_of past.entry) }
 {
-    if hi <= dot {
-        return Parsed::Value(0);
+    match past {
+        None => Some(0),
+        Some(text) => {
+            let parts = at_dot(text);
+            number(parts.0)
+        }
     }
-    let end = dot_in(image, dot + 1, hi);
-    number_in(image, dot + 1, end)
 }
 
 // 100 × the first number + the second.
-fn version_in(image: &[u8], lo: usize, hi: usize) -> Parsed
-    requires { (lo ≤ hi) × (hi ≤ length image.now) }
-    ensures { number_of result ≡ version_of (range image.now lo hi) }
+fn version_of(text: &[u8]) -> Option<u64>
+    ensures { number_of result ≡ version_of text.now }
 {
-    let dot = dot_in(image, lo, hi);
-    let first = number_in(image, lo, dot);
-    match first {
-        Parsed::Unreadable => Parsed::Unreadable,
-        Parsed::Value(m) => {
-            let other = second_in(image, dot, hi);
-            match other {
-                Parsed::Unreadable => Parsed::Unreadable,
-                Parsed::Value(n) => Parsed::Value(100 * m + n),
-            }
-        }
-    }
+    let parts = at_dot(text);
+    let first = number(parts.0)?;
+    let second = second(parts.1)?;
+    Some(100 * first + second)
 }
 
 // The version without zero bytes at its end and white space at both ends, as a number.
-fn trimmed_version(image: &[u8]) -> Parsed
-    requires { 16 ≤ length image.now }
-    ensures { number_of result ≡ version_of (trimmed (range image.now 8 16)) }
+fn trimmed_version(text: &[u8]) -> Option<u64>
+    ensures { number_of result ≡ version_of (trimmed text.now) }
 {
-    let end = zeros_cut(image);
-    let hi = spaces_cut(image, end);
-    let lo = spaces_passed(image, hi);
-    version_in(image, lo, hi)
+    let text = cut_end::<Space>(cut_end::<Zero>(text));
+    version_of(cut_front::<Space>(text))
 }
 
 // 6: the version is unreadable or has a byte over 127; 7: it is under 410 or over 65,535.
-fn version_fits(image: &[u8]) -> Check
-    requires { 16 ≤ length image.now }
-    ensures { verdict_of result ≡ version_in (range image.now 8 16) }
+fn version_fits(text: &[u8]) -> Result<(), Refusal>
+    ensures { verdict_of result ≡ version_in text.now }
 {
-    let plain = is_ascii(image);
+    let plain = is_ascii(text);
     if !plain {
-        return Check::Refused {
-            number: 6,
-            place: 0,
-        };
+        return Err(Refusal::UnreadableVersion);
     }
-    let version = trimmed_version(image);
-    match version {
-        Parsed::Unreadable => Check::Refused {
-            number: 6,
-            place: 0,
-        },
-        Parsed::Value(n) => {
-            if n < 410 {
-                return Check::Refused {
-                    number: 7,
-                    place: 0,
-                };
-            }
-            if 65535 < n {
-                return Check::Refused {
-                    number: 7,
-                    place: 0,
-                };
-            }
-            Check::Fine
-        }
+    let Some(n) = trimmed_version(text) else {
+        return Err(Refusal::UnreadableVersion);
+    };
+    if n < 410 {
+        return Err(Refusal::OtherVersion);
     }
+    if 65535 < n {
+        return Err(Refusal::OtherVersion);
+    }
+    Ok(())
 }
 
 // 4: under 64 bytes; 5: bytes 0..8 are not `MDF` and five blanks; then the version.
-pub fn identify(image: &[u8]) -> Check
+pub fn identify(image: &[u8]) -> Result<(), Refusal>
     ensures { verdict_of result ≡ identified image.now }
 {
     if image.len() < 64 {
-        return Check::Refused {
-            number: 4,
-            place: 0,
-        };
+        return Err(Refusal::OutOfImage(0));
     }
-    if u64_at(image, 0) != FILE_MARK {
-        return Check::Refused {
-            number: 5,
-            place: 0,
-        };
+    if field_at::<8>(image, 0) != FILE_MARK {
+        return Err(Refusal::NotMdf);
     }
-    version_fits(image)
+    version_fits(&image[8..16])
 }

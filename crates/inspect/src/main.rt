@@ -1,52 +1,34 @@
 // Prints what reading finds in each recording that an argument names.
 #![tactic(auto)]
 
-use reading::answer::Read;
 use reading::recording::read;
 use std::alloc::Global;
-use std::io::{Read as _, Write};
+use std::io::{Read, Write};
 use std::rt::Files;
 use std::{env, fs, io};
 
 // At most so many bytes of a recording are read.
 const IMAGE_BYTES: u64 = 65536;
 
-// A label and a number.
-fn print<W: Write>(out: &mut W, label: &str, x: u64) -> io::Result<()> {
-    write!(out, "{label}{x}")
-}
-
-// The counts of so many groups.
-fn print_counts<W: Write>(out: &mut W, source: &[u64; 4096], groups: u64) -> io::Result<()> {
-    write!(out, " counts")?;
-    for g in 0..512usize {
-        if g as u64 == groups {
-            return Ok(());
-        }
-        print(out, " ", source[3584 + g])?;
-    }
-    Ok(())
-}
-
 // What reading finds in an image.
 fn show<W: Write>(out: &mut W, image: &[u8]) -> io::Result<()> {
     let mut source = [0u64; 4096];
     let mut fragments = [0u64; 3072];
-    let found = read(image, &mut source, &mut fragments);
-    match found {
-        Read::Refused { number, place } => {
-            print(out, " refused ", number)?;
-            print(out, " place ", place)?;
+    match read(image, &mut source, &mut fragments) {
+        Err(refusal) => {
+            write!(
+                out,
+                " refused {} place {}",
+                refusal.number(),
+                refusal.place()
+            )?;
         }
-        Read::Done {
-            items,
-            groups,
-            fragments: count,
-        } => {
-            print(out, " items ", items)?;
-            print(out, " groups ", groups)?;
-            print(out, " fragments ", count)?;
-            print_counts(out, &source, groups)?;
+        Ok(found) => {
+            write!(out, " items {} groups {}", found.items, found.groups)?;
+            write!(out, " fragments {} counts", found.fragments)?;
+            for count in source[3584..].iter().take(found.groups as usize) {
+                write!(out, " {count}")?;
+            }
         }
     }
     writeln!(out)

@@ -5,7 +5,7 @@ ghost use Rattle.base.specs.Checked.{fine};
 ghost use Rattle.mdf.specs.Records.{most64, ranges_in, joined, size_of};
 ghost use Rattle.joined.specs.Ahead.{ahead, next_of, moved, past, Settled};
 
-use puts::{copy, least};
+use puts::copy;
 
 // The bytes left from a position of the image on; then the fragments whose words begin at this index.
 #[derive(Clone, Copy)]
@@ -19,11 +19,7 @@ pub struct Cursor {
 fn starts(fragments: &[u64]) -> usize
     ensures { result ≡ length fragments.now - 2 }
 {
-    let n = fragments.len();
-    if n < 2 {
-        return 0;
-    }
-    n - 2
+    fragments.len().saturating_sub(2)
 }
 
 // The next fragment.
@@ -43,10 +39,7 @@ fn next(fragments: &[u64], c: Cursor) -> Cursor
 fn onward(c: Cursor, m: u64) -> Cursor
     ensures { (result.at ≡ c.at) × (m ≤ c.left → c.position + m ≤ most64 → result ≡ moved c m) }
 {
-    if c.left < m {
-        return c;
-    }
-    if 18446744073709551615 - c.position < m {
+    if c.left < m || u64::MAX - c.position < m {
         return c;
     }
     Cursor {
@@ -96,10 +89,7 @@ pub fn copy_joined(out: &mut [u8], at: usize, image: &[u8], fragments: &[u64], c
         → out.new ≡ blit at (take w (joined image.now (ahead fragments.now c))) out.old }
 {
     let room = out.len();
-    if room < at {
-        return;
-    }
-    if ((room - at) as u64) < w {
+    if room < at || ((room - at) as u64) < w {
         return;
     }
     let end = starts(fragments);
@@ -113,7 +103,7 @@ pub fn copy_joined(out: &mut [u8], at: usize, image: &[u8], fragments: &[u64], c
             }
             k = next(fragments, k);
         } else {
-            let m = least(left, k.left);
+            let m = left.min(k.left);
             copy(out, to, image, k.position, m);
             k = onward(k, m);
             to += m as usize;
@@ -128,9 +118,5 @@ pub fn byte_at(image: &[u8], fragments: &[u64], k: Cursor, i: u64) -> u8
         → result ≡ get_or (joined image.now (ahead fragments.now k)) i 0 }
 {
     let b = settle(fragments, skip(fragments, k, i));
-    let p = b.position as usize;
-    if image.len() <= p {
-        return 0;
-    }
-    image[p]
+    image.get(b.position as usize).copied().unwrap_or(0)
 }

@@ -13,14 +13,12 @@ use Rattle.work_words.specs.CopyWords.{laid_copies}
 use Rattle.plan.specs.Columns.{Omission, omission_addresses, omission_reasons, omission_words}
 use Rattle.work_words.specs.PlanWords.{signal_fragments, laid_plan}
 use Rattle.result.specs.Listing.{plan_lines, refusal_text, listing}
-use Rattle.result.specs.Result.{Args, Decided, decided, lent_in, answer, work_in}
+use Rattle.result.specs.Result.{Args, Decided, decided, lent_in, answer, work_in, zeros}
 use Rattle.plan_laws.specs.Known.{Known, decided-known}
 use Rattle.guarantee.specs.Theorem.{sized, few_photos_lem}
 use Rattle.placing.specs.declared.layout.Numbers.{Numbers}
-use Rattle.placing.specs.declared.decide.Decision.{Decision}
-use Rattle.placing.specs.declared.decide.Decision.TheVariants.{Refused, Done}
-use Rattle.placing.specs.Decision.{four, DecidedIn, RefusedIn, Decides}
-use Rattle.placing.specs.DecisionLaws.{work_fine, cleared, signals_length}
+use Rattle.placing.specs.Decision.{four, DecidedIn, RefusedIn}
+use Rattle.placing.specs.DecisionLaws.{work_fine, cleared-after, signals_length}
 use Rattle.placing.specs.InWords.{AllBounded}
 use Rattle.placing.specs.BoundedLaws.{all_bounded}
 use Rattle.texts.specs.Laid.{Laid}
@@ -77,14 +75,6 @@ apart x d out bytes list words =
     ∙ at_choice x out bytes (refused 20 bytes) (if_lt list words (refused 21 words) (ok d))
 
 -- ---- what was decided stands in the words
-pub decides_done : {x : Args} {a b c d : List ℕ} {r : Decision} {a' b' c' d' : List ℕ} {i f k o h : ℕ} {n : Numbers}
-    → Decides x a b c d r a' b' c' d' → r ≡ Done i f k o h n → DecidedIn x i f k o n a b c d a' b' c' d'
-decides_done {x} {a} {b} {c} {d} {a' = a'} {b' = b'} {c' = c'} {d' = d'} h e = (subst (λ (r : Decision). Decides x a b c d r a' b' c' d') e h).0
-
-pub decides_refused : {x : Args} {a b c d : List ℕ} {r : Decision} {a' b' c' d' : List ℕ} {n p : ℕ}
-    → Decides x a b c d r a' b' c' d' → r ≡ Refused n p → RefusedIn x n p (four a b c d) (four a' b' c' d')
-decides_refused {x} {a} {b} {c} {d} {a' = a'} {b' = b'} {c' = c'} {d' = d'} h e = subst (λ (r : Decision). Decides x a b c d r a' b' c' d') e h
-
 module _ {x : Args} {i f k o : ℕ} {n : Numbers} {a b c d a' b' c' d' : List ℕ} (t : DecidedIn x i f k o n a b c d a' b' c' d') where
   abbrev known : Known x t.told
   known = decided-known x t.told t.is
@@ -143,15 +133,14 @@ module _ {x : Args} {i f k o : ℕ} {n : Numbers} {a b c d a' b' c' d' : List �
   unfolding decided
   lent-fine = (then_fine (lent_in x) _ t.is).0
 
-  pub done_listed : (out list : ℕ) {lines lines' : List ℕ} {r bytes : ℕ} {a'' b'' c'' d'' : List ℕ} → bytes ≡ n.file_size
-      → Laid 0 (answer_in x.image x.block_size c' b' k o bytes out list) 119354 lines lines' r
-      → a'' ≡ replicate (length a') 0 → b'' ≡ replicate (length b') 0 → c'' ≡ replicate (length c') 0 → d'' ≡ replicate (length d') 0
-      → Listed x out list (four a b c d) lines r lines' (four a'' b'' c'' d'')
-  done_listed out list {a'' = a''} {b'' = b''} {c'' = c''} {d'' = d''} q z e f g h =
+  pub done_listed : (out list : ℕ) {lines lines' : List ℕ} {r : ℕ} {ws : List (List ℕ)}
+      → Laid 0 (answer_in x.image x.block_size c' b' k o n.file_size out list) 119354 lines lines' r
+      → ws ≡ zeros (four a' b' c' d') → Listed x out list (four a b c d) lines r lines' ws
+  done_listed out list z e =
       let w = work_fine a b c d t.long_a t.long_b t.long_c t.long_d in
       let l = done_answer out list in
-      let zs = cleared a b c d a' b' c' d' a'' b'' c'' d'' done_source done_fragments done_words done_copies e f g h in
-      let y = rw (q, l) at z in
+      let zs = cleared-after a b c d a' b' c' d' done_source done_fragments done_words done_copies e in
+      let y = rw l at z in
       record {
         is = rw w y.is;
         long = rw w (rw zero-add at y.past);

@@ -6,37 +6,27 @@ ghost use Rattle.texts.specs.Laid.{Laid};
 ghost use Rattle.listing.specs.Lines.{AllCount};
 ghost use Rattle.listing.specs.Listed.{answer_in, Listed};
 
-use crate::lines::put_plan_lines;
+use crate::lines::{Plan, put_plan_lines};
 use choices::Choices;
-use placing::decide::{Decision, decide};
-use reading::recording::clear;
+use placing::decide::{Decision, clear_all, decide};
 use texts::put_refusal;
 
-// 20 for an output shorter than the file, 21 for a list too short for m omissions, else the plan of n columns and m omissions that stands in words.
-fn put_answer(
-    lines: &mut [u8],
-    image: &[u8],
-    size: u64,
-    columns: &[u64],
-    fragments: &[u64],
-    n: u64,
-    m: u64,
-    bytes: u64,
-    out: u64,
-    list_words: u64,
-) -> usize
-    requires { (n ≤ 512) × (m ≤ 1024) × AllCount image.now columns.now fragments.now n }
-    ensures { Laid 0 (answer_in image.now size columns.now fragments.now n m bytes out list_words) 119354
-        lines.old lines.new result }
+// 20 for an output shorter than the file, 21 for a list too short for the omissions, else the plan that stands in words.
+fn put_answer(lines: &mut [u8], plan: Plan, found: Decision, out: u64, list_words: u64) -> usize
+    requires { (found.columns ≤ 512) × (found.omissions ≤ 1024)
+        × AllCount plan.image.now plan.columns.now plan.fragments.now found.columns }
+    ensures { Laid 0 (answer_in plan.entry.image.now plan.entry.size plan.entry.columns.now plan.entry.fragments.now
+        found.columns found.omissions found.numbers.file_size out list_words) 119354 lines.old lines.new result }
 {
+    let bytes = found.numbers.file_size;
     if out < bytes {
         return put_refusal(lines, 20, bytes);
     }
-    let words = 2 * m + 1;
+    let words = 2 * found.omissions + 1;
     if list_words < words {
         return put_refusal(lines, 21, words);
     }
-    put_plan_lines(lines, 0, image, size, columns, fragments, n, m)
+    put_plan_lines(lines, 0, plan, found.columns, found.omissions)
 }
 
 // The listing by what is chosen, for an output of so many bytes and a list of so many words, and its length. The table says how types are treated. The four work slices hold 8,192 words each.
@@ -63,31 +53,16 @@ pub fn list(
         image, size, ident, text, choices, table, source, fragments, columns, copies,
     );
     match decision {
-        Decision::Refused { number, place } => put_refusal(lines, number, place),
-        Decision::Done {
-            items: _,
-            fragments: _,
-            columns: n,
-            omissions,
-            shared: _,
-            numbers,
-        } => {
-            let end = put_answer(
-                lines,
+        Err(refusal) => put_refusal(lines, refusal.number(), refusal.place()),
+        Ok(found) => {
+            let plan = Plan {
                 image,
                 size,
                 columns,
                 fragments,
-                n,
-                omissions,
-                numbers.file_size,
-                out,
-                list_words,
-            );
-            clear(source);
-            clear(fragments);
-            clear(columns);
-            clear(copies);
+            };
+            let end = put_answer(lines, plan, found, out, list_words);
+            clear_all(source, fragments, columns, copies);
             end
         }
     }

@@ -1,5 +1,5 @@
 -- Laws of noting the records of a DG, each in its group's part.
-use Rattle.std.specs.Prelude.{ℕ, ◌+◌, ◌≤◌, ◌<◌, List, true, ◌≡◌, refl, ◌⊎◌, length, get_or, set, replicate}
+use Rattle.std.specs.Prelude.{ℕ, ◌+◌, ◌≤◌, ◌<◌, List, Option, Some, ◌≡◌, refl, ◌⊎◌, length, get_or, set, replicate}
 use Rattle.std.proofs.Common.{sym, ◌∙◌, inl, inr, ⊎_elim, arith, length-set, get_or-set_same, get_or-set_other}
 use Rattle.std.proofs.lemmas.List.{length-replicate}
 use Rattle.base.specs.Checked.{fine}
@@ -27,16 +27,6 @@ up counts j = set counts j (get_or counts j 0 + 1)
 -- the word for it
 abbrev next : List ℕ → List ℕ → ℕ → ℕ
 next bs counts j = get_or bs j 0 + get_or counts j 0
-
-pub notes_past : (bs : List ℕ) (j a : ℕ) (counts p : List ℕ) → 512 ≤ j → NotesRecord bs j a counts p counts p
-notes_past bs j a counts p h = record { room = λ l r. absurd (omega arith); full = λ f. (refl, refl) }
-
-pub notes_full : (bs : List ℕ) (j a : ℕ) (counts p : List ℕ) → get_or bs (j + 1) 0 ≤ next bs counts j → NotesRecord bs j a counts p counts p
-notes_full bs j a counts p h = record { room = λ l r. absurd (omega arith); full = λ f. (refl, refl) }
-
-pub notes_room : (bs : List ℕ) (j a : ℕ) (counts p : List ℕ) → j < 512 → next bs counts j < get_or bs (j + 1) 0
-    → NotesRecord bs j a counts p (up counts j) (set p (next bs counts j) a)
-notes_room bs j a counts p l h = record { room = λ l r. (refl, refl); full = λ f. absurd (let g = f l in omega arith) }
 
 module _ (bs counts p : List ℕ) (j a : ℕ) (o : Ordered bs (length p) 512) (l : j < 512) (r : next bs counts j < get_or bs (j + 1) 0)
     (len : length counts ≡ 512) (fits : Fits bs counts) where
@@ -139,15 +129,15 @@ module _ (s : List ℕ) (n : ℕ) (gs ws ids sizes bs p₀ : List ℕ) (o : Orde
   pub going_done : {counts p : List ℕ} {c : Scan} → Going s n gs ws ids sizes bs p₀ counts p c → Passes s n gs ws ids sizes bs p₀ counts p
   going_done t = record { same = t.same; fits = t.fits; noted = λ d v i h tb q. (t.on d v i h tb q).noted }
 
-  module _ {counts p : List ℕ} {c : Scan} (t : Going s n gs ws ids sizes bs p₀ counts p c) {x : Found} (f : FoundAt s n gs ws ids sizes c x)
-      (q : x.some ≡ true) where
+  module _ {counts p : List ℕ} {c : Scan} (t : Going s n gs ws ids sizes bs p₀ counts p c) {v : Option Found} (f : FoundAt s n gs ws ids sizes c v)
+      {x : Found} (q : v ≡ Some x) where
     faced : {d : ℕ} → n ≡ id_size s d → records_in s d gs (fragments_of ws) ≡ fine → 1 < length gs → Tabled s gs ids sizes
         → (u : Noting s d gs ws bs counts p c)
         → Faced s (id_size s d) gs ws u.frames x.group x.place x.past.at x.past.position x.past.left x.past.offset
     faced {d} i v h tb u =
         let w = whole_checked s d gs ws (several_of gs h) (omega arith) v in
         let z = w.id in
-        (f.right d i (omega (arith, z, i)) tb w.bytes u.frames u.facing).1 q
+        (f.right d i (omega (arith, z, i)) tb w.bytes u.frames u.facing).1 x q
 
     -- it has no room
     going_full : (x.group < 512 → get_or bs (x.group + 1) 0 ≤ next bs counts x.group) → Going s n gs ws ids sizes bs p₀ counts p x.past

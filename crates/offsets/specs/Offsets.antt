@@ -6,6 +6,7 @@ use Rattle.plan.specs.Data.{records_in}
 use Rattle.work_words.specs.Words.{fragments_of}
 use Rattle.places.specs.Stretch.{number_in}
 use Rattle.places.specs.Longer.{OffsetsIn}
+use Rattle.places.specs.Pool.{KeptBy}
 use Rattle.offsets.specs.declared.kept.Offsets.{Offsets}
 
 -- how many groups are kept
@@ -37,9 +38,8 @@ pub record Kept (s : List ℕ) (gs_of ws_of : ℕ → List ℕ) (p : List ℕ) :
   pub inside : (i d g a n : ℕ) → i < entries_in p → Entry p i d g a n → (2056 ≤ a) × (a + n ≤ used_in p)
 
 -- so many of them, whose words all stand there
-pub record EntriesIn (p : List ℕ) (n : ℕ) : Type 0 where
-  pub kept : n ≤ entries_in p
-  pub room : 0 < n → entry_at n ≤ length p
+abbrev pub EntriesIn : List ℕ → ℕ → Type 0
+EntriesIn p n = KeptBy 4 p n
 
 -- the promise of seeking those of a group: they stand there, and are right
 pub record OffsetsFor (p : List ℕ) (d g : ℕ) (o : Offsets) : Type 0 where
@@ -49,7 +49,7 @@ pub record OffsetsFor (p : List ℕ) (d g : ℕ) (o : Offsets) : Type 0 where
 -- the same of entry i, if it is the group's
 pub record EntryFor (p : List ℕ) (i d g : ℕ) (o : Offsets) : Type 0 where
   pub inside : o.first + o.count ≤ length p
-  pub is : 0 < o.count → Entry p i d g o.first o.count
+  pub is : Entry p i d g o.first o.count
 
 -- the promise of forgetting them
 abbrev pub KeepsNone : List ℕ → Type 0

@@ -1,11 +1,9 @@
 -- Laws of kept offsets: they stay right where entries are added past them, and what is sought among them is right.
-use Rattle.std.specs.Prelude.{ℕ, ◌+◌, ◌≤◌, ◌<◌, List, true, false, ◌≡◌, refl, length, get_or, set}
-use Rattle.std.proofs.Common.{sym, ◌∙◌, ⊎_elim, arith, get_or-set_same, get_or-set_other}
-use Rattle.std.proofs.Math.ListN.{get_or-eq_default}
+use Rattle.std.specs.Prelude.{ℕ, ◌+◌, ◌≤◌, ◌<◌, zero, suc, List, [], ◌∷◌, ◌++◌, ◌≡◌, refl, min, length, get_or, drop, replicate}
+use Rattle.std.proofs.Common.{sym, ◌∙◌, ⊎_elim, arith}
 use Rattle.records.specs.FragmentLaws.{lt_or_le}
 use Rattle.places.specs.Longer.{OffsetsIn}
-use Rattle.offsets.specs.declared.kept.Offsets.{Offsets}
-use Rattle.offsets.specs.Offsets.{entries_in, used_in, entry_at, Entry, OffsetsOf, Kept, EntriesIn, EntryFor, OffsetsFor, KeepsNone}
+use Rattle.offsets.specs.Offsets.{entries_in, used_in, entry_at, Entry, OffsetsOf, Kept, KeepsNone}
 
 -- ---- words
 -- where its words are the same
@@ -59,32 +57,8 @@ module _ {s : List ℕ} {gs_of ws_of : ℕ → List ℕ} {p q : List ℕ} (w : K
 pub kept-none : (q : List ℕ) → entries_in q ≡ 0 → KeepsNone q
 kept-none q e s gs_of ws_of = record { right = λ i d g a n h r. absurd (omega arith); inside = λ i d g a n h r. absurd (omega arith) }
 
-pub forgets_empty : (p : List ℕ) → length p ≡ 0 → KeepsNone p
-forgets_empty p h = kept-none p (get_or-eq_default p 0 (omega arith))
-
-pub forgets_one : (p : List ℕ) → 0 < length p → KeepsNone (set p 0 0)
-forgets_one p h = kept-none (set p 0 0) (get_or-set_same p 0 0 0 h)
-
-pub forgets_two : (p : List ℕ) → 0 < length p → KeepsNone (set (set p 0 0) 1 0)
-forgets_two p h =
-    kept-none (set (set p 0 0) 1 0) (get_or-set_other (set p 0 0) 1 0 0 0 (λ e. omega arith) ∙ get_or-set_same p 0 0 0 h)
-
--- ---- those of a group are sought
-pub entry-none : (p : List ℕ) (i d g : ℕ) → EntryFor p i d g (record { known = false; first = 0; count = 0 })
-entry-none p i d g = record { inside = omega arith; is = λ z. absurd (omega arith) }
-
-pub entry_here : (p : List ℕ) (i d g : ℕ) → get_or p (entry_at i) 0 ≡ d → get_or p (entry_at i + 1) 0 ≡ g
-    → get_or p (entry_at i + 2) 0 + get_or p (entry_at i + 3) 0 ≤ length p
-    → EntryFor p i d g (record { known = true; first = get_or p (entry_at i + 2) 0; count = get_or p (entry_at i + 3) 0 })
-entry_here p i d g a b h = record { inside = h; is = λ z. record { parent = a; group = b; first = refl; count = refl } }
-
-pub offsets_none : (p : List ℕ) (d g : ℕ) → OffsetsFor p d g (record { known = false; first = 0; count = 0 })
-offsets_none p d g = record { inside = omega arith; right = λ s gs_of ws_of w. record { right = λ r h. absurd (omega arith) } }
-
-pub offsets_entry : {p : List ℕ} {i d g n : ℕ} {o : Offsets} → EntriesIn p n → i < n → EntryFor p i d g o → OffsetsFor p d g o
-offsets_entry {i = i} {d = d} {g = g} {o = o} k h e = record {
-  inside = e.inside;
-  right = λ s gs_of ws_of w. record {
-    right = λ r l. (w.right i d g o.first o.count (omega (arith, k.kept)) (e.is (omega arith))).right r l;
-  };
-}
+pub forgets : (p : List ℕ) (n : ℕ) → n ≡ min (length p) 2 → KeepsNone (replicate n 0 ++ drop n p)
+forgets [] zero e = kept-none [] refl
+forgets [] (suc n) e = absurd (omega arith)
+forgets (x ∷ p) zero e = absurd (omega arith)
+forgets (x ∷ p) (suc n) e = kept-none _ refl

@@ -1,13 +1,8 @@
 -- Laws of words shared out to groups, and of entries that are put.
-use Rattle.std.specs.Prelude.{ℕ, suc, ◌+◌, ◌-◌, ◌≤◌, ◌<◌, List, [], ◌∷◌, ◌≡◌, refl, ◌⊎◌, length, get_or, set}
-use Rattle.std.proofs.Common.{◌∙◌, inl, inr, ⊎_elim, add-zero, arith, length-set, get_or-set_same, get_or-set_other}
-use Rattle.base.specs.Blit.{blit}
+use Rattle.std.specs.Prelude.{ℕ, ◌+◌, ◌-◌, ◌≤◌, ◌<◌, List, ◌≡◌, ◌⊎◌, length, get_or, set}
+use Rattle.std.proofs.Common.{◌∙◌, inl, inr, ⊎_elim, arith, length-set, get_or-set_same, get_or-set_other}
 use Rattle.records.specs.FragmentLaws.{lt_or_le}
-use Rattle.records.specs.SeveralLaws.{get_d_blit}
-use Rattle.places.specs.PoolLaws.{outside}
-use Rattle.offsets.specs.Offsets.{entry_at, Entry}
-use Rattle.offsets.specs.OffsetsLaws.{entry-same}
-use Rattle.offsets.specs.Parts.{Ordered, Parts, PutsEntry, PutsEntries}
+use Rattle.offsets.specs.Parts.{Ordered, Parts}
 
 -- ---- parts
 -- part j lies in the words
@@ -104,54 +99,3 @@ module _ {sizes bs : List ℕ} {begin end at j : ℕ} (t : Sharing sizes bs begi
 
   pub sharing_done : 512 ≤ j → Parts sizes bs begin end 512
   sharing_done h = let f = t.few in let e : j ≡ 512 = omega arith in rw e at t.parts
-
--- ---- one entry is put
-four-words : (i a b c d : ℕ) (p : List ℕ) → set (set (set (set p i a) (i + 1) b) (i + 2) c) (i + 3) d ≡ blit i (a ∷ b ∷ c ∷ d ∷ []) p
-unfolding blit
-four-words i a b c d p =
-    let e1 : i + 1 ≡ suc i = omega arith in
-    let e2 : i + 2 ≡ suc (suc i) = omega arith in
-    let e3 : i + 3 ≡ suc (suc (suc i)) = omega arith in
-    rw (e1, e2, e3)
-
-entry-laid : (p : List ℕ) (i d g a n : ℕ) → entry_at i + 4 ≤ length p → PutsEntry p (blit (entry_at i) (d ∷ g ∷ a ∷ n ∷ []) p) i d g a n
-entry-laid p i d g a n h =
-    let ws : List ℕ = d ∷ g ∷ a ∷ n ∷ [] in
-    record {
-      put = record {
-        parent = rw add-zero at (get_d_blit ws (entry_at i) 0 p (omega arith) (omega arith));
-        group = get_d_blit ws (entry_at i) 1 p (omega arith) (omega arith);
-        first = get_d_blit ws (entry_at i) 2 p (omega arith) (omega arith);
-        count = get_d_blit ws (entry_at i) 3 p (omega arith) (omega arith);
-      };
-      before = λ k l. outside ws (entry_at i) k p (inl l);
-      after = λ k l. outside ws (entry_at i) k p (inr l);
-    }
-
-pub puts_entry : (p : List ℕ) (i d g a n : ℕ) → entry_at i + 4 ≤ length p
-    → PutsEntry p (set (set (set (set p (entry_at i) d) (entry_at i + 1) g) (entry_at i + 2) a) (entry_at i + 3) n) i d g a n
-puts_entry p i d g a n h = rw (four-words (entry_at i) d g a n p) (entry-laid p i d g a n h)
-
--- ---- one after the other
-pub entries_begin : (p : List ℕ) (i d : ℕ) (gs bs counts : List ℕ) → PutsEntries p p i d gs bs counts 0
-entries_begin p i d gs bs counts = record { put = λ j h. absurd (omega arith); before = λ k h. refl; after = λ k h. refl }
-
-pub entries-all : {p q : List ℕ} {i d : ℕ} {gs bs counts : List ℕ} {j n : ℕ} → PutsEntries p q i d gs bs counts j → j ≡ n
-    → PutsEntries p q i d gs bs counts n
-entries-all t e = rw e at t
-
-module _ {p q v : List ℕ} {i d : ℕ} {gs bs counts : List ℕ} {j : ℕ} (t : PutsEntries p q i d gs bs counts j)
-    (e : PutsEntry q v (i + j) d (get_or gs j 0) (get_or bs j 0) (get_or counts j 0)) where
-  put_more : (k : ℕ) → k < j + 1 → Entry v (i + k) d (get_or gs k 0) (get_or bs k 0) (get_or counts k 0)
-  put_more k h = go (lt_or_le k j)
-    where
-      go : (k < j) ⊎ (j ≤ k) → Entry v (i + k) d (get_or gs k 0) (get_or bs k 0) (get_or counts k 0)
-      go (inl l) = entry-same (λ m a b. e.before m (omega arith)) (t.put k l)
-      go (inr l) = let y : k ≡ j = omega arith in rw y e.put
-
-  pub entries-more : PutsEntries p v i d gs bs counts (j + 1)
-  entries-more = record {
-    put = put_more;
-    before = λ k h. e.before k (omega arith) ∙ t.before k h;
-    after = λ k h. e.after k (omega arith) ∙ t.after k (omega arith);
-  }

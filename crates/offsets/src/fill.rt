@@ -15,10 +15,7 @@ fn put_entry(words: &mut [u64], i: u64, d: u64, g: u64, first: u64, n: u64)
     ensures { PutsEntry words.old words.new i d g first n }
 {
     let at = (8 + 4 * i) as usize;
-    words[at] = d;
-    words[at + 1] = g;
-    words[at + 2] = first;
-    words[at + 3] = n;
+    words[at..at + 4].copy_from_slice(&[d, g, first, n]);
 }
 
 // The entries of all groups of the DG at d, from entry i on.
@@ -35,11 +32,8 @@ fn put_entries(
     ensures { PutsEntries words.old words.new i d groups.now bounds.now counts.now
         (length groups.now) }
 {
-    let n = groups.len();
-    let mut j: usize = 0;
-    while j < n {
+    for j in 0..groups.len() {
         put_entry(words, i + j as u64, d, groups[j], bounds[j], counts[j]);
-        j += 1;
     }
 }
 
@@ -91,11 +85,7 @@ fn count_entries(words: &mut [u64], n: u64, used: u64)
 fn free_from(words: &[u64]) -> u64
     ensures { (2056 ≤ result) × (used_in words.now ≤ result) }
 {
-    let used = word_at(words, 1);
-    if used < 2056 {
-        return 2056;
-    }
-    used
+    word_at(words, 1).max(2056)
 }
 
 // The offsets of all records of the DG at d, if they have room; counts tells how many records each group is thought to have.

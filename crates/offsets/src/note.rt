@@ -51,10 +51,10 @@ pub(crate) fn pass(
     };
     let mut last: u64 = 0;
     'records: loop {
-        let r = next_record(image, n, groups, fragments, ids, sizes, hints, last, c);
-        if !r.some {
+        let next = next_record(image, n, groups, fragments, ids, sizes, hints, last, c);
+        let Some(r) = next else {
             return;
-        }
+        };
         let group = r.group;
         note(words, counts, bounds, group, r.place);
         c = r.past;

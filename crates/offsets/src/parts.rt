@@ -31,15 +31,13 @@ pub(crate) fn share_out(
     }
     bounds[0] = begin;
     let mut at = begin;
-    let mut j: usize = 0;
-    while j < 512 {
+    for j in 0..512 {
         let n = part_size(sizes, counts, j);
         if end - at < n {
             return false;
         }
         at += n;
-        j += 1;
-        bounds[j] = at;
+        bounds[j + 1] = at;
     }
     true
 }

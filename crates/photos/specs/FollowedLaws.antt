@@ -1,8 +1,10 @@
 -- Laws of the header's attachment chain as the code follows it, and of a channel's references.
 use Prim.{tt}
-use Rattle.std.specs.Prelude.{ℕ, zero, suc, ◌+◌, ◌*◌, ◌-◌, ◌≤◌, ◌<◌, List, [], ◌∷◌, ◌++◌, ◌≡◌, Bool, true, false, eqb, ltb, length, take, drop, set, get_or}
+use Rattle.std.specs.Prelude.{ℕ, zero, suc, ◌+◌, ◌*◌, ◌-◌, ◌≤◌, ◌<◌, List, [], ◌∷◌, ◌++◌, ◌≡◌, Bool, true, false, eqb, ltb, length, take, set, ◌||◌, Result, Ok, Err}
+use Rattle.std.specs.List.{list_any}
+use Rattle.std.specs.Result.{result_unwrap_or}
 use Rattle.std.proofs.Math.Path.{refl}
-use Rattle.std.proofs.Common.{sym, ap, ◌∙◌, sub-one, arith, eq-eqb, ne_eqb, length-set}
+use Rattle.std.proofs.Common.{sym, ap, ◌∙◌, sub-one, arith, length-set}
 use Rattle.base.specs.Choice.{pick, if_lt, if_eq}
 use Rattle.base.specs.ChoiceLaws.{lt_yes, lt_no, lt_back, lt_first, eq_yes, eq_no, eq_first}
 use Rattle.base.specs.Checked.{Checked, ok, refused, and_then, Verdict, fine}
@@ -12,7 +14,7 @@ use Rattle.mdf.specs.Chain.{is_in}
 use Rattle.plan.specs.Channel.{either}
 use Rattle.plan.specs.Photos.{kind_at_block, most_attachments, attachment_in, header_from, header_chain, header_attachments, photo_count, links_from, references, photos_of, are_attached, photos_first, photos_in}
 use Rattle.plan.specs.PhotosLaws.{length-references}
-use Rattle.photos.specs.declared.Followed.{Followed}
+use Rattle.fields.specs.declared.refusal.Refusal.{Refusal}
 use Rattle.photos.specs.declared.Going.{Going}
 use Rattle.photos.specs.Followed.{goes_on, going_as, Follows}
 
@@ -122,34 +124,15 @@ take_next n a w h = let e : n + 1 ≡ suc n = omega arith in rw e (go n w h)
     go zero (b ∷ w) h = refl
     go (suc n) (b ∷ w) h = ap (λ (l : List ℕ). b ∷ l) (go n w (omega arith))
 
--- what is left of a search gives what the whole search gives: words i up to n
-unfoldable pub met_from : ℕ → List ℕ → ℕ → ℕ → Bool
-met_from a w i n = is_in a (take (n - i) (drop i w))
-
-pub met_begin : (a : ℕ) (w : List ℕ) (n : ℕ) → met_from a w 0 n ≡ is_in a (take n w)
-unfolding met_from
-met_begin a w n = let e : n - 0 ≡ n = omega arith in rw e refl
-
-drop-word : (i : ℕ) (w : List ℕ) → i < length w → drop i w ≡ get_or w i 0 ∷ drop (i + 1) w
-drop-word i [] h = absurd (omega arith)
-drop-word zero (b ∷ w) h = refl
-drop-word (suc i) (b ∷ w) h = let e : suc i + 1 ≡ suc (i + 1) = omega arith in rw e (drop-word i w (omega arith))
-
-met_one : (a : ℕ) (w : List ℕ) (i n : ℕ) → i < n → n ≤ length w → met_from a w i n ≡ pick (eqb (get_or w i 0) a) true (met_from a w (i + 1) n)
-unfolding met_from is_in
-met_one a w i n h l =
-    let e : n - i ≡ suc (n - (i + 1)) = omega arith in
-    rw (drop-word i w (omega arith), e) refl
-
-pub met_hit : (a : ℕ) (w : List ℕ) (i n : ℕ) → i < n → n ≤ length w → get_or w i 0 ≡ a → true ≡ met_from a w i n
-met_hit a w i n h l q = sym (met_one a w i n h l ∙ rw (eq-eqb (get_or w i 0) a q))
-
-pub met_miss : (a : ℕ) (w : List ℕ) (i n : ℕ) → i < n → n ≤ length w → (get_or w i 0 ≡ a → ⊥) → met_from a w (i + 1) n ≡ met_from a w i n
-met_miss a w i n h l q = sym (met_one a w i n h l ∙ rw (ne_eqb (get_or w i 0) a q))
-
-pub met_end : (a : ℕ) (w : List ℕ) (i n : ℕ) → n ≤ i → false ≡ met_from a w i n
-unfolding met_from is_in
-met_end a w i n h = let e : n - i ≡ 0 = omega arith in rw e refl
+-- std's search of words
+pub is_in-any : (a : ℕ) (w : List ℕ) → list_any (λ b. eqb b a) w ≡ is_in a w
+unfolding is_in
+is_in-any a [] = refl
+is_in-any a (b ∷ w) = go (eqb b a) (is_in-any a w)
+  where
+    go : (t : Bool) → list_any (λ b. eqb b a) w ≡ is_in a w → (t || list_any (λ b. eqb b a) w) ≡ pick t true (is_in a w)
+    go true e = refl
+    go false e = e
 
 -- ---- the chain
 abbrev on_goes : Checked Bool → List ℕ → Checked (List ℕ) → Checked (List ℕ)
@@ -183,71 +166,59 @@ length-first (suc n) [] h = absurd (omega arith)
 length-first (suc n) (b ∷ w) h = ap suc (length-first n w (omega arith))
 
 -- the chain from at on, after so many, and what is left of it
-pub record Following (s w : List ℕ) (at count turns : ℕ) : Type 0 where
+pub record Following (s w : List ℕ) (at count : ℕ) : Type 0 where
   pub words : length w ≡ 64
-  pub sum : count + turns ≡ 66
   pub few : count ≤ 64
-  pub rest : header_from turns s at (take count w) ≡ header_chain s
+  pub rest : header_from (66 - count) s at (take count w) ≡ header_chain s
 
-pub follow_begin : (s w : List ℕ) (at : ℕ) → at ≡ link_at s 64 3 → length w ≡ 64 → Following s w at 0 66
+pub follow_begin : (s w : List ℕ) (at : ℕ) → at ≡ link_at s 64 3 → length w ≡ 64 → Following s w at 0
 unfolding header_chain
-follow_begin s w at e h = record { words = h; sum = refl; few = omega arith; rest = rw e refl }
+follow_begin s w at e h = record { words = h; few = omega arith; rest = rw e refl }
 
-module _ {s w : List ℕ} {at count turns : ℕ} (u : Following s w at count turns) where
-  opened : 0 < turns → {v : Checked Bool} → goes_on s at (is_in at (take count w)) count ≡ v
-      → on_goes v (take count w) (header_from (turns - 1) s (first_link s at) (take count w ++ (at ∷ []))) ≡ header_chain s
-  opened h e =
+module _ {s w : List ℕ} {at count : ℕ} (u : Following s w at count) where
+  opened : {v : Checked Bool} → goes_on s at (is_in at (take count w)) count ≡ v
+      → on_goes v (take count w) (header_from (66 - count - 1) s (first_link s at) (take count w ++ (at ∷ []))) ≡ header_chain s
+  opened e =
       rw (← e)
-      (sym (header_open turns s at (take count w) h
-      ∙ ap (λ (n : ℕ). on_goes (goes_on s at (is_in at (take count w)) n) (take count w) (header_from (turns - 1) s (first_link s at) (take count w ++ (at ∷ []))))
+      (sym (header_open (66 - count) s at (take count w) (omega (arith, u.few))
+      ∙ ap (λ (n : ℕ). on_goes (goes_on s at (is_in at (take count w)) n) (take count w) (header_from (66 - count - 1) s (first_link s at) (take count w ++ (at ∷ []))))
       (length-first count w (omega (arith, u.words, u.few))))
       ∙ u.rest)
 
-  pub follow_refused : 0 < turns → {n p : ℕ} → goes_on s at (is_in at (take count w)) count ≡ refused n p → header_chain s ≡ refused n p
-  follow_refused h e = sym (opened h e)
+  pub follow_refused : {n p : ℕ} → goes_on s at (is_in at (take count w)) count ≡ refused n p → header_chain s ≡ refused n p
+  follow_refused e = sym (opened e)
 
-  pub follow_ends : 0 < turns → goes_on s at (is_in at (take count w)) count ≡ ok false → Follows (header_chain s) (Followed.Met count) w
-  follow_ends h e = (sym (opened h e), u.few)
+  pub follow_ends : goes_on s at (is_in at (take count w)) count ≡ ok false → Follows (header_chain s) (Ok count) w
+  follow_ends e = (sym (opened e), u.few)
 
-  pub follow_next : 0 < turns → goes_on s at (is_in at (take count w)) count ≡ ok true → (next : ℕ) → next ≡ first_link s at
-      → Following s (set w count at) next (count + 1) (turns - 1)
-  follow_next h e next q =
+  pub follow_next : goes_on s at (is_in at (take count w)) count ≡ ok true → (next : ℕ) → next ≡ first_link s at
+      → Following s (set w count at) next (count + 1)
+  follow_next e next q =
       let f = (goes_fits s at (is_in at (take count w)) count e).few in
+      let turns : 66 - (count + 1) ≡ 66 - count - 1 = omega arith in
       record {
         words = rw length-set u.words;
-        sum = omega (arith, u.sum);
         few = omega (arith, f);
-        rest = rw (q, take_next count at w (omega (arith, u.words, f))) (opened h e);
+        rest = rw (turns, q, take_next count at w (omega (arith, u.words, f))) (opened e);
       }
 
-  pub follow_out : turns ≡ 0 → Follows (header_chain s) (Followed.Met count) w
-  unfolding header_from
-  follow_out z = absurd (omega (arith, u.sum, u.few))
-
 -- the code's answer, where an address was sought first
-pub so_goes : (s : List ℕ) (a n : ℕ) (met : List ℕ) {b : Bool} {r : Going} {g : Going} → b ≡ is_in a met → going_as r ≡ goes_on s a b n → r ≡ g
+pub so_goes : (s : List ℕ) (a n : ℕ) (met : List ℕ) {b : Bool} {r g : Result Going Refusal} → b ≡ is_in a met → going_as r ≡ goes_on s a b n → r ≡ g
     → goes_on s a (is_in a met) n ≡ going_as g
 so_goes s a n met e f h = ap (λ (b : Bool). goes_on s a b n) (sym e) ∙ sym f ∙ ap going_as h
 
 -- the attachments of the chain are the first words; none of one that is refused
-pub met_all : (s w : List ℕ) (k : ℕ) {f : Followed} → Follows (header_chain s) f w → f ≡ Followed.Met k → (take k w ≡ header_attachments s) × (k ≤ 64)
+pub met_all : (s w : List ℕ) (f : Result ℕ Refusal) → Follows (header_chain s) f w → (take (result_unwrap_or f 0) w ≡ header_attachments s) × (result_unwrap_or f 0 ≤ 64)
 unfolding header_attachments
-met_all s w k h e = let g : Follows (header_chain s) (Followed.Met k) w = rw e at h in (rw g.0 refl, g.1)
-
-met_none : (s w : List ℕ) (n p : ℕ) {f : Followed} → Follows (header_chain s) f w → f ≡ Followed.Refused n p → take 0 w ≡ header_attachments s
-unfolding header_attachments
-met_none s w n p h e = let g : header_chain s ≡ refused n p = rw e at h in rw g refl
+met_all s w (Ok k) h = (rw h.0 refl, h.1)
+met_all s w (Err x) h = (rw h refl, omega arith)
 
 -- ---- references
 
 -- those of the first words are those of the chain
-pub attached_all : (s w : List ℕ) (c k : ℕ) {f : Followed} {r : Bool} → Follows (header_chain s) f w → f ≡ Followed.Met k
-    → r ≡ are_attached (take k w) (references s c) → r ≡ are_attached (header_attachments s) (references s c)
-attached_all s w c k h e q = q ∙ ap (λ (l : List ℕ). are_attached l (references s c)) (met_all s w k h e).0
-
-pub attached_none : (s w : List ℕ) (c n p : ℕ) {f : Followed} {r : Bool} → Follows (header_chain s) f w → f ≡ Followed.Refused n p
-    → r ≡ are_attached (take 0 w) (references s c) → r ≡ are_attached (header_attachments s) (references s c)
-attached_none s w c n p h e q = q ∙ ap (λ (l : List ℕ). are_attached l (references s c)) (met_none s w n p h e)
+pub attached_all : (s w : List ℕ) (c : ℕ) (f : Result ℕ Refusal) {r : Bool} → Follows (header_chain s) f w
+    → r ≡ are_attached (take (result_unwrap_or f 0) w) (references s c) → r ≡ are_attached (header_attachments s) (references s c)
+attached_all s w c f h q = q ∙ ap (λ (l : List ℕ). are_attached l (references s c)) (met_all s w f h).0
 
 -- what is left of a channel's references
 unfoldable pub refs_from : List ℕ → ℕ → ℕ → List ℕ

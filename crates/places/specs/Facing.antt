@@ -1,5 +1,5 @@
 -- Bookkeeping: what is ahead of a place between two records of several groups, and the record that follows.
-use Rattle.std.specs.Prelude.{ℕ, ◌+◌, ◌≤◌, ◌<◌, true, false, List, [], ◌∷◌, ◌≡◌, length, get_or, drop}
+use Rattle.std.specs.Prelude.{ℕ, ◌+◌, ◌≤◌, ◌<◌, false, Option, Some, None, List, [], ◌∷◌, ◌≡◌, length, get_or, drop}
 use Rattle.base.specs.Blit.{part}
 use Rattle.mdf.specs.Walk.{id_size}
 use Rattle.mdf.specs.Group.{is_storage}
@@ -33,11 +33,11 @@ pub record Faced (s : List ℕ) (n : ℕ) (gs ws : List ℕ) (rs : List Frame) (
   pub facing : Facing s n gs ws at' p' l' offset' later
 
 -- the promise of finding it from the place c on: it is found unless there are none
-pub record FoundAt (s : List ℕ) (n : ℕ) (gs ws ids sizes : List ℕ) (c : Scan) (r : Found) : Type 0 where
-  pub further : r.some ≡ true → (c.offset < r.past.offset) × (r.past.offset ≤ most64)
-  pub number : r.past.number ≡ c.number
+pub record FoundAt (s : List ℕ) (n : ℕ) (gs ws ids sizes : List ℕ) (c : Scan) (o : Option Found) : Type 0 where
+  pub further : (r : Found) → o ≡ Some r → (c.offset < r.past.offset) × (r.past.offset ≤ most64)
+  pub number : (r : Found) → o ≡ Some r → r.past.number ≡ c.number
   pub right : (d : ℕ) → n ≡ id_size s d → 0 < n → Tabled s gs ids sizes → length (joined s (fragments_of ws)) ≤ most64 → (rs : List Frame)
       → Facing s (id_size s d) gs ws c.at c.position c.left c.offset rs
-      → (r.some ≡ false → rs ≡ [])
-      × (r.some ≡ true
+      → (o ≡ None → rs ≡ [])
+      × ((r : Found) → o ≡ Some r
       → Faced s (id_size s d) gs ws rs r.group r.place r.past.at r.past.position r.past.left r.past.offset)

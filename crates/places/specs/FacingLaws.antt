@@ -1,6 +1,6 @@
 -- Laws of what is ahead of a place between two records of several groups.
 use Prim.Native.Nat.{ℕ, ◌+◌, ◌-◌, ◌≤◌, ◌<◌}
-use Rattle.std.specs.Prelude.{Bool, true, false, not, ◌≡◌, refl, get_or}
+use Rattle.std.specs.Prelude.{Bool, true, false, not, Option, Some, None, ◌≡◌, refl, get_or}
 use mathlib.Core.List.{List, [], ◌∷◌}
 use Rattle.std.proofs.Common.{sym, ap, ◌∙◌, subst, arith, length-append}
 use Rattle.std.proofs.Math.ListN.{length, drop, length-drop}
@@ -15,13 +15,10 @@ use Rattle.mdf.specs.Records.{most64, joined, equal_ids, Frame, framed, broken, 
 use Rattle.work_words.specs.Words.{fragments_of}
 use Rattle.plan.specs.Data.{records_in}
 use Rattle.result.specs.Payload.{framed_records, group_records}
-use Rattle.payload_laws.specs.Answers.{false≢true}
 use Rattle.payload_laws.specs.SortedLaws.{joined_length}
 use Rattle.records.specs.Table.{Tabled}
 use Rattle.payload_laws.specs.FramedLaws.{KnownFrame, AllKnown, next, counted-group, unsorted_several, framed_few}
-use Rattle.records.specs.declared.framing.Step.{Step}
-use Rattle.records.specs.declared.framing.Step.TheVariants.{Broken, Record}
-use Rattle.records.specs.declared.framing.Framing.{Framing}
+use Rattle.records.specs.declared.framing.Record.{Record}
 use Rattle.records.specs.Ahead.{fragments_from, ahead, stepped, step_at, step_to}
 use Rattle.records.specs.Answer.{reached_of}
 use Rattle.records.specs.AnswerLaws.{so_broken, so_record}
@@ -35,6 +32,7 @@ use Rattle.places.specs.ScanLaws.{checked_frames}
 use Rattle.places.specs.Longer.{RecordAt}
 use Rattle.places.specs.Facing.{Facing, Faced, FoundAt}
 use Rattle.places.specs.declared.stretch.Scan.{Scan}
+use Rattle.places.specs.declared.frame.Found.{Found}
 
 same_frame : {q r : Frame} → framed q ≡ framed r → q ≡ r
 same_frame e = cc
@@ -156,25 +154,30 @@ module _ {s : List ℕ} {n : ℕ} {gs ws : List ℕ} {at p l offset : ℕ} {rs :
   face_some q = rw t.rest at (joined-some s ws at p l is q)
 
   -- a record
-  module _ (q : here ≡ 0 → ⊥) {o : Step} (e : reached_of o ≡ step_to s n gs (ahead s ws at p l) at) where
-    pub face_broken : o ≡ Broken → ⊥
+  module _ (q : here ≡ 0 → ⊥) {o : Option Record} (e : reached_of o ≡ step_to s n gs (ahead s ws at p l) at) where
+    pub face_broken : o ≡ None → ⊥
     face_broken b = go (face_some q) t.read
       where
         no_frame : frame_at s n gs (drop offset (joined s (fragments_of ws))) ≡ broken
         no_frame =
-            rw t.rest at (stuck_broken s n gs (ahead s ws at p l) (ahead-counts s ws at p l) (so_broken s n gs ws at p l e b))
+            rw t.rest at
+            (stuck_broken s n gs (ahead s ws at p l) (ahead-counts s ws at p l)
+            (so_broken s n gs ws (record { at = at; position = p; left = l }) e b))
 
         go : {qs : List Frame} → 0 < length (drop offset (joined s (fragments_of ws))) → Read s n gs (drop offset (joined s (fragments_of ws))) qs
             → ⊥
         go z (end y) = omega arith
         go z (more y g k) = broken≢framed (sym no_frame ∙ g)
 
-    pub face_record : {j m p' l' : ℕ} {x : Framing} → o ≡ Record j m x p' l'
-        → Faced s n gs ws rs j (offset + n) x.at p' l' (offset + n + m) × (offset + n + m ≤ length (joined s (fragments_of ws)))
+    pub face_record : {x : Record} → o ≡ Some x
+        → Faced s n gs ws rs x.group (offset + n) x.next.at x.next.position x.next.left (offset + n + x.bytes)
+        × (offset + n + x.bytes ≤ length (joined s (fragments_of ws)))
     unfolding part
-    face_record {j} {m} {p'} {l'} {x} b =
-        let a = so_record s n gs ws at p l e b in
-        let k : Stepping s n gs (ahead s ws at p l) j (ahead s ws x.at p' l') = stepping s n gs (ahead s ws at p l) a in
+    face_record {x} b =
+        let m : ℕ = x.bytes in
+        let a = so_record s n gs ws (record { at = at; position = p; left = l }) e b in
+        let k : Stepping s n gs (ahead s ws at p l) x.group (ahead s ws x.next.at x.next.position x.next.left) =
+        stepping s n gs (ahead s ws at p l) a in
         let r : Frame = k.frame in
         let J : List ℕ = joined s (fragments_of ws) in
         let f : frame_at s n gs (drop offset J) ≡ framed r = rw t.rest at k.is in
@@ -219,7 +222,7 @@ pub not-true : (b : Bool) → not b ≡ true → b ≡ false
 not-true true e = sym e
 not-true false e = refl
 
-step_for : (s : List ℕ) (n : ℕ) (gs ws : List ℕ) (at p l i : ℕ) (x : Step) → n ≡ i → reached_of x ≡ step_to s n gs (ahead s ws at p l) at
+step_for : (s : List ℕ) (n : ℕ) (gs ws : List ℕ) (at p l i : ℕ) (x : Option Record) → n ≡ i → reached_of x ≡ step_to s n gs (ahead s ws at p l) at
     → reached_of x ≡ step_to s i gs (ahead s ws at p l) at
 step_for s n gs ws at p l i x q e = e ∙ ap (λ (m : ℕ). step_to s m gs (ahead s ws at p l) at) q
 
@@ -231,61 +234,64 @@ pub record Ahead (s : List ℕ) (n : ℕ) (gs ws : List ℕ) (c : Scan) (at p l 
 pub ahead_begin : {s : List ℕ} {n : ℕ} {gs ws : List ℕ} {c : Scan} → Ahead s n gs ws c c.at c.position c.left
 ahead_begin = record { on = λ d i rs f. f }
 
+none_found : {A : Type 0} {x : Found} → ◌≡◌ {A = Option Found} None (Some x) → A
+none_found e = absurd (let z : ◌≡◌ {A = ℕ} 0 1 = cc in omega arith)
+
+some_found : {A : Type 0} {x : Found} → ◌≡◌ {A = Option Found} (Some x) None → A
+some_found e = absurd (let z : ◌≡◌ {A = ℕ} 0 1 = cc in omega arith)
+
+same_found : {x y : Found} → ◌≡◌ {A = Option Found} (Some x) (Some y) → y ≡ x
+same_found e = cc
+
 module _ (s : List ℕ) (n : ℕ) (gs ws ids sizes : List ℕ) (c : Scan) where
-  pub found-without : n ≡ 0 → FoundAt s n gs ws ids sizes c (record { some = false; group = 0; place = 0; past = c })
-  found-without z = record {
-    further = λ e. absurd (false≢true e);
-    number = refl;
-    right = λ d i h tb few rs f. absurd (omega arith);
+  -- none is found
+  nothing : ((d : ℕ) → n ≡ id_size s d → 0 < n → Tabled s gs ids sizes → length (joined s (fragments_of ws)) ≤ most64 → (rs : List Frame)
+      → Facing s (id_size s d) gs ws c.at c.position c.left c.offset rs → rs ≡ []) → FoundAt s n gs ws ids sizes c None
+  nothing f = record {
+    further = λ r e. none_found e;
+    number = λ r e. none_found e;
+    right = λ d i some tb few rs g. (λ _. f d i some tb few rs g, λ r e. none_found e);
   }
+
+  pub found-without : n ≡ 0 → FoundAt s n gs ws ids sizes c None
+  found-without z = nothing (λ d i h tb few rs f. absurd (omega arith))
 
   module _ {at p l : ℕ} (t : Ahead s n gs ws c at p l) {here : ℕ} (is : here ≡ length (part p l s)) where
     pub ahead_move : {o z : ℕ} → here ≡ 0 → at + 3 ≤ length ws → o ≡ get_or ws at 0 → z ≡ get_or ws (at + 1) 0 → Ahead s n gs ws c (at + 3) o z
     ahead_move q h x y = record { on = λ d i rs f. face_move (t.on d i rs f) is q h x y }
 
-    pub found_end : here ≡ 0 → length ws < at + 3 → FoundAt s n gs ws ids sizes c (record { some = false; group = 0; place = 0; past = c })
-    found_end q h = record {
-      further = λ e. absurd (false≢true e);
-      number = refl;
-      right = λ d i some tb few rs f. (λ e. face_end (t.on d i rs f) is q h, λ e. absurd (false≢true e));
-    }
+    pub found_end : here ≡ 0 → length ws < at + 3 → FoundAt s n gs ws ids sizes c None
+    found_end q h = nothing (λ d i some tb few rs f. face_end (t.on d i rs f) is q h)
 
-    module _ (q : here ≡ 0 → ⊥) (x : Step) (e : Tabled s gs ids sizes → reached_of x ≡ step_to s n gs (ahead s ws at p l) at) where
-      pub found_broken : x ≡ Broken → FoundAt s n gs ws ids sizes c (record { some = false; group = 0; place = 0; past = c })
-      found_broken b = record {
-        further = λ e. absurd (false≢true e);
-        number = refl;
-        right = λ d i some tb few rs f.
-            absurd (face_broken (t.on d i rs f) is q (step_for s n gs ws at p l (id_size s d) x i (e tb)) b);
-      }
+    module _ (q : here ≡ 0 → ⊥) (x : Option Record) (e : Tabled s gs ids sizes → reached_of x ≡ step_to s n gs (ahead s ws at p l) at) where
+      pub found_broken : x ≡ None → FoundAt s n gs ws ids sizes c None
+      found_broken b =
+          nothing (λ d i some tb few rs f. absurd (face_broken (t.on d i rs f) is q (step_for s n gs ws at p l (id_size s d) x i (e tb)) b))
 
-      module _ {j m p' l' : ℕ} {y : Framing} (b : x ≡ Record j m y p' l') where
+      module _ {y : Record} (b : x ≡ Some y) where
         -- numbers of 64 bits are enough
-        pub found_far : most64 < c.offset + n + m → FoundAt s n gs ws ids sizes c (record { some = false; group = 0; place = 0; past = c })
-        found_far h = record {
-          further = λ e. absurd (false≢true e);
-          number = refl;
-          right = λ d i some tb few rs f.
-              let a = (face_record (t.on d i rs f) is q (step_for s n gs ws at p l (id_size s d) x i (e tb)) b).1 in
-              absurd (omega (arith, h, a, few, i));
-        }
+        pub found_far : most64 < c.offset + n + y.bytes → FoundAt s n gs ws ids sizes c None
+        found_far h =
+            nothing (λ d i some tb few rs f.
+            let a = (face_record (t.on d i rs f) is q (step_for s n gs ws at p l (id_size s d) x i (e tb)) b).1 in
+            absurd (omega (arith, h, a, few, i)))
 
-        pub found_record : 0 < n → c.offset + n + m ≤ most64
+        pub found_record : 0 < n → {place offset : ℕ} → place ≡ c.offset + n → offset ≡ place + y.bytes → offset ≤ most64
             → FoundAt s n gs ws ids sizes c
-            (record {
-              some = true;
-              group = j;
-              place = c.offset + n;
-              past = record { at = y.at; position = p'; left = l'; offset = c.offset + n + m; number = c.number };
-            })
-        found_record z h = record {
-          further = λ _. (omega arith, h);
-          number = refl;
+            (Some (record {
+              group = y.group;
+              place = place;
+              past = record { at = y.next.at; position = y.next.position; left = y.next.left; offset = offset; number = c.number };
+            }))
+        found_record z {place} {offset} pl of h = record {
+          further = λ r v. rw (same_found v) (omega arith, h);
+          number = λ r v. rw (same_found v);
           right = λ d i some tb few rs f. (
-            λ e. absurd (false≢true (sym e)),
-            λ _.
+            λ v. some_found v,
+            λ r v.
                 let a = (face_record (t.on d i rs f) is q (step_for s n gs ws at p l (id_size s d) x i (e tb)) b).0 in
-                subst (λ (k : ℕ). Faced s (id_size s d) gs ws rs j (c.offset + k) y.at p' l' (c.offset + k + m)) (sym i) a,
+                rw (same_found v, of, pl)
+                (subst (λ (k : ℕ). Faced s (id_size s d) gs ws rs y.group (c.offset + k) y.next.at y.next.position y.next.left (c.offset + k + y.bytes)) (sym i) a),
           );
         }
 

@@ -1,6 +1,6 @@
 -- Laws of the next records of one of several groups.
-use Rattle.std.specs.Prelude.{ℕ, zero, suc, ◌+◌, ◌≤◌, ◌<◌, true, false, List, [], ◌≡◌, refl, ◌⊎◌, length}
-use Rattle.std.proofs.Common.{sym, ap, ◌∙◌, subst, inl, inr, arith}
+use Rattle.std.specs.Prelude.{ℕ, zero, suc, ◌+◌, ◌≤◌, ◌<◌, Option, Some, None, List, [], ◌≡◌, refl, length}
+use Rattle.std.proofs.Common.{sym, ap, ◌∙◌, subst, arith}
 use Rattle.mdf.specs.Walk.{id_size}
 use Rattle.mdf.specs.Records.{most64, Frame}
 use Rattle.work_words.specs.Words.{fragments_of}
@@ -84,45 +84,44 @@ module _ (s : List ℕ) (n k : ℕ) (gs ws ids sizes : List ℕ) (c₀ : Scan) w
         zero_or zero f = f refl
         zero_or (suc m) f = omega arith
 
-    module _ {x : Found} (f : FoundAt s n gs ws ids sizes c x) where
+    module _ {v : Option Found} (f : FoundAt s n gs ws ids sizes c v) where
       found : (d : ℕ) → n ≡ id_size s d → (length gs ≡ 1 → ⊥) → Tabled s gs ids sizes → Ready s d k gs ws → (u : Nexting s d k gs ws c₀ t c)
-          → (x.some ≡ false → u.frames ≡ [])
-          × (x.some ≡ true
+          → (v ≡ None → u.frames ≡ [])
+          × ((x : Found) → v ≡ Some x
           → Faced s (id_size s d) gs ws u.frames x.group x.place x.past.at x.past.position x.past.left x.past.offset)
       found d i o tb r u = let w = whole_ready d o r in let z = w.id in f.right d i (omega (arith, z, i)) tb w.bytes u.frames u.facing
 
-      pub next_end : x.some ≡ false → NextBy s n k gs ws ids sizes c₀ (record { stretch = t; scan = c })
-      next_end q d i o tb r v =
-          let u = g d i o tb r v in
+      pub next_end : v ≡ None → NextBy s n k gs ws ids sizes c₀ (record { stretch = t; scan = c })
+      next_end q d i o tb r b =
+          let u = g d i o tb r b in
           let a = numbered_end u.numbered ((found d i o tb r u).0 q) in
-          next_is d o r u (λ b. absurd (omega arith))
+          next_is d o r u (λ h. absurd (omega arith))
 
       -- a record that doesn't lie at the distance of the others
-      pub next_stop : {p : ℕ} {u : Stretch} → LongerBy t p u → u.count ≡ t.count
+      pub next_stop : {p : ℕ} {u : Option Stretch} → LongerBy t p u → u ≡ None
           → NextBy s n k gs ws ids sizes c₀ (record { stretch = t; scan = c })
-      next_stop a z d i o tb r v =
-          next_is d o r (g d i o tb r v) (λ _. some t.count (λ w. let y = a.first w in omega (arith, y, z, w)))
+      next_stop a z d i o tb r b = next_is d o r (g d i o tb r b) (λ _. some t.count (λ w. a.first w z))
         where
           some : (m : ℕ) → (m ≡ 0 → ⊥) → 0 < m
           some m h = omega arith
 
-      module _ (q : x.some ≡ true) where
+      module _ {x : Found} (q : v ≡ Some x) where
         -- numbers of 64 bits are enough
         pub next-many : x.group ≡ k → most64 ≤ c.number → NextBy s n k gs ws ids sizes c₀ (record { stretch = t; scan = c })
-        next-many y h d i o tb r v =
-            let u = g d i o tb r v in
+        next-many y h d i o tb r b =
+            let u = g d i o tb r b in
             let w = whole_ready d o r in
             let z = r.listed in
-            let a = own_low u.numbered ((found d i o tb r u).1 q) y in
+            let a = own_low u.numbered ((found d i o tb r u).1 x q) y in
             let l = ap length (framed_is s d k gs ws o w (omega arith)) in
             let z = w.records k in
             absurd (omega (arith, h, a, l, z))
 
         pub going_other : (x.group ≡ k → ⊥) → Going s n k gs ws ids sizes c₀ t x.past
-        going_other y d i o tb r v =
-            let u = g d i o tb r v in
-            let a = (found d i o tb r u).1 q in
-            let e = f.number in
+        going_other y d i o tb r b =
+            let u = g d i o tb r b in
+            let a = (found d i o tb r u).1 x q in
+            let e = f.number x q in
             record {
               frames = a.later;
               facing = a.facing;
@@ -132,7 +131,7 @@ module _ (s : List ℕ) (n k : ℕ) (gs ws ids sizes : List ℕ) (c₀ : Scan) w
               to = u.to ∙ sym e;
             }
 
-        pub going_own : {u : Stretch} → x.group ≡ k → LongerBy t x.place u → (u.count ≡ t.count → ⊥)
+        pub going_own : {l : Option Stretch} {u : Stretch} → x.group ≡ k → LongerBy t x.place l → l ≡ Some u
             → Going s n k gs ws ids sizes c₀ u
             (record {
               at = x.past.at;
@@ -141,23 +140,19 @@ module _ (s : List ℕ) (n k : ℕ) (gs ws ids sizes : List ℕ) (c₀ : Scan) w
               offset = x.past.offset;
               number = c.number + 1;
             })
-        going_own {u} y lb z d i o tb r v =
-            let w = g d i o tb r v in
-            let a = (found d i o tb r w).1 q in
+        going_own {u = u} y lb z d i o tb r b =
+            let w = g d i o tb r b in
+            let a = (found d i o tb r w).1 x q in
             let w1 = w.from in
             let w2 = w.to in
-            let l1 = lb.from in
+            let l1 = lb.from u z in
+            let l2 = lb.count u z in
             let h : RecordAt s d k gs ws (t.number + t.count) x.place = rw w2 (own_at w.numbered a y r.plain) in
             record {
               frames = a.later;
               facing = a.facing;
               numbered = numbered-own w.numbered a y;
-              stretch = lb.right s d k gs ws w.stretch h;
+              stretch = lb.right u z s d k gs ws w.stretch h;
               from = l1 ∙ w1;
-              to = grown lb.count (λ m. omega (arith, l1, w2, m));
+              to = omega (arith, l1, l2, w2);
             }
-          where
-            grown : (u.count ≡ t.count) ⊎ (u.count ≡ t.count + 1) → (u.count ≡ t.count + 1 → u.number + u.count ≡ c.number + 1)
-                → u.number + u.count ≡ c.number + 1
-            grown (inl m) h = absurd (z m)
-            grown (inr m) h = h m

@@ -20,12 +20,13 @@ KeepsRecord d g r a p q =
     (s : List ℕ) (gs_of ws_of : ℕ → List ℕ) → RecordAt s d (number_in g (gs_of d)) (gs_of d) (ws_of d) r a → Pooled s gs_of ws_of p
     → Pooled s gs_of ws_of q
 
--- the words of entry i, if it is the group's and ends before record r, else nothing
+-- the stretch of entry i, which is the group's and has records, the last of them before record r
 pub record EndsAt (p : List ℕ) (i d g r : ℕ) (t : Stretch) : Type 0 where
-  pub parent : 0 < t.count → get_or p (entry_at i) 0 ≡ d
-  pub group : 0 < t.count → get_or p (entry_at i + 1) 0 ≡ g
-  pub is : 0 < t.count → t ≡ stretch_in p i
-  pub ends : 0 < t.count → t.number + t.count ≡ r
+  pub some : 0 < t.count
+  pub parent : get_or p (entry_at i) 0 ≡ d
+  pub group : get_or p (entry_at i + 1) 0 ≡ g
+  pub is : t ≡ stretch_in p i
+  pub ends : t.number + t.count ≡ r
 
 -- the next record of group j, by the counts of the groups, lies at a; records of a group with the size 0 aren't kept
 pub record TakesRecord (d : ℕ) (gs sizes : List ℕ) (j a : ℕ) (counts p q : List ℕ) : Type 0 where

@@ -1,7 +1,11 @@
 -- Laws of keeping the stretches of all groups of a DG.
-use Rattle.std.specs.Prelude.{ℕ, zero, suc, ◌+◌, ◌-◌, ◌≤◌, ◌<◌, List, [], ◌∷◌, Bool, true, false, ◌≡◌, refl, ◌⊎◌, length, get_or, set, replicate}
+use Rattle.std.specs.Prelude.{ℕ, zero, suc, ◌+◌, ◌≤◌, ◌<◌, List, Bool, true, false, Option, Some, ◌≡◌, refl, ◌⊎◌, length, get_or, set, replicate}
 use Rattle.std.proofs.Common.{sym, ap, ◌∙◌, inl, inr, arith, length-set, get_or-set_same, get_or-set_other}
+use borrow.Rule.Slice.PartMut.{put_mid}
+use Rattle.std.proofs.Common.{append_assoc, take, drop}
+use Rattle.std.proofs.Math.Seq.{drop-drop}
 use Rattle.base.specs.Blit.{blit}
+use Rattle.base.specs.BlitLaws.{blit_is}
 use Rattle.base.specs.Checked.{fine}
 use Rattle.plan.specs.Data.{records_in}
 use Rattle.mdf.specs.Walk.{id_size}
@@ -14,8 +18,8 @@ use Rattle.places.specs.declared.stretch.Stretch.{Stretch}
 use Rattle.places.specs.declared.stretch.Scan.{Scan}
 use Rattle.places.specs.Stretch.{number_in}
 use Rattle.places.specs.StretchLaws.{stretch_one, number_apart}
-use Rattle.places.specs.Pool.{kept_in, entry_at, stretch_in, RightOf, Pooled, KeptIn, KeepsRight}
-use Rattle.places.specs.PoolLaws.{entry_words, pooled_back, pooled_past, pooled_put, pooled_more}
+use Rattle.places.specs.Pool.{kept_in, entry_at, RightOf, Pooled, KeptIn, KeepsRight}
+use Rattle.places.specs.PoolLaws.{entry_words, pooled_put, pooled_more}
 use Rattle.places.specs.Longer.{RecordAt, LongerBy}
 use Rattle.places.specs.declared.frame.Found.{Found}
 use Rattle.places.specs.Facing.{Facing, Faced, FoundAt}
@@ -23,46 +27,25 @@ use Rattle.places.specs.FacingLaws.{whole_checked, face_start, Numbered, numbere
 use Rattle.places.specs.Pass.{KeepsAll, KeepsRecord, EndsAt, TakesRecord, Passes}
 
 -- ---- words
-pub six_words : (i a b c d e f : ℕ) (p : List ℕ)
-    → set (set (set (set (set (set p i a) (i + 1) b) (i + 2) c) (i + 3) d) (i + 4) e) (i + 5) f ≡ blit i (a ∷ b ∷ c ∷ d ∷ e ∷ f ∷ []) p
-unfolding blit
-six_words i a b c d e f p =
-    let e1 : i + 1 ≡ suc i = omega arith in
-    let e2 : i + 2 ≡ suc (suc i) = omega arith in
-    let e3 : i + 3 ≡ suc (suc (suc i)) = omega arith in
-    let e4 : i + 4 ≡ suc (suc (suc (suc i))) = omega arith in
-    let e5 : i + 5 ≡ suc (suc (suc (suc (suc i)))) = omega arith in
-    rw (e1, e2, e3, e4, e5)
+-- a part of the words that was written whole
+pub laid_words : (a e : ℕ) (ys l : List ℕ) → e ≡ length ys → a + length ys ≤ length l → put_mid a e l ys ≡ blit a ys l
+laid_words a e ys l h j =
+    let past : drop e (drop a l) ≡ drop (a + e) l = drop-drop e a l in
+    rw (past, h, blit_is a ys l j) (sym (append_assoc (take a l) ys (drop (a + length ys) l)))
 
 -- ---- one entry
-pub ends-none : (p : List ℕ) (i d g r : ℕ) → EndsAt p i d g r (record { number = 0; first = 0; stride = 0; count = 0 })
-ends-none p i d g r = record {
-  parent = λ z. absurd (omega arith);
-  group = λ z. absurd (omega arith);
-  is = λ z. absurd (omega arith);
-  ends = λ z. absurd (omega arith);
-}
-
-pub ends-here : (p : List ℕ) (i d g r : ℕ) → get_or p (entry_at i) 0 ≡ d → get_or p (entry_at i + 1) 0 ≡ g → get_or p (entry_at i + 2) 0 ≤ r
-    → r - get_or p (entry_at i + 2) 0 ≡ get_or p (entry_at i + 5) 0 → EndsAt p i d g r (stretch_in p i)
-ends-here p i d g r a b h e = record { parent = λ _. a; group = λ _. b; is = λ _. refl; ends = λ _. omega arith }
-
 pub keeps_same : (d g r a : ℕ) (p : List ℕ) → KeepsRecord d g r a p p
 keeps_same d g r a p s gs_of ws_of q w = w
 
-pub keeps_then : (d g r a : ℕ) {p q v : List ℕ} → KeepsRecord d g r a p q → KeepsRecord d g r a q v → KeepsRecord d g r a p v
-keeps_then d g r a f h s gs_of ws_of x w = h s gs_of ws_of x (f s gs_of ws_of x w)
-
 -- entry i is made longer
-pub keeps_longer : (p : List ℕ) (i d g r a : ℕ) {n : ℕ} {t u : Stretch} {q : List ℕ} → KeptIn p n → i < n → EndsAt p i d g r t → (t.count ≡ 0 → ⊥)
-    → LongerBy t a u → q ≡ blit (entry_at i) (entry_words d g u) p → KeepsRecord d g r a p q
-keeps_longer p i d g r a {n} {t} {u} k h e z l v s gs_of ws_of x w =
-    let c : 0 < t.count = omega arith in
+pub keeps_longer : (p : List ℕ) (i d g r a : ℕ) {n : ℕ} {t u : Stretch} {o : Option Stretch} {q : List ℕ} → KeptIn p n → i < n → EndsAt p i d g r t
+    → LongerBy t a o → o ≡ Some u → q ≡ blit (entry_at i) (entry_words d g u) p → KeepsRecord d g r a p q
+keeps_longer p i d g r a {n} {t} {u} k h e l z v s gs_of ws_of x w =
     let m = k.kept in
     let y = k.room (omega arith) in
-    let b : RightOf s gs_of ws_of d g t = rw (e.is c, ← e.parent c, ← e.group c) (w.right i (omega arith)) in
-    let f : RecordAt s d (number_in g (gs_of d)) (gs_of d) (ws_of d) (t.number + t.count) a = rw (e.ends c) x in
-    rw v (pooled_put i d g u w (omega arith) (l.right s d (number_in g (gs_of d)) (gs_of d) (ws_of d) b f))
+    let b : RightOf s gs_of ws_of d g t = rw (e.is, ← e.parent, ← e.group) (w.right i (omega arith)) in
+    let f : RecordAt s d (number_in g (gs_of d)) (gs_of d) (ws_of d) (t.number + t.count) a = rw e.ends x in
+    rw v (pooled_put i d g u w (omega arith) (l.right u z s d (number_in g (gs_of d)) (gs_of d) (ws_of d) b f))
 
 -- one more begins
 pub keeps_begun : (p : List ℕ) (i d g r a : ℕ) {q v : List ℕ} → i ≡ kept_in p → entry_at i + 6 ≤ length p
@@ -70,21 +53,6 @@ pub keeps_begun : (p : List ℕ) (i d g r a : ℕ) {q v : List ℕ} → i ≡ ke
     → KeepsRecord d g r a p v
 keeps_begun p i d g r a e h x y s gs_of ws_of z w =
     rw (y, x) (pooled_more i d g (record { number = r; first = a; stride = 0; count = 1 }) w e h (stretch_one r a 0 _ z.is z.inside))
-
--- ---- words that tell which DG were tried, and fewer kept
-pub keeps_tried : (p : List ℕ) (i d : ℕ) → kept_in p ≤ 596 → 3584 ≤ i → KeepsAll p (set p i d)
-keeps_tried p i d h l s gs_of ws_of w = pooled_past i d w (omega arith)
-
-pub keeps_back : (p : List ℕ) (n : ℕ) → n < kept_in p → KeepsAll p (set p 0 n)
-keeps_back p n h s gs_of ws_of w = pooled_back n w (omega arith)
-
--- ---- one record of group j
-pub takes_same : {d j a : ℕ} {gs sizes counts p : List ℕ} → TakesRecord d gs sizes j a counts p p
-takes_same = record { keeps = λ s gs_of ws_of f w. w }
-
-pub takes_kept : {d j a : ℕ} {gs sizes counts : List ℕ} {g r : ℕ} {p q : List ℕ} → g ≡ get_or gs j 0 → r ≡ get_or counts j 0 → j < 512
-    → (get_or sizes j 0 ≡ 0 → ⊥) → KeepsRecord d g r a p q → TakesRecord d gs sizes j a counts p q
-takes_kept x y h z k = record { keeps = λ s gs_of ws_of f w. k s gs_of ws_of (rw (x, y) (f h z)) w }
 
 -- ---- all records
 -- what is ahead, and how many records of each group lie before it
@@ -129,30 +97,30 @@ module _ (s : List ℕ) (d n : ℕ) (gs ws ids sizes p₀ : List ℕ) where
   pub passing_done : {p counts : List ℕ} {c : Scan} → PassingOn s d n gs ws ids sizes p₀ p counts c → Passes s d n gs ws ids sizes p₀ p
   passing_done g gs_of ws_of a b v i h tb w = (g gs_of ws_of a b v i h tb w).0
 
-  module _ {p counts : List ℕ} {c : Scan} (g : PassingOn s d n gs ws ids sizes p₀ p counts c) {x : Found} (f : FoundAt s n gs ws ids sizes c x)
-      (q : x.some ≡ true) {p' : List ℕ} (k : TakesRecord d gs sizes x.group x.place counts p p') where
+  module _ {p counts : List ℕ} {c : Scan} (g : PassingOn s d n gs ws ids sizes p₀ p counts c) {o : Option Found} (f : FoundAt s n gs ws ids sizes c o)
+      {x : Found} (q : o ≡ Some x) {p' : List ℕ} (k : TakesRecord d gs sizes x.group x.place counts p p') where
     faced : n ≡ id_size s d → records_in s d gs (fragments_of ws) ≡ fine → 1 < length gs → Tabled s gs ids sizes → (u : Passing s d gs ws counts c)
         → Faced s (id_size s d) gs ws u.frames x.group x.place x.past.at x.past.position x.past.left x.past.offset
     faced i v h tb u =
         let w = whole_checked s d gs ws (several_of h) (omega arith) v in
         let z = w.id in
-        (f.right d i (omega (arith, z, i)) tb w.bytes u.frames u.facing).1 q
+        (f.right d i (omega (arith, z, i)) tb w.bytes u.frames u.facing).1 x q
 
     record_here : n ≡ id_size s d → records_in s d gs (fragments_of ws) ≡ fine → 1 < length gs → Tabled s gs ids sizes → Passing s d gs ws counts c
         → (gs_of ws_of : ℕ → List ℕ)
         → gs_of d ≡ gs → ws_of d ≡ ws → x.group < 512 → (get_or sizes x.group 0 ≡ 0 → ⊥)
         → RecordAt s d (number_in (get_or gs x.group 0) (gs_of d)) (gs_of d) (ws_of d) (get_or counts x.group 0) x.place
-    record_here i e h tb u gs_of ws_of a o l z =
+    record_here i e h tb u gs_of ws_of a b l z =
         let y = faced i e h tb u in
         let r = number_apart s gs x.group tb.apart y.listed in
         let m = not_storage s (get_or gs x.group 0) (λ h. z (tb.size_of x.group y.listed l ∙ h)) in
         let v : RecordAt s d x.group gs ws (get_or counts x.group 0) x.place = own_at (u.numbered x.group y.listed l) y refl m in
-        rw (a, o, r) v
+        rw (a, b, r) v
 
     -- it is kept, and those before
     pub passing_out : Passes s d n gs ws ids sizes p₀ p'
-    passing_out gs_of ws_of a o v i h tb w =
-        let u = g gs_of ws_of a o v i h tb w in k.keeps s gs_of ws_of (record_here i v h tb u.1 gs_of ws_of a o) u.0
+    passing_out gs_of ws_of a b v i h tb w =
+        let u = g gs_of ws_of a b v i h tb w in k.keeps s gs_of ws_of (record_here i v h tb u.1 gs_of ws_of a b) u.0
 
     pub passing_counted : {counts' : List ℕ} → length counts ≡ 512 → counts' ≡ set counts x.group (get_or counts x.group 0 + 1)
         → length counts' ≡ 512
@@ -160,10 +128,10 @@ module _ (s : List ℕ) (d n : ℕ) (gs ws ids sizes p₀ : List ℕ) where
 
     pub passing_record : {counts' : List ℕ} → length counts ≡ 512 → counts' ≡ set counts x.group (get_or counts x.group 0 + 1)
         → PassingOn s d n gs ws ids sizes p₀ p' counts' x.past
-    passing_record {counts'} l z gs_of ws_of a o v i h tb w =
-        let u = g gs_of ws_of a o v i h tb w in
+    passing_record {counts'} l z gs_of ws_of a b v i h tb w =
+        let u = g gs_of ws_of a b v i h tb w in
         let t = faced i v h tb u.1 in (
-          passing_out gs_of ws_of a o v i h tb w,
+          passing_out gs_of ws_of a b v i h tb w,
           record {
             frames = t.later;
             facing = t.facing;

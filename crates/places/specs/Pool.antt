@@ -32,17 +32,27 @@ RightOf s gs_of ws_of d g t = StretchOf s d (number_in g (gs_of d)) (gs_of d) (w
 pub record Pooled (s : List ℕ) (gs_of ws_of : ℕ → List ℕ) (p : List ℕ) : Type 0 where
   pub right : (i : ℕ) → i < kept_in p → RightOf s gs_of ws_of (get_or p (entry_at i) 0) (get_or p (entry_at i + 1) 0) (stretch_in p i)
 
--- so many of them, whose words all stand there
-pub record KeptIn (p : List ℕ) (n : ℕ) : Type 0 where
+-- so many of them, of so many words each, whose words all stand there
+pub record KeptBy (words : ℕ) (p : List ℕ) (n : ℕ) : Type 0 where
   pub kept : n ≤ kept_in p
-  pub room : 0 < n → entry_at n ≤ length p
+  pub room : 0 < n → 8 + words * n ≤ length p
 
--- what number i has for record r of the group: nothing, or itself
+-- the same of stretches, of six words each
+abbrev pub KeptIn : List ℕ → ℕ → Type 0
+KeptIn p n = KeptBy 6 p n
+
+-- the stretch of entry i, which is the group's
+pub record EntryIn (p : List ℕ) (i d g : ℕ) (t : Stretch) : Type 0 where
+  pub parent : get_or p (entry_at i) 0 ≡ d
+  pub group : get_or p (entry_at i + 1) 0 ≡ g
+  pub is : t ≡ stretch_in p i
+
+-- the same, and it has record r
 pub record EntryFor (p : List ℕ) (i d g r : ℕ) (t : Stretch) : Type 0 where
-  pub parent : 0 < t.count → get_or p (entry_at i) 0 ≡ d
-  pub group : 0 < t.count → get_or p (entry_at i + 1) 0 ≡ g
-  pub is : 0 < t.count → t ≡ stretch_in p i
-  pub has : 0 < t.count → (t.number ≤ r) × (r < t.number + t.count)
+  pub parent : get_or p (entry_at i) 0 ≡ d
+  pub group : get_or p (entry_at i + 1) 0 ≡ g
+  pub is : t ≡ stretch_in p i
+  pub has : (t.number ≤ r) × (r < t.number + t.count)
 
 -- what was found for record r of the group: nothing, or a stretch that has it
 pub record HeldFor (s : List ℕ) (gs_of ws_of : ℕ → List ℕ) (d g r : ℕ) (h : Held) : Type 0 where

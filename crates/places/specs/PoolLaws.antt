@@ -1,12 +1,12 @@
 -- Kept stretches stay right: one is put, one more is kept, fewer are kept, other words change; and what is sought among them is right.
-use Rattle.std.specs.Prelude.{ℕ, suc, ◌+◌, ◌-◌, ◌≤◌, ◌<◌, List, [], ◌∷◌, ◌≡◌, refl, ◌⊎◌, length, get_or, set}
+use Rattle.std.specs.Prelude.{ℕ, suc, ◌+◌, ◌≤◌, ◌<◌, List, [], ◌∷◌, ◌≡◌, refl, ◌⊎◌, length, get_or, set}
 use Rattle.std.proofs.Common.{sym, ◌∙◌, inl, inr, ⊎_elim, add-zero, arith, get_or-set_same, get_or-set_other}
 use Rattle.std.proofs.Math.Seq.{set_out}
 use Rattle.base.specs.Blit.{blit}
 use Rattle.records.specs.FragmentLaws.{lt_or_le, eq_or_ne}
 use Rattle.records.specs.SeveralLaws.{get_d_blit}
 use Rattle.places.specs.declared.stretch.Stretch.{Stretch}
-use Rattle.places.specs.Pool.{kept_in, entry_at, stretch_in, RightOf, Pooled, KeptIn, EntryFor, HeldIn}
+use Rattle.places.specs.Pool.{kept_in, entry_at, stretch_in, RightOf, Pooled, HeldIn}
 
 -- ---- words
 -- the six words of an entry
@@ -111,25 +111,5 @@ module _ {s : List ℕ} {gs_of ws_of : ℕ → List ℕ} where
 abbrev pub nothing : Stretch
 nothing = record { number = 0; first = 0; stride = 0; count = 0 }
 
-pub entry-none : (p : List ℕ) (i d g r : ℕ) → EntryFor p i d g r nothing
-entry-none p i d g r = record {
-  parent = λ z. absurd (omega arith);
-  group = λ z. absurd (omega arith);
-  is = λ z. absurd (omega arith);
-  has = λ z. absurd (omega arith);
-}
-
-pub entry_here : (p : List ℕ) (i d g r : ℕ) → get_or p (entry_at i) 0 ≡ d → get_or p (entry_at i + 1) 0 ≡ g → get_or p (entry_at i + 2) 0 ≤ r
-    → r - get_or p (entry_at i + 2) 0 < get_or p (entry_at i + 5) 0
-    → EntryFor p i d g r (stretch_in p i)
-entry_here p i d g r a b h l = record { parent = λ _. a; group = λ _. b; is = λ _. refl; has = λ _. (h, omega arith) }
-
 pub held_none : (p : List ℕ) (i d g r : ℕ) → HeldIn p d g r (record { index = i; stretch = nothing })
 held_none p i d g r s gs_of ws_of w = record { right = λ z. absurd (omega arith); has = λ z. absurd (omega arith) }
-
-pub held-entry : (p : List ℕ) (i d g r : ℕ) {n : ℕ} {t : Stretch} → KeptIn p n → i < n → EntryFor p i d g r t
-    → HeldIn p d g r (record { index = i; stretch = t })
-held-entry p i d g r {n} {t} k h e s gs_of ws_of w = record {
-  right = λ z. let a = e.parent z in let b = e.group z in rw (e.is z, ← a, ← b) (w.right i (omega (arith, k.kept)));
-  has = e.has;
-}

@@ -14,8 +14,7 @@ use Rattle.base.specs.Blit.{part}
 use Rattle.base.specs.Checked.{and_then, Verdict, fine}
 use Rattle.base.specs.CheckedLaws.{refused≢ok, then_fine}
 use Rattle.mdf.specs.Chain.{Kind, dt, dv, Fragment}
-use Rattle.mdf.specs.Walk.{id_size}
-use Rattle.mdf.specs.Records.{most64, ranges_in, joined, is_dv, any_dv, record_size, id_bytes, Run, in_front, runs, size_of, run_whole, runs_whole, pieces, without_ids, run_records, sorted_records}
+use Rattle.mdf.specs.Records.{most64, ranges_in, joined, is_dv, any_dv, record_size, Run, in_front, runs, size_of, run_whole, runs_whole, pieces, without_ids, run_records, sorted_records}
 use Rattle.work_words.specs.Words.{kind_of}
 use Rattle.payload_laws.specs.Answers.{eq_cases, false≢true}
 use Rattle.records.specs.Straddle.{kind_if}
@@ -389,7 +388,3 @@ module _ {ws : List ℕ} (c : Bool) {at i bytes : ℕ} (p : Passing ws (kind_if 
     pass_over l =
         let no : size_of (fragments_from ws at) ≤ most64 → ⊥ = λ m. let a = here-size in let q = p.size in let t = size-first (kind_if c) (fragments_from ws at) in omega arith in
         record { bytes = λ m. absurd (no m); past = λ m. absurd (no m) }
-
--- ---- the id of a record
-pub id_some : (s : List ℕ) (d : ℕ) {b : Bool} {r : ℕ} → b ≡ false → r ≡ id_size s d → r ≡ id_bytes s d (kind_if b)
-id_some s d e q = rw e q

@@ -1,12 +1,12 @@
 // The stretches of all groups of a DG, found in one framing of its data and kept in lent words.
-ghost use Rattle.std.specs.Prelude.{true, ◌≡◌, ◌+◌, ◌≤◌, length, get_or, set};
+ghost use Rattle.std.specs.Prelude.{true, ◌≡◌, ◌+◌, ◌≤◌, ◌<◌, length, get_or, set, IfSome};
 ghost use Rattle.base.specs.Blit.{blit};
 ghost use Rattle.places.specs.Pool.{entry_at, KeepsRight};
 ghost use Rattle.places.specs.PoolLaws.{entry_words};
 ghost use Rattle.places.specs.Pass.{KeepsAll, KeepsRecord, EndsAt, TakesRecord, Passes};
 
 use crate::frame::next_record;
-use crate::pool::kept_in;
+use crate::pool::{entry_in, kept_in};
 use crate::several::longer;
 use crate::stretch::{Scan, Stretch};
 use records::fragment::word_at;
@@ -19,77 +19,54 @@ fn put_entry(pool: &mut [u64], i: u64, d: u64, g: u64, t: Stretch)
     ensures { pool.new ≡ blit (entry_at i) (entry_words d g t) pool.old }
 {
     let at = (8 + 6 * i) as usize;
-    pool[at] = d;
-    pool[at + 1] = g;
-    pool[at + 2] = t.number;
-    pool[at + 3] = t.first;
-    pool[at + 4] = t.stride;
-    pool[at + 5] = t.count;
+    pool[at..at + 6].copy_from_slice(&[d, g, t.number, t.first, t.stride, t.count]);
 }
 
-// Number i, if it is of the group at g of the DG at d and ends before record r, else one without records.
-fn ending(pool: &[u64], i: u64, d: u64, g: u64, r: u64) -> Stretch
+// Number i, if it is of the group at g of the DG at d, has records and ends before record r.
+fn ending(pool: &[u64], i: u64, d: u64, g: u64, r: u64) -> Option<Stretch>
     requires { entry_at (i + 1) ≤ length pool.now }
-    ensures { EndsAt pool.now i d g r result }
+    ensures { IfSome result (EndsAt pool.now i d g r) }
 {
-    let none = Stretch {
-        number: 0,
-        first: 0,
-        stride: 0,
-        count: 0,
-    };
-    let at = (8 + 6 * i) as usize;
-    if pool[at] != d {
-        return none;
+    let stretch = entry_in(pool, i, d, g)?;
+    if stretch.count == 0 {
+        return None;
     }
-    if pool[at + 1] != g {
-        return none;
+    if r < stretch.number {
+        return None;
     }
-    let number = pool[at + 2];
-    let count = pool[at + 5];
-    if r < number {
-        return none;
+    if r - stretch.number != stretch.count {
+        return None;
     }
-    if r - number != count {
-        return none;
-    }
-    Stretch {
-        number,
-        first: pool[at + 3],
-        stride: pool[at + 4],
-        count,
-    }
+    Some(stretch)
 }
 
 // Number i made longer by record r, which lies at p, if it can be.
 fn extend(pool: &mut [u64], i: u64, d: u64, g: u64, r: u64, p: u64) -> bool
     ensures { KeepsRecord d g r p pool.old pool.new }
 {
-    if kept_in(pool) <= i {
+    if kept_in::<6>(pool) <= i {
         return false;
     }
-    let t = ending(pool, i, d, g, r);
-    if t.count == 0 {
+    let Some(stretch) = ending(pool, i, d, g, r) else {
         return false;
-    }
-    let u = longer(t, p);
-    if u.count == t.count {
+    };
+    let Some(more) = longer(stretch, p) else {
         return false;
-    }
-    put_entry(pool, i, d, g, u);
+    };
+    put_entry(pool, i, d, g, more);
     true
 }
 
-// One more, of record r alone: its number, or 596 where there is no room.
-fn begin(pool: &mut [u64], d: u64, g: u64, r: u64, p: u64) -> u64
+// One more, of record r alone, if there is room: its number.
+fn begin(pool: &mut [u64], d: u64, g: u64, r: u64, p: u64) -> Option<u64>
     ensures { KeepsRecord d g r p pool.old pool.new }
 {
     if pool.len() < 3584 {
-        return 596;
+        return None;
     }
     let i = pool[0];
     if 595 < i {
-        return 596;
+        return None;
     }
     let t = Stretch {
         number: r,
@@ -99,15 +76,15 @@ fn begin(pool: &mut [u64], d: u64, g: u64, r: u64, p: u64) -> u64
     };
     put_entry(pool, i, d, g, t);
     pool[0] = i + 1;
-    i
+    Some(i)
 }
 
-// Record r kept, in number i or in a new one: in which, or 596 where there is no room.
-fn keep(pool: &mut [u64], i: u64, d: u64, g: u64, r: u64, p: u64) -> u64
+// Record r kept, in number i or in a new one, if there is room: in which.
+fn keep(pool: &mut [u64], i: u64, d: u64, g: u64, r: u64, p: u64) -> Option<u64>
     ensures { KeepsRecord d g r p pool.old pool.new }
 {
     if extend(pool, i, d, g, r, p) {
-        return i;
+        return Some(i);
     }
     begin(pool, d, g, r, p)
 }
@@ -140,10 +117,9 @@ fn take(
         return true;
     }
     let g = word_at(groups, j);
-    let i = keep(pool, latest[m], d, g, r, p);
-    if 595 < i {
+    let Some(i) = keep(pool, latest[m], d, g, r, p) else {
         return false;
-    }
+    };
     latest[m] = i;
     true
 }
@@ -174,10 +150,10 @@ fn pass(
     };
     let mut last: u64 = 0;
     'records: loop {
-        let r = next_record(image, n, groups, fragments, ids, sizes, hints, last, c);
-        if !r.some {
+        let next = next_record(image, n, groups, fragments, ids, sizes, hints, last, c);
+        let Some(r) = next else {
             return true;
-        }
+        };
         let kept = take(
             pool,
             &mut latest,
@@ -196,22 +172,20 @@ fn pass(
     }
 }
 
-// The words from 3,584 on tell which DG were tried: the first free one, or 4,096 where d is there already or all are taken.
-fn slot_for(pool: &[u64], d: u64) -> usize
+// The words from 3,584 on tell which DG were tried: the first free one, or none where d is there already or all are taken.
+fn slot_for(pool: &[u64], d: u64) -> Option<usize>
     requires { 4096 ≤ length pool.now }
-    ensures { (3584 ≤ result) × (result ≤ 4096) }
+    ensures { IfSome result (λ i. (3584 ≤ i) × (i < 4096)) }
 {
-    let mut i: usize = 3584;
-    while i < 4096 {
+    for i in 3584..4096 {
         if pool[i] == d {
-            return 4096;
+            return None;
         }
         if pool[i] == 0 {
-            return i;
+            return Some(i);
         }
-        i += 1;
     }
-    4096
+    None
 }
 
 // Whether the DG at d was not tried before; from now on it was.
@@ -224,10 +198,9 @@ fn try_new(pool: &mut [u64], d: u64) -> bool
     if 596 < pool[0] {
         return false;
     }
-    let i = slot_for(pool, d);
-    if 4095 < i {
+    let Some(i) = slot_for(pool, d) else {
         return false;
-    }
+    };
     pool[i] = d;
     true
 }
@@ -239,10 +212,7 @@ fn set_back(pool: &mut [u64], n: u64)
     if pool.len() == 0 {
         return;
     }
-    if pool[0] <= n {
-        return;
-    }
-    pool[0] = n;
+    pool[0] = pool[0].min(n);
 }
 
 // The stretches of all groups of the DG at d, if they have room and were not sought before.

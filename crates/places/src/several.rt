@@ -6,43 +6,40 @@ use crate::frame::next_record;
 use crate::stretch::{Next, Scan, Stretch};
 
 // A stretch with the record at p too, if it lies at the distance of the others.
-pub(crate) fn longer(t: Stretch, p: u64) -> Stretch
+pub(crate) fn longer(t: Stretch, p: u64) -> Option<Stretch>
     ensures { LongerBy t p result }
 {
     if t.count == 0 {
-        return Stretch {
-            number: t.number,
+        return Some(Stretch {
             first: p,
             stride: 0,
             count: 1,
-        };
+            ..t
+        });
     }
     if p < t.first {
-        return t;
+        return None;
     }
     if t.count == 1 {
-        return Stretch {
-            number: t.number,
-            first: t.first,
+        return Some(Stretch {
             stride: p - t.first,
             count: 2,
-        };
+            ..t
+        });
     }
     if 4294967295 < t.count {
-        return t;
+        return None;
     }
     if 4294967295 < t.stride {
-        return t;
+        return None;
     }
     if p - t.first != t.count * t.stride {
-        return t;
+        return None;
     }
-    Stretch {
-        number: t.number,
-        first: t.first,
-        stride: t.stride,
+    Some(Stretch {
         count: t.count + 1,
-    }
+        ..t
+    })
 }
 
 // The next records of group k as far as they are at equal distances; ids have n bytes.
@@ -68,26 +65,21 @@ pub fn several_next(
     let mut c = scan;
     let mut last = k;
     'records: loop {
-        let r = next_record(image, n, groups, fragments, ids, sizes, hints, last, c);
-        if !r.some {
+        let next = next_record(image, n, groups, fragments, ids, sizes, hints, last, c);
+        let Some(r) = next else {
             return Next { stretch, scan: c };
-        }
+        };
         if r.group == k {
-            let more = longer(stretch, r.place);
-            if more.count == stretch.count {
+            let Some(more) = longer(stretch, r.place) else {
                 return Next { stretch, scan: c };
-            }
+            };
             if c.number == 18446744073709551615 {
                 return Next { stretch, scan: c };
             }
-            let number = c.number + 1;
             stretch = more;
             c = Scan {
-                at: r.past.at,
-                position: r.past.position,
-                left: r.past.left,
-                offset: r.past.offset,
-                number,
+                number: c.number + 1,
+                ..r.past
             };
             last = k;
         } else {

@@ -3,7 +3,7 @@ ghost use Rattle.std.specs.Prelude.{[], ◌∷◌, ◌≡◌};
 ghost use Rattle.mdf.specs.Records.{id_bytes};
 ghost use Rattle.records.specs.Ahead.{fragments_from};
 ghost use Rattle.records.specs.Straddle.{kind_if};
-ghost use Rattle.places.specs.Run.{with_bytes, Begins, PassedBy, SumOf, QuotientOf};
+ghost use Rattle.places.specs.Run.{with_bytes, Begins, PassedBy, QuotientOf};
 ghost use Rattle.places.specs.Scan.{NextFor};
 
 use crate::stretch::{Next, Scan, Stretch};
@@ -11,7 +11,7 @@ use records::fragment::{is_dv, word_at};
 use records::group::{id_size, record_size};
 
 // Fragments that were passed: the index past their words, and their bytes.
-#[derive(Drop)]
+#[derive(Clone, Copy)]
 pub struct Passed {
     pub at: u64,
     pub bytes: u64,
@@ -73,24 +73,11 @@ fn pass(fragments: &[u64], at: u64, dv: bool) -> Passed
     Passed { at: i, bytes }
 }
 
-// The sum of two numbers, the largest number where it is over that.
-fn sum(a: u64, b: u64) -> u64
-    ensures { SumOf a b result }
-{
-    if 18446744073709551615 - a < b {
-        return 18446744073709551615;
-    }
-    a + b
-}
-
 // The quotient of two numbers, 0 where the second is.
 fn quotient(a: u64, b: u64) -> u64
     ensures { QuotientOf a b result }
 {
-    if b == 0 {
-        return 0;
-    }
-    a / b
+    a.checked_div(b).unwrap_or(0)
 }
 
 // The id bytes of a record, in DV or in DT.
@@ -112,9 +99,9 @@ pub fn sorted_next(image: &[u8], d: u64, g: u64, fragments: &[u64], scan: Scan) 
     let run = pass(fragments, at, dv);
     let stride = record_size(image, d, g, dv);
     let count = quotient(run.bytes, stride);
-    let first = sum(scan.offset, id_bytes(image, d, dv));
-    let offset = sum(scan.offset, run.bytes);
-    let number = sum(scan.number, count);
+    let first = scan.offset.saturating_add(id_bytes(image, d, dv));
+    let offset = scan.offset.saturating_add(run.bytes);
+    let number = scan.number.saturating_add(count);
     Next {
         stretch: Stretch {
             number: scan.number,

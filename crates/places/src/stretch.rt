@@ -21,7 +21,7 @@ pub struct Scan {
 }
 
 // The next records of a group, and the place past them.
-#[derive(Drop)]
+#[derive(Clone, Copy)]
 pub struct Next {
     pub stretch: Stretch,
     pub scan: Scan,

@@ -1,5 +1,5 @@
 -- What planning and the data stage give: bounds of columns, and the words that planning leaves.
-use Rattle.std.specs.Prelude.{ℕ, ◌+◌, ◌≤◌, List, ◌++◌, Bool, ◌≡◌, length}
+use Rattle.std.specs.Prelude.{ℕ, ◌+◌, ◌≤◌, List, ◌++◌, Bool, ◌≡◌, length, Result}
 use Rattle.std.proofs.Common.{arith}
 use Rattle.base.specs.Checked.{fine}
 use Rattle.base.specs.Blit.{blit}
@@ -12,7 +12,8 @@ use Rattle.plan.specs.Layout.{layout}
 use Rattle.result.specs.Guarantee.{In}
 use Rattle.payload_laws.specs.ColumnLaws.{Ready}
 use Rattle.payload_laws.specs.BoundLaws.{fragments_small, payload_small, blocks-small}
-use Rattle.placing.specs.declared.layout.Laid.{Laid}
+use Rattle.fields.specs.declared.refusal.Refusal.{Refusal}
+use Rattle.placing.specs.declared.layout.Numbers.{Numbers}
 use Rattle.placing.specs.Laying.{on_unit, Lays, LaysOut}
 use Rattle.placing.specs.InWords.{AllWithin, Referring, signal_bytes_of, AllBounded}
 use Rattle.placing.specs.ColumnsLaws.{all-within, columns-stand}
@@ -51,7 +52,7 @@ plan-within ph s size p fs w f a b c d e g =
     (columns-stand p fs w f a b c d) e g
 
 -- and what is laid out over those words is the plan's layout
-pub plan-laid : (u : ℕ) (ph : Bool) (s : List ℕ) (size text : ℕ) (p : Plan) (fs : List Fragment) (w f : List ℕ) (n : ℕ) {m m' : List ℕ} {r : Laid}
+pub plan-laid : (u : ℕ) (ph : Bool) (s : List ℕ) (size text : ℕ) (p : Plan) (fs : List Fragment) (w f : List ℕ) (n : ℕ) {m m' : List ℕ} {r : Result Numbers Refusal}
     → length p.columns ≤ 512 → 4096 ≤ length w → length fs + length (signal_fragments p.columns) ≤ 1024 → 3072 ≤ length f → length p.columns ≡ n → Referring ph s p.columns
     → LaysOut u ph s size text (laid_plan (length fs) p w) (blit 0 (fragment_words (fs ++ signal_fragments p.columns)) f) n m m' r
     → Lays m m' r (layout (on_unit u) s size text p.columns)

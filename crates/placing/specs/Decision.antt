@@ -1,5 +1,5 @@
 -- What is decided before anything is written, and how it stands in the work words.
-use Rattle.std.specs.Prelude.{ℕ, ◌≤◌, List, [], ◌∷◌, ◌++◌, ◌≡◌, length}
+use Rattle.std.specs.Prelude.{ℕ, ◌≤◌, List, [], ◌∷◌, ◌++◌, ◌≡◌, length, Result, Ok, Err}
 use Rattle.base.specs.Blit.{blit}
 use Rattle.base.specs.Choice.{if_lt, if_eq}
 use Rattle.base.specs.Checked.{Checked, ok, refused, and_then, fine}
@@ -16,7 +16,8 @@ use Rattle.planning.specs.Answer.{planned_of}
 use Rattle.placing.specs.declared.layout.Numbers.{Numbers}
 use Rattle.placing.specs.Laying.{on_unit, Numbered}
 use Rattle.placing.specs.declared.decide.Decision.{Decision}
-use Rattle.placing.specs.declared.decide.Decision.TheVariants.{Refused, Done}
+use Rattle.fields.specs.declared.refusal.Refusal.{Refusal}
+use Rattle.fields.specs.Answer.{number_of, place_of}
 
 -- a call's arguments but the time
 abbrev pub untimed : List ℕ → ℕ → List ℕ → List ℕ → Rules → Args
@@ -83,11 +84,13 @@ pub record RefusedIn (x : Args) (number place : ℕ) (ws ws' : List (List ℕ)) 
   pub is : and_then (work_in ws) (λ _. decided x) ≡ refused number place
   pub words : ws' ≡ work_left (and_then (work_in ws) (λ _. lent_in x)) ws
 
-abbrev pub Decides : Args → List ℕ → List ℕ → List ℕ → List ℕ → Decision → List ℕ → List ℕ → List ℕ → List ℕ → Type 0
-Decides x a b c d (Refused number place) a' b' c' d' = RefusedIn x number place (four a b c d) (four a' b' c' d')
-Decides x a b c d (Done items fragments columns omissions shared n) a' b' c' d' = DecidedIn x items fragments columns omissions n a b c d a' b' c' d' × Shares (decided x) shared
+abbrev pub Decides : Args → List ℕ → List ℕ → List ℕ → List ℕ → Result Decision Refusal → List ℕ → List ℕ → List ℕ → List ℕ → Type 0
+Decides x a b c d (Err r) a' b' c' d' = RefusedIn x (number_of r) (place_of r) (four a b c d) (four a' b' c' d')
+Decides x a b c d (Ok r) a' b' c' d' =
+    DecidedIn x r.items r.fragments r.columns r.omissions r.numbers a b c d a' b' c' d' × Shares (decided x) r.shared
 
 -- of all but the first; after a refusal the words are not said
-abbrev pub DecidesRest : Rules → List ℕ → ℕ → ℕ → List ℕ → List ℕ → List ℕ → List ℕ → Decision → List ℕ → List ℕ → List ℕ → List ℕ → Type 0
-DecidesRest rs s size text a b c d (Refused number place) a' b' c' d' = rest rs s size text ≡ refused number place
-DecidesRest rs s size text a b c d (Done items fragments columns omissions shared n) a' b' c' d' = RestIn rs s size text items fragments columns omissions n a b c d a' b' c' d' × Shares (rest rs s size text) shared
+abbrev pub DecidesRest : Rules → List ℕ → ℕ → ℕ → List ℕ → List ℕ → List ℕ → List ℕ → Result Decision Refusal → List ℕ → List ℕ → List ℕ → List ℕ → Type 0
+DecidesRest rs s size text a b c d (Err r) a' b' c' d' = rest rs s size text ≡ refused (number_of r) (place_of r)
+DecidesRest rs s size text a b c d (Ok r) a' b' c' d' =
+    RestIn rs s size text r.items r.fragments r.columns r.omissions r.numbers a b c d a' b' c' d' × Shares (rest rs s size text) r.shared

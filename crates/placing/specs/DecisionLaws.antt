@@ -1,14 +1,13 @@
 -- Laws of what is decided before anything is written.
-use Rattle.std.specs.Prelude.{ℕ, ◌+◌, ◌≤◌, ◌<◌, List, [], ◌∷◌, ◌++◌, Bool, ◌≡◌, replicate}
+use Rattle.std.specs.Prelude.{ℕ, ◌+◌, ◌≤◌, ◌<◌, List, [], ◌∷◌, ◌++◌, Bool, ◌≡◌, replicate, Result, Ok, Err, ⊤}
 use Rattle.std.proofs.Math.Path.{refl, sym}
 use Rattle.std.proofs.Common.{ap, subst, ◌∙◌, arith, length-append}
 use Rattle.std.proofs.Math.ListN.{length}
 use Rattle.base.specs.Blit.{blit}
 use Rattle.base.specs.Choice.{if_lt, if_eq}
 use Rattle.base.specs.ChoiceLaws.{lt_yes, lt_no, lt_back, eq_yes, eq_no, eq_first}
-use Rattle.base.specs.Checked.{Checked, ok, refused, and_then, Verdict, fine}
+use Rattle.base.specs.Checked.{Checked, ok, refused, and_then, fine}
 use Rattle.base.specs.CheckedLaws.{refused≢ok, ok_same, then_ok, then_fine}
-use Rattle.base.specs.Field.{le_at}
 use Rattle.mdf.specs.Block.{CN, whole_at, block_at}
 use Rattle.mdf.specs.Identification.{identified}
 use Rattle.mdf.specs.Walk.{walk}
@@ -24,30 +23,25 @@ use Rattle.plan.specs.Layout.{Layout, layout}
 use Rattle.result.specs.Sharing.{sharing}
 use Rattle.result.specs.Result.{Args, rules_of, shared_groups, Decided, lent_in, decided, work_in, zeros}
 use Rattle.result.specs.Guarantee.{In}
-use Rattle.fields.specs.declared.Check.{Check}
-use Rattle.fields.specs.declared.Check.TheVariants as check
-use Rattle.fields.specs.Answer.{verdict_of}
+use Rattle.fields.specs.declared.refusal.Refusal.{Refusal}
+use Rattle.fields.specs.Answer.{number_of, place_of, refused_by, verdict_of}
 use Rattle.plan_laws.specs.Lists.{occurs}
 use Rattle.plan_laws.specs.GroupLaws.{all_addresses}
 use Rattle.plan_laws.specs.SourceLaws.{Groups, groups_known}
 use Rattle.plan_laws.specs.ColumnLaws.{signals_of}
 use Rattle.plan_laws.specs.DecideLaws.{Sound}
 use Rattle.plan_laws.specs.StandLaws.{sharing-standing}
-use Rattle.plan_laws.specs.PlanLaws.{Planned, Sourced, plan-known, plan-source, plan-fits, plan-few, plan_signals}
+use Rattle.plan_laws.specs.PlanLaws.{Sourced, plan-known, plan-source, plan-fits, plan-few, plan_signals}
 use Rattle.payload_laws.specs.CountLaws.{member}
 use Rattle.payload_laws.specs.ColumnLaws.{ready}
 use Rattle.payload_laws.specs.SignalLaws.{column_signal}
 use Rattle.guarantee.specs.Places.{fragments_few}
 use Rattle.guarantee.specs.Photos.{photos_few}
 use Rattle.copies_laws.specs.AnswerLaws.{Whole, whole_fits}
-use Rattle.planning.specs.Answer.{Arranged, planned_of, plan_left, left_by, plan_into}
+use Rattle.planning.specs.Answer.{Arranged, planned_of, ended, plan_left, left_by, plan_into}
 use Rattle.planning.specs.declared.recording.Planned as answer
-use Rattle.planning.specs.declared.recording.Planned.TheVariants as planned
 use Rattle.placing.specs.declared.layout.Numbers.{Numbers}
-use Rattle.placing.specs.declared.layout.Laid.{Laid}
-use Rattle.placing.specs.declared.layout.Laid.TheVariants as laid
 use Rattle.placing.specs.declared.decide.Decision.{Decision}
-use Rattle.placing.specs.declared.decide.Decision.TheVariants.{Refused, Done}
 use Rattle.placing.specs.Laying.{on_unit, LaidOut, Lays, LaysOut}
 use Rattle.placing.specs.InWords.{AllWithin, Referring}
 use Rattle.placing.specs.BoundedLaws.{Known, all_bounded, plan-within, plan-laid}
@@ -85,45 +79,14 @@ decided-rest x =
     steps (all_data_in s p.columns (data_groups st)) _ k ∙ same_steps (all_data_in s p.columns (data_groups st)) _ _ (λ _.
     steps (blocks_in s x.block_size p.columns) _ k))))))))))))
 
--- ---- the lent slices
-module _ (ident text : List ℕ) where
-  abbrev lent : Verdict
-  lent = lent_in (untimed [] 0 ident text built_in)
-
-  pub lent-short : (length ident ≡ 64 → ⊥) → refused 1 0 ≡ lent
-  unfolding lent_in
-  lent-short h = eq_no _ _ _ _ h refl
-
-  module _ (h : length ident ≡ 64) {a : ℕ} (e : a ≡ le_at 8 ident 0) where
-    pub lent_unmarked : (a ≡ 2314885530820953165 → ⊥) → refused 1 0 ≡ lent
-    unfolding lent_in
-    lent_unmarked k = eq_yes _ _ _ _ h (eq_no _ _ _ _ (λ q. k (e ∙ q)) refl)
-
-    module _ (k : a ≡ 2314885530820953165) {b : ℕ} (f : b ≡ le_at 8 ident 8) where
-      pub lent_other : (b ≡ 2314885531088072244 → ⊥) → refused 1 0 ≡ lent
-      unfolding lent_in
-      lent_other l = eq_yes _ _ _ _ h (eq_yes _ _ _ _ (sym e ∙ k) (eq_no _ _ _ _ (λ q. l (f ∙ q)) refl))
-
-      module _ (l : b ≡ 2314885531088072244) where
-        pub lent-long : 4096 < length text → refused 1 0 ≡ lent
-        unfolding lent_in
-        lent-long m = eq_yes _ _ _ _ h (eq_yes _ _ _ _ (sym e ∙ k) (eq_yes _ _ _ _ (sym f ∙ l) (lt_yes _ _ _ _ m refl)))
-
-        pub lent-fine : length text ≤ 4096 → fine ≡ lent
-        unfolding lent_in
-        lent-fine m = eq_yes _ _ _ _ h (eq_yes _ _ _ _ (sym e ∙ k) (eq_yes _ _ _ _ (sym f ∙ l) (lt_no _ _ _ _ m refl)))
-
 -- ---- planning's answer
 plan_into_lem : (rs : Rules) (s : List ℕ) (size : ℕ) (w f c : List ℕ) → 8192 ≤ length w → 8192 ≤ length f → 8192 ≤ length c
     → left_by (planned_of rs s size) w f c ≡ plan_into rs s size w f c
 unfolding plan_into
 plan_into_lem rs s size w f c l m n = lt_no _ _ _ _ (omega arith) (lt_no _ _ _ _ (omega arith) (lt_no _ _ _ _ (omega arith) refl))
 
-done≢refused : {i nf nc no' sh x y : ℕ} {a b c d e f : List ℕ} → plan_left (planned.Done i nf nc no' sh) a b c ≡ plan_left (planned.Refused x y) d e f → ⊥
+done≢refused : {p : answer.Planned} {x y : ℕ} {a b c d e f : List ℕ} → ended (ok p) a b c ≡ ended (refused x y) d e f → ⊥
 done≢refused e = let z : ◌≡◌ {A = ℕ} 0 1 = cc in omega arith
-
-refused≢done : {i nf nc no' sh x y : ℕ} {a b c d e f : List ℕ} → plan_left (planned.Refused x y) d e f ≡ plan_left (planned.Done i nf nc no' sh) a b c → ⊥
-refused≢done e = let z : ◌≡◌ {A = ℕ} 0 1 = cc in omega arith
 
 -- a recording that was planned, and its words
 pub record PlannedIn (rs : Rules) (s : List ℕ) (size i nf nc no' sh : ℕ) (w f c w' f' c' : List ℕ) : Type 0 where
@@ -138,24 +101,45 @@ pub record PlannedIn (rs : Rules) (s : List ℕ) (size i nf nc no' sh : ℕ) (w 
   pub in_fragments : f' ≡ blit 0 (fragment_words (told.source.fragments ++ signal_fragments told.planned.columns)) f
   pub in_columns : c' ≡ laid_plan (length told.source.fragments) told.planned c
 
-planned-by : (rs : Rules) (s : List ℕ) (size i nf nc no' sh : ℕ) (w f c w' f' c' : List ℕ) (v : Checked Arranged) → planned_of rs s size ≡ v
-    → plan_left (planned.Done i nf nc no' sh) w' f' c' ≡ left_by v w f c → PlannedIn rs s size i nf nc no' sh w f c w' f' c'
-planned-by rs s size i nf nc no' sh w f c w' f' c' (refused x y) p z = absurd (done≢refused z)
-planned-by rs s size i nf nc no' sh w f c w' f' c' (ok a) p z =
-    record { told = a; is = p; items = cc; fragments = cc; columns = cc; omissions = cc; shared = cc; in_source = cc; in_fragments = cc; in_columns = cc }
+planned-by : (rs : Rules) (s : List ℕ) (size : ℕ) (p : answer.Planned) (w f c w' f' c' : List ℕ) (v : Checked Arranged) → planned_of rs s size ≡ v
+    → ended (ok p) w' f' c' ≡ left_by v w f c → PlannedIn rs s size p.items p.fragments p.columns p.omissions p.shared w f c w' f' c'
+planned-by rs s size p w f c w' f' c' (refused x y) q z = absurd (done≢refused z)
+planned-by rs s size p w f c w' f' c' (ok a) q z =
+    let e : p ≡ record {
+      items = length a.source.items;
+      fragments = length a.source.fragments;
+      columns = length a.planned.columns;
+      omissions = length a.planned.omissions;
+      shared = shared_groups a.stands;
+    } = cc in
+    record {
+      told = a;
+      is = q;
+      items = ap (λ (p : answer.Planned). p.items) e;
+      fragments = ap (λ (p : answer.Planned). p.fragments) e;
+      columns = ap (λ (p : answer.Planned). p.columns) e;
+      omissions = ap (λ (p : answer.Planned). p.omissions) e;
+      shared = ap (λ (p : answer.Planned). p.shared) e;
+      in_source = cc;
+      in_fragments = cc;
+      in_columns = cc;
+    }
 
-refused_by : (rs : Rules) (s : List ℕ) (size x y : ℕ) (w f c w' f' c' : List ℕ) (v : Checked Arranged) → planned_of rs s size ≡ v
-    → plan_left (planned.Refused x y) w' f' c' ≡ left_by v w f c → planned_of rs s size ≡ refused x y
-refused_by rs s size x y w f c w' f' c' (refused n m) p z = let a : n ≡ x = cc in let b : m ≡ y = cc in p ∙ rw (a, b)
-refused_by rs s size x y w f c w' f' c' (ok a) p z = absurd (refused≢done z)
+planned_refused : (rs : Rules) (s : List ℕ) (size x y : ℕ) (w f c w' f' c' : List ℕ) (v : Checked Arranged) → planned_of rs s size ≡ v
+    → ended (refused x y) w' f' c' ≡ left_by v w f c → planned_of rs s size ≡ refused x y
+planned_refused rs s size x y w f c w' f' c' (refused n m) p z = let a : n ≡ x = cc in let b : m ≡ y = cc in p ∙ rw (a, b)
+planned_refused rs s size x y w f c w' f' c' (ok a) p z = absurd (done≢refused (sym z))
 
-module _ (rs : Rules) (s : List ℕ) (size : ℕ) (w f c w' f' c' : List ℕ) (r : answer.Planned) (e : plan_left r w' f' c' ≡ plan_into rs s size w f c)
-    (l : 8192 ≤ length w) (m : 8192 ≤ length f) (n : 8192 ≤ length c) where
-  pub plans_done : {i nf nc no' sh : ℕ} → r ≡ planned.Done i nf nc no' sh → PlannedIn rs s size i nf nc no' sh w f c w' f' c'
-  plans_done {i} {nf} {nc} {no'} {sh} q = planned-by rs s size i nf nc no' sh w f c w' f' c' (planned_of rs s size) refl (rw q at (e ∙ sym (plan_into_lem rs s size w f c l m n)))
+module _ (rs : Rules) (s : List ℕ) (size : ℕ) (w f c w' f' c' : List ℕ) (r : Result answer.Planned Refusal)
+    (e : plan_left r w' f' c' ≡ plan_into rs s size w f c) (l : 8192 ≤ length w) (m : 8192 ≤ length f) (n : 8192 ≤ length c) where
+  left : plan_left r w' f' c' ≡ left_by (planned_of rs s size) w f c
+  left = e ∙ sym (plan_into_lem rs s size w f c l m n)
 
-  pub plans_refused : {x y : ℕ} → r ≡ planned.Refused x y → planned_of rs s size ≡ refused x y
-  plans_refused {x} {y} q = refused_by rs s size x y w f c w' f' c' (planned_of rs s size) refl (rw q at (e ∙ sym (plan_into_lem rs s size w f c l m n)))
+  pub plans_done : {p : answer.Planned} → r ≡ Ok p → PlannedIn rs s size p.items p.fragments p.columns p.omissions p.shared w f c w' f' c'
+  plans_done {p} q = planned-by rs s size p w f c w' f' c' (planned_of rs s size) refl (rw q at left)
+
+  pub plans_refused : {x : Refusal} → r ≡ Err x → planned_of rs s size ≡ refused (number_of x) (place_of x)
+  plans_refused {x} q = planned_refused rs s size (number_of x) (place_of x) w f c w' f' c' (planned_of rs s size) refl (rw q at left)
 
 -- ---- a channel's references are few
 whole_channel : (s : List ℕ) (c : ℕ) → block_at CN s c ≡ fine → Whole s c
@@ -259,17 +243,17 @@ module _ {rs : Rules} {s : List ℕ} {size i nf nc no' sh : ℕ} {w f c w' f' c'
         (all_bounded s size t.told.planned.columns h by.blocks_fine column-known) referring)
 
     -- what it gives
-    pub laid-plan : {u text : ℕ} {m m' : List ℕ} {r : Laid} → LaysOut u rs.photos s size text c' f' nc m m' r → Lays m m' r (layout (on_unit u) s size text t.told.planned.columns)
+    pub laid-plan : {u text : ℕ} {m m' : List ℕ} {r : Result Numbers Refusal} → LaysOut u rs.photos s size text c' f' nc m m' r → Lays m m' r (layout (on_unit u) s size text t.told.planned.columns)
     laid-plan {u} {text} {m} {m'} {r} z =
         plan-laid u rs.photos s size text t.told.planned t.told.source.fragments c f nc few-columns (omega arith) few_fragments_lem (omega arith) (sym t.columns) referring
         (subst (λ (x : List ℕ). LaysOut u rs.photos s size text x (blit 0 (fragment_words (t.told.source.fragments ++ signal_fragments t.told.planned.columns)) f) nc m m' r) t.in_columns
         (subst (λ (y : List ℕ). LaysOut u rs.photos s size text c' y nc m m' r) t.in_fragments z))
 
 -- ---- the choices
-pub chosen_refused : (rs : Rules) {r : Check} → verdict_of r ≡ choices_in rs → {n p : ℕ} → r ≡ check.Refused n p → choices_in rs ≡ refused n p
+pub chosen_refused : (rs : Rules) {r : Result ⊤ Refusal} → verdict_of r ≡ choices_in rs → {x : Refusal} → r ≡ Err x → choices_in rs ≡ refused_by x
 chosen_refused rs e q = sym e ∙ rw q
 
-pub chosen-fine : (rs : Rules) {r : Check} → verdict_of r ≡ choices_in rs → r ≡ check.Fine → choices_in rs ≡ fine
+pub chosen-fine : (rs : Rules) {r : Result ⊤ Refusal} → verdict_of r ≡ choices_in rs → {u : ⊤} → r ≡ Ok u → choices_in rs ≡ fine
 chosen-fine rs e q = sym e ∙ rw q
 
 -- ---- all but the lent slices
@@ -307,14 +291,14 @@ module _ (rs : Rules) (s : List ℕ) (size text : ℕ) where
         rest-laid e f = opened ∙ rw (e, f)
 
 -- ---- what the layout gives
-pub unlaid : (m m' : List ℕ) (r : Laid) (v : Checked Layout) {n p : ℕ} → Lays m m' r v → r ≡ laid.Refused n p → v ≡ refused n p
-unlaid m m' r v z e = subst (λ (r : Laid). Lays m m' r v) e z
+pub unlaid : (m m' : List ℕ) (r : Result Numbers Refusal) (v : Checked Layout) {x : Refusal} → Lays m m' r v → r ≡ Err x → v ≡ refused (number_of x) (place_of x)
+unlaid m m' r v z e = subst (λ (r : Result Numbers Refusal). Lays m m' r v) e z
 
 pub rest_in : (rs : Rules) (s : List ℕ) (size text : ℕ) → (size ≡ 0 → ⊥) → choices_in rs ≡ fine → length s ≤ 4294967296 → {i nf nc no' sh : ℕ} {w f c w' f' c' : List ℕ} (t : PlannedIn rs s size i nf nc no' sh w f c w' f' c')
-    → {m m' : List ℕ} {r : Laid} {n : Numbers} → Lays m m' r (layout (on_unit rs.unit) s size text t.told.planned.columns) → r ≡ laid.Done n
+    → {m m' : List ℕ} {r : Result Numbers Refusal} {n : Numbers} → Lays m m' r (layout (on_unit rs.unit) s size text t.told.planned.columns) → r ≡ Ok n
     → RestIn rs s size text i nf nc no' n w f c m w' f' c' m'
 rest_in rs s size text h k l t {m} {m'} {r} {n} z e =
-    let y : LaidOut m m' n (layout (on_unit rs.unit) s size text t.told.planned.columns) = subst (λ (q : Laid). Lays m m' q (layout (on_unit rs.unit) s size text t.told.planned.columns)) e z in
+    let y : LaidOut m m' n (layout (on_unit rs.unit) s size text t.told.planned.columns) = subst (λ (q : Result Numbers Refusal). Lays m m' q (layout (on_unit rs.unit) s size text t.told.planned.columns)) e z in
     let b = arranged-by rs s size t.told t.is in
     record {
       told = record { groups = src_groups (data_groups t.told.source) t.told.numbers; stands = t.told.stands; planned = t.told.planned; laid_out = y.told };
@@ -373,7 +357,7 @@ lent_same : (image : List ℕ) (size : ℕ) (ident text : List ℕ) (c : Rules)
 unfolding lent_in
 lent_same image size ident text c = refl
 
-module _ (image : List ℕ) (size : ℕ) (ident text : List ℕ) (chosen : Rules) (ws : List (List ℕ)) (fits : work_in ws ≡ fine) (r : Check)
+module _ (image : List ℕ) (size : ℕ) (ident text : List ℕ) (chosen : Rules) (ws : List (List ℕ)) (fits : work_in ws ≡ fine) (r : Result ⊤ Refusal)
     (e : verdict_of r ≡ lent_in (untimed [] 0 ident text built_in)) where
   abbrev x : Args
   x = untimed image size ident text chosen
@@ -381,13 +365,13 @@ module _ (image : List ℕ) (size : ℕ) (ident text : List ℕ) (chosen : Rules
   lent_is : lent_in x ≡ verdict_of r
   lent_is = lent_same image size ident text chosen ∙ sym e
 
-  pub lent_refused : {n p : ℕ} → r ≡ check.Refused n p → RefusedIn x n p ws ws
+  pub lent_refused : {y : Refusal} → r ≡ Err y → RefusedIn x (number_of y) (place_of y) ws ws
   unfolding decided
-  lent_refused {n} {p} q =
-      let k : lent_in x ≡ refused n p = lent_is ∙ rw q in
+  lent_refused {y} q =
+      let k : lent_in x ≡ refused_by y = lent_is ∙ rw q in
       record { is = rw (fits, k); words = rw (fits, k) }
 
-  module _ (q : r ≡ check.Fine) where
+  module _ {o : ⊤} (q : r ≡ Ok o) where
     lent_passes : lent_in x ≡ fine
     lent_passes = lent_is ∙ rw q
 
@@ -430,9 +414,9 @@ module _ (image : List ℕ) (size : ℕ) (ident text : List ℕ) (chosen : Rules
         }
 
 -- answers taken apart
-pub rests_refused : (rs : Rules) (s : List ℕ) (size text : ℕ) (a b c d : List ℕ) (r : Decision) (a' b' c' d' : List ℕ) {n p : ℕ}
-    → DecidesRest rs s size text a b c d r a' b' c' d' → r ≡ Refused n p → rest rs s size text ≡ refused n p
-rests_refused rs s size text a b c d r a' b' c' d' h e = subst (λ (r : Decision). DecidesRest rs s size text a b c d r a' b' c' d') e h
+pub rests_refused : (rs : Rules) (s : List ℕ) (size text : ℕ) (a b c d : List ℕ) (r : Result Decision Refusal) (a' b' c' d' : List ℕ) {x : Refusal}
+    → DecidesRest rs s size text a b c d r a' b' c' d' → r ≡ Err x → rest rs s size text ≡ refused (number_of x) (place_of x)
+rests_refused rs s size text a b c d r a' b' c' d' h e = subst (λ (r : Result Decision Refusal). DecidesRest rs s size text a b c d r a' b' c' d') e h
 
 pub cleared : (a b c d a' b' c' d' a'' b'' c'' d'' : List ℕ) → length a' ≡ length a → length b' ≡ length b → length c' ≡ length c → length d' ≡ length d
     → a'' ≡ replicate (length a') 0 → b'' ≡ replicate (length b') 0 → c'' ≡ replicate (length c') 0 → d'' ≡ replicate (length d') 0
@@ -440,10 +424,16 @@ pub cleared : (a b c d a' b' c' d' a'' b'' c'' d'' : List ℕ) → length a' ≡
 unfolding zeros
 cleared a b c d a' b' c' d' a'' b'' c'' d'' la lb lc ld e f g h = rw (e, f, g, h, la, lb, lc, ld)
 
-pub decides_some : (x : Args) (rs : Rules) (s : List ℕ) (size text : ℕ) (a b c d a' b' c' d' : List ℕ) (r : Decision) {i g k o sh : ℕ} {n : Numbers}
-    → DecidesRest rs s size text a b c d r a' b' c' d' → r ≡ Done i g k o sh n
-    → (RestIn rs s size text i g k o n a b c d a' b' c' d' → DecidedIn x i g k o n a b c d a' b' c' d') → decided x ≡ rest rs s size text
+pub cleared-after : (a b c d a' b' c' d' : List ℕ) {ws : List (List ℕ)} → length a' ≡ length a → length b' ≡ length b → length c' ≡ length c → length d' ≡ length d
+    → ws ≡ zeros (four a' b' c' d') → ws ≡ zeros (four a b c d)
+unfolding zeros
+cleared-after a b c d a' b' c' d' la lb lc ld e = rw (← la, ← lb, ← lc, ← ld) e
+
+pub decides_some : (x : Args) (rs : Rules) (s : List ℕ) (size text : ℕ) (a b c d a' b' c' d' : List ℕ) (r : Result Decision Refusal) {m : Decision}
+    → DecidesRest rs s size text a b c d r a' b' c' d' → r ≡ Ok m
+    → (RestIn rs s size text m.items m.fragments m.columns m.omissions m.numbers a b c d a' b' c' d'
+    → DecidedIn x m.items m.fragments m.columns m.omissions m.numbers a b c d a' b' c' d') → decided x ≡ rest rs s size text
     → Decides x a b c d r a' b' c' d'
 decides_some x rs s size text a b c d a' b' c' d' r h e f q =
-    let k = subst (λ (q : Decision). DecidesRest rs s size text a b c d q a' b' c' d') e h in
-    subst (λ (q : Decision). Decides x a b c d q a' b' c' d') (sym e) (f k.0, λ d w. k.1 d (sym q ∙ w))
+    let k = subst (λ (q : Result Decision Refusal). DecidesRest rs s size text a b c d q a' b' c' d') e h in
+    subst (λ (q : Result Decision Refusal). Decides x a b c d q a' b' c' d') (sym e) (f k.0, λ d w. k.1 d (sym q ∙ w))

@@ -1,18 +1,15 @@
 -- The laws of columns out of words: what is left of them gives what all give, and columns that stand in words give their own.
-use Prim.{tt}
 use Rattle.std.specs.Prelude.{ℕ, zero, suc, ◌+◌, ◌*◌, ◌-◌, ◌≤◌, ◌<◌, min, ◌≡◌, Bool, true, false, eqb, get_or}
 use mathlib.Core.List.{List, [], ◌∷◌, ◌++◌}
 use Rattle.std.proofs.Math.Path.{refl, ap}
 use Rattle.std.proofs.Common.{sym, ◌∙◌, add-zero, sub-one, arith}
-use Rattle.std.proofs.Math.ListN.{length, get_or-eq_default}
+use Rattle.std.proofs.Math.ListN.{length}
 use Rattle.base.specs.Choice.{pick, if_eq}
 use Rattle.base.specs.ChoiceLaws.{eq_yes, eq_no}
-use Rattle.base.specs.Checked.{ok, refused, and_then}
 use Rattle.base.specs.Blit.{blit}
 use Rattle.base.specs.BlitLaws.{blit-append, length-blit}
 use Rattle.plan.specs.Photos.{photos_of}
 use Rattle.plan.specs.Geometry.{align8, align_to, block_count}
-use Rattle.plan.specs.Channel.{width}
 use Rattle.plan.specs.Layout.{dl_size}
 use Rattle.payload_laws.specs.UnitLaws.{to_near}
 use Rattle.planning.specs.Sizes.{signal_size}
@@ -56,16 +53,14 @@ pub dl-some : (n : ℕ) → (n ≡ 0 → ⊥) → 24 + 8 * (n + 1) + 16 ≡ dl_s
 unfolding dl_size
 dl-some n e = eq_no _ _ _ _ e refl
 
-pub payload_by : (s w : List ℕ) (p : ℕ) {c g n x : ℕ} → g ≡ get_or w (p + 1) 0 → c ≡ get_or w p 0 → x ≡ width s g c → n ≡ get_or w (p + 3) 0
-    → x * n ≡ payload_at s w p
-unfolding payload_at width_at
-payload_by s w p g c x n = rw (x, g, c, n)
+pub payload_by : (s w : List ℕ) (p : ℕ) {n x : ℕ} → x ≡ width_at s w p → n ≡ get_or w (p + 3) 0 → x * n ≡ payload_at s w p
+unfolding payload_at
+payload_by s w p x n = rw (x, n)
 
 module _ (s : List ℕ) (size : ℕ) (w : List ℕ) (p : ℕ) where
-  pub blocks-by : {c g n x r : ℕ} → g ≡ get_or w (p + 1) 0 → c ≡ get_or w p 0 → x ≡ width s g c → n ≡ get_or w (p + 3) 0
-      → r ≡ block_count size x n → r ≡ blocks_at s size w p
-  unfolding blocks_at width_at
-  blocks-by g c x n r = r ∙ rw (x, g, c, n)
+  pub blocks-by : {n x r : ℕ} → x ≡ width_at s w p → n ≡ get_or w (p + 3) 0 → r ≡ block_count size x n → r ≡ blocks_at s size w p
+  unfolding blocks_at
+  blocks-by x n r = r ∙ rw (x, n)
 
   pub structure-by : (ph : Bool) {m cg n dl c r : ℕ} → m ≡ get_or w (p + 5) 0 → cg ≡ cg_bytes m → c ≡ get_or w p 0 → r ≡ length (photos_of ph s c)
       → n ≡ blocks_at s size w p → dl ≡ dl_size n → 64 + cg + (160 + 8 * r) + dl ≡ structure_at ph s size w p
@@ -177,8 +172,10 @@ pub record Structuring (ph : Bool) (s : List ℕ) (size : ℕ) (w : List ℕ) (n
   pub rest : structures_in ph s size w p n a ≡ structures_in ph s size w 0 n₀ a₀
 
 pub structures_begin : (ph : Bool) (s : List ℕ) (size : ℕ) (w : List ℕ) (n a : ℕ) → n ≤ 512 → a ≤ 1125899906842624 → AllFew ph s size w 0 n
-    → Structuring ph s size w n a 0 n a
-structures_begin ph s size w n a h k b = record { at = omega arith; near = omega arith; few = b; rest = refl }
+    → Structuring ph s size w n a 0 (n - 0) a
+structures_begin ph s size w n a h k b =
+    let e : n - 0 ≡ n = omega arith in
+    rw e (record { at = omega arith; near = omega arith; few = b; rest = refl })
 
 module _ {ph : Bool} {s : List ℕ} {size : ℕ} {w : List ℕ} {n₀ a₀ p n a : ℕ} (u : Structuring ph s size w n₀ a₀ p n a) where
   pub structures_end_lem : n ≡ 0 → a ≡ structures_in ph s size w 0 n₀ a₀
@@ -265,22 +262,15 @@ past_near_lem u ph s size w f p d l h c =
       signal_near w f p (sd_past u w p e) c.signal,
     )
 
-pub first-none : (u : ℕ) (s : List ℕ) (size : ℕ) (w : List ℕ) (p d : ℕ) {n : ℕ} → n ≡ blocks_at s size w p → n ≡ 0 → d ≡ first_in u s size w p d
-unfolding first_in
-first-none u s size w p d e z = eq_yes _ _ _ _ (sym e ∙ z) refl
-
-pub first_some : (u : ℕ) (s : List ℕ) (size : ℕ) (w : List ℕ) (p d : ℕ) {n r : ℕ} → n ≡ blocks_at s size w p → (n ≡ 0 → ⊥) → r ≡ align_to u d
+-- by the code's answer for so many blocks
+pub first_by : (u : ℕ) (s : List ℕ) (size : ℕ) (w : List ℕ) (p d : ℕ) {n r : ℕ} → n ≡ blocks_at s size w p → r ≡ if_eq n 0 d (align_to u d)
     → r ≡ first_in u s size w p d
 unfolding first_in
-first_some u s size w p d e z r = eq_no _ _ _ _ (λ y. z (e ∙ y)) r
+first_by u s size w p d n r = r ∙ rw n
 
-pub sd_none : (u : ℕ) (w : List ℕ) (p d : ℕ) {n : ℕ} → n ≡ get_or w (p + 6) 0 → n ≡ 0 → d ≡ sd_past u w p d
+pub sd_by : (u : ℕ) (w : List ℕ) (p d : ℕ) {n r : ℕ} → n ≡ get_or w (p + 6) 0 → r ≡ if_eq n 0 d (align_to u d) → r ≡ sd_past u w p d
 unfolding sd_past
-sd_none u w p d e z = eq_yes _ _ _ _ (sym e ∙ z) refl
-
-pub sd_some : (u : ℕ) (w : List ℕ) (p d : ℕ) {n r : ℕ} → n ≡ get_or w (p + 6) 0 → (n ≡ 0 → ⊥) → r ≡ align_to u d → r ≡ sd_past u w p d
-unfolding sd_past
-sd_some u w p d e z r = eq_no _ _ _ _ (λ y. z (e ∙ y)) r
+sd_by u w p d n r = r ∙ rw n
 
 pub record Placing (u : ℕ) (ph : Bool) (s : List ℕ) (size : ℕ) (w f : List ℕ) (n₀ a₀ d₀ : ℕ) (m₀ m : List ℕ) (p q n a d : ℕ) : Type 0 where
   pub at : p + 8 * n ≤ 4096
@@ -296,9 +286,10 @@ pub record Placing (u : ℕ) (ph : Bool) (s : List ℕ) (size : ℕ) (w f : List
   pub most : u ≤ 4096
 
 pub place_begin : (u : ℕ) (ph : Bool) (s : List ℕ) (size : ℕ) (w f : List ℕ) (n a d : ℕ) (m : List ℕ) → n ≤ 512 → a ≤ 1125899906842624 → d ≤ 1125899906842624
-    → 8192 ≤ length m → AllWithin ph s size w f 0 n → 8 ≤ u → u ≤ 4096 → Placing u ph s size w f n a d m m 0 6656 n a d
+    → 8192 ≤ length m → AllWithin ph s size w f 0 n → 8 ≤ u → u ≤ 4096 → Placing u ph s size w f n a d m m 0 6656 (n - 0) a d
 place_begin u ph s size w f n a d m h i j l b g k =
-    record { at = omega arith; to = omega arith; same = refl; long = l; near = omega arith; near_data = omega arith; within = b; ends = refl; words = refl; least = g; most = k }
+    let e : n - 0 ≡ n = omega arith in
+    rw e (record { at = omega arith; to = omega arith; same = refl; long = l; near = omega arith; near_data = omega arith; within = b; ends = refl; words = refl; least = g; most = k })
 
 module _ {u : ℕ} {ph : Bool} {s : List ℕ} {size : ℕ} {w f : List ℕ} {n₀ a₀ d₀ : ℕ} {m₀ m : List ℕ} {p q n a d : ℕ} (t : Placing u ph s size w f n₀ a₀ d₀ m₀ m p q n a d) where
   pub place_ends : n ≡ 0 → d ≡ data_in u s size w f 0 n₀ d₀

@@ -1,5 +1,5 @@
 -- The whole layout, in words: what the code answers at each stage.
-use Rattle.std.specs.Prelude.{ℕ, ◌*◌, ◌≤◌, List, [], Bool, false, ◌≡◌, length}
+use Rattle.std.specs.Prelude.{ℕ, ◌*◌, ◌≤◌, List, [], Bool, false, ◌≡◌, length, Result, Ok, Err}
 use Rattle.base.specs.Checked.{Checked, ok, refused}
 use Rattle.base.specs.Blit.{blit}
 use Rattle.mdf.specs.Block.{link_at}
@@ -12,9 +12,8 @@ use Rattle.plan.specs.Layout.{Layout, layout}
 use Rattle.copier.specs.declared.memo.Copying.{Copying}
 use Rattle.placing.specs.declared.layout.Numbers.{Numbers}
 use Rattle.placing.specs.declared.layout.Rest.{Rest}
-use Rattle.placing.specs.declared.layout.Rest.TheVariants as rest
-use Rattle.placing.specs.declared.layout.Laid.{Laid}
-use Rattle.placing.specs.declared.layout.Laid.TheVariants as laid
+use Rattle.fields.specs.declared.refusal.Refusal.{Refusal}
+use Rattle.fields.specs.Answer.{number_of, place_of}
 use Rattle.copier.specs.Standing.{copies_in, standing, Past}
 use Rattle.placing.specs.InWords.{structures_in, data_in, placed_in, Columns, Referring}
 
@@ -40,9 +39,9 @@ pub record Rested (u : ℕ) (ph : Bool) (s : List ℕ) (size : ℕ) (w f : List 
   pub past : Past (2 * t.used) (blit attachments_at (attachment_words told.attachments)
       (blit placed_at (placed_in u ph s size w f 0 n (align8 st.next) (metadata_end_in ph s size w n st)) m)) m'
 
-abbrev pub Rests : ℕ → Bool → List ℕ → ℕ → List ℕ → List ℕ → ℕ → List ℕ → List ℕ → Copying → Rest → Type 0
-Rests u ph s size w f n m m' st (rest.At count end t) = Rested u ph s size w f n m m' st count end t
-Rests u ph s size w f n m m' st (rest.Refused number place) = attached_in u ph s size w f n m st ≡ refused number place
+abbrev pub Rests : ℕ → Bool → List ℕ → ℕ → List ℕ → List ℕ → ℕ → List ℕ → List ℕ → Copying → Result Rest Refusal → Type 0
+Rests u ph s size w f n m m' st (Ok r) = Rested u ph s size w f n m m' st r.count r.end r.state
+Rests u ph s size w f n m m' st (Err x) = attached_in u ph s size w f n m st ≡ refused (number_of x) (place_of x)
 
 -- ---- the whole
 
@@ -65,14 +64,14 @@ pub record LaidOut (m m' : List ℕ) (r : Numbers) (v : Checked Layout) : Type 0
   pub numbered : Numbered told m m' r
 
 -- after a refusal the words are not said
-abbrev pub Lays : List ℕ → List ℕ → Laid → Checked Layout → Type 0
-Lays m m' (laid.Done r) v = LaidOut m m' r v
-Lays m m' (laid.Refused number place) v = v ≡ refused number place
+abbrev pub Lays : List ℕ → List ℕ → Result Numbers Refusal → Checked Layout → Type 0
+Lays m m' (Ok r) v = LaidOut m m' r v
+Lays m m' (Err x) v = v ≡ refused (number_of x) (place_of x)
 
 -- what placement takes of the choices
 abbrev pub on_unit : ℕ → Rules
 on_unit u = record { unit = u; table = []; share = false; photos = false }
 
 -- of all columns that stand in the words
-pub record LaysOut (u : ℕ) (ph : Bool) (s : List ℕ) (size text : ℕ) (w f : List ℕ) (n : ℕ) (m m' : List ℕ) (r : Laid) : Type 0 where
+pub record LaysOut (u : ℕ) (ph : Bool) (s : List ℕ) (size text : ℕ) (w f : List ℕ) (n : ℕ) (m m' : List ℕ) (r : Result Numbers Refusal) : Type 0 where
   pub is : (k : ℕ) (cs : List Column) → Columns w f k 0 cs → length cs ≡ n → Referring ph s cs → Lays m m' r (layout (on_unit u) s size text cs)

@@ -1,5 +1,5 @@
 -- The stages of the whole layout, one law for each way of the code.
-use Rattle.std.specs.Prelude.{ℕ, ◌+◌, ◌*◌, ◌≤◌, ◌<◌, Bool, ◌≡◌, refl}
+use Rattle.std.specs.Prelude.{ℕ, ◌+◌, ◌*◌, ◌≤◌, ◌<◌, Bool, ◌≡◌, Result, Ok, Err}
 use mathlib.Core.List.{List, []}
 use Rattle.std.proofs.Math.Path.{sym, ap, subst}
 use Rattle.std.proofs.Common.{◌∙◌, arith}
@@ -13,15 +13,9 @@ use Rattle.plan.specs.Copies.{Copies, copies, most_copies, copy_root, History, h
 use Rattle.work_words.specs.CopyWords.{copy_words, attachment_words, attachments_at, history_at, placed_at, placed_words, laid_copies}
 use Rattle.plan.specs.Layout.{Layout, layout, md_size, past_copies, fh_place, structure_end, data_end, placed_from}
 use Rattle.copier.specs.declared.memo.Copying.{Copying}
-use Rattle.copier.specs.declared.copies.Got.{Got}
-use Rattle.copier.specs.declared.copies.Got.TheVariants as got
-use Rattle.copier.specs.declared.history.Chain.{Chain}
-use Rattle.copier.specs.declared.history.Chain.TheVariants as chain
-use Rattle.copier.specs.declared.attachments.Moved.{Moved}
-use Rattle.copier.specs.declared.attachments.Moved.TheVariants as moved
+use Rattle.copier.specs.declared.memo.Chain.{Chain}
+use Rattle.fields.specs.declared.refusal.Refusal.{Refusal}
 use Rattle.placing.specs.declared.layout.Rest.{Rest}
-use Rattle.placing.specs.declared.layout.Rest.TheVariants as rest
-use Rattle.placing.specs.declared.layout.Laid.TheVariants as laid
 use Rattle.copier.specs.Standing.{copies_in, standing, Room, Ready, Past}
 use Rattle.copier.specs.StandingLaws.{length-copies, align_near, past_more, past_then}
 use Rattle.copier.specs.Got.{Copied, AfterGot}
@@ -81,11 +75,11 @@ module _ (u : ℕ) (ph : Bool) (s : List ℕ) (size : ℕ) (w f : List ℕ) (n :
       ap (λ (v : List ℕ). copies_in v st.used) x ∙ copies-blit (placed_in u ph s size w f 0 n a e) m st.used 6656 (omega arith) in
       rw (z, y, k, j, i)
 
-  pub rest-moved : {m' : List ℕ} (r : Moved)
+  pub rest-moved : {m' : List ℕ} (r : Result Chain Refusal)
       → Moves m₁ m' (record { used = st.used; next = d }) r (attachments_of most_copies s l (standing m₁ (record { used = st.used; next = d })))
-      → {count : ℕ} {t : Copying} → r ≡ moved.At count t → Rests u ph s size w f n m m' st (rest.At count e t)
-  rest-moved {m'} r h {count} {t} q =
-      let g = subst (λ (v : Moved). Moves m₁ m' (record { used = st.used; next = d }) v (attachments_of most_copies s l (standing m₁ (record { used = st.used; next = d })))) q h in
+      → {k : Chain} → r ≡ Ok k → Rests u ph s size w f n m m' st (Ok (record { count = k.count; end = e; state = k.state }))
+  rest-moved {m'} r h {k} q =
+      let g = subst (λ (v : Result Chain Refusal). Moves m₁ m' (record { used = st.used; next = d }) v (attachments_of most_copies s l (standing m₁ (record { used = st.used; next = d })))) q h in
       let o = g.moving in
       record {
         told = o.told;
@@ -99,14 +93,14 @@ module _ (u : ℕ) (ph : Bool) (s : List ℕ) (size : ℕ) (w f : List ℕ) (n :
         past = rw (← i, ← j, ← x) o.past;
       }
 
-  pub rest_refused : (m' : List ℕ) (r : Moved)
+  pub rest_refused : (m' : List ℕ) (r : Result Chain Refusal)
       → Moves m₁ m' (record { used = st.used; next = d }) r (attachments_of most_copies s l (standing m₁ (record { used = st.used; next = d })))
-      → {b p : ℕ} → r ≡ moved.Refused b p → Rests u ph s size w f n m m' st (rest.Refused b p)
+      → {x : Refusal} → r ≡ Err x → Rests u ph s size w f n m m' st (Err x)
   rest_refused m' r h q =
-      sym rest_is ∙ subst (λ (v : Moved). Moves m₁ m' (record { used = st.used; next = d }) v (attachments_of most_copies s l (standing m₁ (record { used = st.used; next = d })))) q h
+      sym rest_is ∙ subst (λ (v : Result Chain Refusal). Moves m₁ m' (record { used = st.used; next = d }) v (attachments_of most_copies s l (standing m₁ (record { used = st.used; next = d })))) q h
 
-pub rests_at : (u : ℕ) (ph : Bool) (s : List ℕ) (size : ℕ) (w f : List ℕ) (n : ℕ) (m m' : List ℕ) (st : Copying) (r : Rest) {count end : ℕ} {t : Copying}
-    → Rests u ph s size w f n m m' st r → r ≡ rest.At count end t → Rested u ph s size w f n m m' st count end t
+pub rests_at : (u : ℕ) (ph : Bool) (s : List ℕ) (size : ℕ) (w f : List ℕ) (n : ℕ) (m m' : List ℕ) (st : Copying) (r : Result Rest Refusal) {q : Rest}
+    → Rests u ph s size w f n m m' st r → r ≡ Ok q → Rested u ph s size w f n m m' st q.count q.end q.state
 rests_at u ph s size w f n m m' st r h e = subst (Rests u ph s size w f n m m' st) e h
 
 pub rest_near : (u : ℕ) (ph : Bool) (s : List ℕ) (size : ℕ) (w f : List ℕ) (n : ℕ) (st : Copying) {a e d : ℕ} → a ≡ align8 st.next → e ≡ structures_in ph s size w 0 n a
@@ -155,11 +149,11 @@ unfolding layout layout_rest layout_of
 layout-next u s size text cs a b = rw (a, b)
 
 module _ (u : ℕ) (ph : Bool) (s : List ℕ) (size text : ℕ) (w f : List ℕ) (n : ℕ) (m : List ℕ) where
-  pub whole_first : (m' : List ℕ) {m'' : List ℕ} (g : Chain) {a b : ℕ} → Begins most_copies s m m' g → g ≡ chain.Refused a b → LaysOut u ph s size text w f n m m'' (laid.Refused a b)
+  pub whole_first : (m' : List ℕ) {m'' : List ℕ} (g : Result Chain Refusal) {x : Refusal} → Begins most_copies s m m' g → g ≡ Err x → LaysOut u ph s size text w f n m m'' (Err x)
   whole_first m' g h e = record { is = λ k cs x l r. layout-first u s size text cs (subst (Begins most_copies s m m') e h) }
 
   module _ {count : ℕ} {m₁ : List ℕ} {st : Copying} (o : FirstCopies most_copies count s m m₁ st) {md x : ℕ} (i : md ≡ align8 st.next) (j : x ≡ md_size text)
-      {m₂ : List ℕ} {g : Got} (c : Copied m₁ m₂ g (copies_of most_copies s w 0 n (standing m₁ (record { used = st.used; next = md + x + 56 })))) where
+      {m₂ : List ℕ} {g : Result Copying Refusal} (c : Copied m₁ m₂ g (copies_of most_copies s w 0 n (standing m₁ (record { used = st.used; next = md + x + 56 })))) where
     module _ (k : ℕ) (cs : List Column) (z : Columns w f k 0 cs) (l : length cs ≡ n) where
       columns_is : copies_of most_copies s w 0 n (standing m₁ (record { used = st.used; next = md + x + 56 }))
           ≡ column_copies most_copies s cs (copies (copies_in m₁ st.used) (fh_place (standing m₁ st) text + 56))
@@ -172,10 +166,10 @@ module _ (u : ℕ) (ph : Bool) (s : List ℕ) (size text : ℕ) (w f : List ℕ)
           layout-next u s size text cs o.is_comment o.is_past_lem
           ∙ ap (λ (v : Checked Copies). and_then v (λ m2. layout_rest u s size text cs o.comment (history (chain_in m₁ count) (standing m₁ st)) m2)) (sym (e ∙ columns_is))
 
-    pub whole_columns : {m' : List ℕ} {a b : ℕ} → g ≡ got.Refused a b → LaysOut u ph s size text w f n m m' (laid.Refused a b)
+    pub whole_columns : {m' : List ℕ} {y : Refusal} → g ≡ Err y → LaysOut u ph s size text w f n m m' (Err y)
     whole_columns e = record { is = λ k cs z l rf. columns-next k cs z l (copied_refused c e) }
 
-    module _ {t : Copying} (e : g ≡ got.At t) where
+    module _ {t : Copying} (e : g ≡ Ok t) where
       ends_is : (k : ℕ) (cs : List Column) → Columns w f k 0 cs → length cs ≡ n → Referring ph s cs → metadata_end_in ph s size w n t ≡ structure_end s size (past_copies (standing m₂ t)) cs
       unfolding past_copies
       ends_is k cs z l rf = rw (← l) (structures_of ph s size w f k 0 (align8 t.next) cs z rf)
@@ -188,7 +182,7 @@ module _ (u : ℕ) (ph : Bool) (s : List ℕ) (size text : ℕ) (w f : List ℕ)
           ap (data_in u s size w f 0 n) (ends_is k cs z l rf) ∙ rw (← l) (data_of ph s size w f (on_unit u) k 0 (structure_end s size (past_copies (standing m₂ t)) cs) cs z) in
           rw d
 
-      pub whole_rest : {m' : List ℕ} (r : Rest) {a b : ℕ} → Rests u ph s size w f n m₂ m' t r → r ≡ rest.Refused a b → LaysOut u ph s size text w f n m m' (laid.Refused a b)
+      pub whole_rest : {m' : List ℕ} (r : Result Rest Refusal) {y : Refusal} → Rests u ph s size w f n m₂ m' t r → r ≡ Err y → LaysOut u ph s size text w f n m m' (Err y)
       unfolding layout_rest
       whole_rest {m'} r h q = record {
         is = λ k cs z l rf.
@@ -258,7 +252,7 @@ module _ (u : ℕ) (ph : Bool) (s : List ℕ) (size text : ℕ) (w f : List ℕ)
                   (blit attachments_at (attachment_words q.told.attachments) (blit 0 (copy_words q.told.made.memo) m)))) (placed_is k cs z l rf);
             }
 
-        pub whole_done : LaysOut u ph s size text w f n m m₃ (laid.Done (record {
+        pub whole_done : LaysOut u ph s size text w f n m m₃ (Ok (record {
           history = st.used;
           chain = count;
           md = md;

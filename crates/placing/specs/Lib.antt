@@ -7,3 +7,5 @@ pub mod LayingLaws
 pub mod BoundedLaws
 pub mod Decision
 pub mod DecisionLaws
+pub mod DecidesLaws
+pub mod LentLaws

@@ -2,63 +2,52 @@
 ghost use Rattle.std.specs.Prelude.{◌≡◌, [], ◌≤◌, length};
 ghost use Rattle.fields.specs.Answer.{verdict_of};
 ghost use Rattle.plan.specs.Rules.{built_in};
-ghost use Rattle.result.specs.Result.{lent_in};
+ghost use Rattle.result.specs.Result.{lent_in, zeros};
 ghost use Rattle.choices.specs.Chosen.{rules};
-ghost use Rattle.placing.specs.Decision.{untimed, DecidesRest, Decides};
+ghost use Rattle.placing.specs.Decision.{untimed, four, DecidesRest, Decides};
 
-use crate::layout::{Laid, Numbers, lay_out};
+use crate::columns::Columns;
+use crate::layout::{Numbers, lay_out};
 use choices::{Choices, choices_in};
-use fields::{Check, u64_at};
-use planning::recording::{Planned, plan};
+use fields::field_at;
+use fields::refusal::Refusal;
+use planning::recording::plan;
 use reading::recording::clear;
 
-// Document 01's refusal; or the blocks met, the fragments of data chains, columns and omissions, the groups that another stands for, and the
-// layout's numbers.
-#[derive(Drop)]
-pub enum Decision {
-    Refused {
-        number: u64,
-        place: u64,
-    },
-    Done {
-        items: u64,
-        fragments: u64,
-        columns: u64,
-        omissions: u64,
-        shared: u64,
-        numbers: Numbers,
-    },
+// The blocks met, the fragments of data chains, columns and omissions, the groups that another stands for, and the layout's numbers.
+#[derive(Clone, Copy)]
+pub struct Decision {
+    pub items: u64,
+    pub fragments: u64,
+    pub columns: u64,
+    pub omissions: u64,
+    pub shared: u64,
+    pub numbers: Numbers,
 }
 
 // 1: the identification is 64 bytes that begin with `MDF`, five blanks, `4.20`, four blanks; the history text has at most 4,096 bytes.
-pub fn lent_in(ident: &[u8], text: &[u8]) -> Check
+pub fn lent_in(ident: &[u8], text: &[u8]) -> Result<(), Refusal>
     ensures { verdict_of result ≡ lent_in (untimed [] 0 ident.now text.now built_in) }
 {
-    if ident.len() != 64 {
-        return Check::Refused {
-            number: 1,
-            place: 0,
-        };
+    if ident.len() != 64
+        || field_at::<8>(ident, 0) != 0x2020_2020_2046_444d
+        || field_at::<8>(ident, 8) != 0x2020_2020_3032_2e34
+        || 4096 < text.len()
+    {
+        return Err(Refusal::Arguments);
     }
-    if u64_at(ident, 0) != 2314885530820953165 {
-        return Check::Refused {
-            number: 1,
-            place: 0,
-        };
-    }
-    if u64_at(ident, 8) != 2314885531088072244 {
-        return Check::Refused {
-            number: 1,
-            place: 0,
-        };
-    }
-    if 4096 < text.len() {
-        return Check::Refused {
-            number: 1,
-            place: 0,
-        };
-    }
-    Check::Fine
+    Ok(())
+}
+
+// Every word of the four lent slices zero.
+pub fn clear_all(source: &mut [u64], fragments: &mut [u64], columns: &mut [u64], copies: &mut [u64])
+    ensures { four source.new fragments.new columns.new copies.new
+        ≡ zeros (four source.old fragments.old columns.old copies.old) }
+{
+    clear(source);
+    clear(fragments);
+    clear(columns);
+    clear(copies);
 }
 
 // 2, 26, 27, 3, then the plan and the layout, for a history text of so many bytes.
@@ -72,7 +61,7 @@ fn decide_rest(
     fragments: &mut [u64],
     columns: &mut [u64],
     copies: &mut [u64],
-) -> Decision
+) -> Result<Decision, Refusal>
     requires { (8192 ≤ length source.old) × (8192 ≤ length fragments.old) × (8192 ≤ length columns.old) × (8192 ≤ length copies.old)
         × (text ≤ 4096) }
     ensures { DecidesRest (rules choices table.now) image.now size text
@@ -80,56 +69,34 @@ fn decide_rest(
         source.new fragments.new columns.new copies.new }
 {
     if size == 0 {
-        return Decision::Refused {
-            number: 2,
-            place: 0,
-        };
+        return Err(Refusal::BlockSize);
     }
-    let chosen = choices_in(choices, table);
-    if let Check::Refused { number, place } = chosen {
-        return Decision::Refused { number, place };
-    }
+    choices_in(choices, table)?;
     if 4294967296 < (image.len() as u64) {
-        return Decision::Refused {
-            number: 3,
-            place: 0,
-        };
+        return Err(Refusal::ImageSize);
     }
-    let planned = plan(image, size, choices, table, source, fragments, columns);
-    match planned {
-        Planned::Refused { number, place } => Decision::Refused { number, place },
-        Planned::Done {
-            items,
-            fragments: pieces,
-            columns: n,
-            omissions,
-            shared,
-        } => {
-            let photos = choices.photos;
-            let laid = lay_out(
-                image,
-                choices.unit,
-                photos,
-                size,
-                text,
-                fragments,
-                columns,
-                n,
-                copies,
-            );
-            match laid {
-                Laid::Refused { number, place } => Decision::Refused { number, place },
-                Laid::Done(numbers) => Decision::Done {
-                    items,
-                    fragments: pieces,
-                    columns: n,
-                    omissions,
-                    shared,
-                    numbers,
-                },
-            }
-        }
-    }
+    let planned = plan(image, size, choices, table, source, fragments, columns)?;
+    let numbers = lay_out(
+        Columns {
+            image,
+            unit: choices.unit,
+            photos: choices.photos,
+            size,
+            fragments,
+            words: columns,
+            n: planned.columns,
+        },
+        text,
+        copies,
+    )?;
+    Ok(Decision {
+        items: planned.items,
+        fragments: planned.fragments,
+        columns: planned.columns,
+        omissions: planned.omissions,
+        shared: planned.shared,
+        numbers,
+    })
 }
 
 // A recording is decided into four lent slices of 8,192 words: blocks, groups and counts; fragments; columns and omissions; copies and places.
@@ -144,39 +111,19 @@ pub fn decide(
     fragments: &mut [u64],
     columns: &mut [u64],
     copies: &mut [u64],
-) -> Decision
+) -> Result<Decision, Refusal>
     ensures { Decides (untimed image.now size ident.now text.now (rules choices table.now))
         source.old fragments.old columns.old copies.old result
         source.new fragments.new columns.new copies.new }
 {
-    if source.len() < 8192 {
-        return Decision::Refused {
-            number: 1,
-            place: 0,
-        };
+    if source.len() < 8192
+        || fragments.len() < 8192
+        || columns.len() < 8192
+        || copies.len() < 8192
+    {
+        return Err(Refusal::Arguments);
     }
-    if fragments.len() < 8192 {
-        return Decision::Refused {
-            number: 1,
-            place: 0,
-        };
-    }
-    if columns.len() < 8192 {
-        return Decision::Refused {
-            number: 1,
-            place: 0,
-        };
-    }
-    if copies.len() < 8192 {
-        return Decision::Refused {
-            number: 1,
-            place: 0,
-        };
-    }
-    let lent = lent_in(ident, text);
-    if let Check::Refused { number, place } = lent {
-        return Decision::Refused { number, place };
-    }
+    lent_in(ident, text)?;
     let found = decide_rest(
         image,
         size,
@@ -188,12 +135,9 @@ pub fn decide(
         columns,
         copies,
     );
-    if let Decision::Refused { number, place } = found {
-        clear(source);
-        clear(fragments);
-        clear(columns);
-        clear(copies);
-        return Decision::Refused { number, place };
+    if let Err(refusal) = found {
+        clear_all(source, fragments, columns, copies);
+        return Err(refusal);
     }
     found
 }

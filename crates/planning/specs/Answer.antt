@@ -1,11 +1,10 @@
 -- A recording read and planned: what is decided before its layout, and what is left of it in the three lent slices.
-use Rattle.std.specs.Prelude.{ℕ, ◌-◌, ◌≤◌, List, ◌++◌, Bool, ◌≡◌, length, replicate}
+use Rattle.std.specs.Prelude.{ℕ, ◌-◌, ◌≤◌, List, ◌++◌, Bool, ◌≡◌, length, replicate, Result, Ok, Err, ⊤}
 use Rattle.base.specs.Choice.{if_lt}
 use Rattle.base.specs.Blit.{blit}
-use Rattle.base.specs.Checked.{Checked, ok, refused, and_then}
-use Rattle.fields.specs.declared.Check.{Check}
-use Rattle.fields.specs.declared.Check.TheVariants as check
-use Rattle.fields.specs.Answer.{verdict_of}
+use Rattle.base.specs.Checked.{Checked, ok, refused, fine, and_then}
+use Rattle.fields.specs.declared.refusal.Refusal.{Refusal}
+use Rattle.fields.specs.Answer.{number_of, place_of, verdict_of}
 use Rattle.mdf.specs.Identification.{identified}
 use Rattle.mdf.specs.Walk.{Source, walk}
 use Rattle.mdf.specs.Group.{data_groups}
@@ -20,8 +19,8 @@ use Rattle.result.specs.Sharing.{sharing}
 use Rattle.result.specs.Result.{shared_groups}
 use Rattle.reading.specs.Reading.{Recording, reading, zeros}
 use Rattle.planning.specs.declared.recording.Planned.{Planned}
-use Rattle.planning.specs.declared.recording.Planned.TheVariants.{Refused, Done}
 use Rattle.planning.specs.Items.{items_from}
+use Rattle.planning.specs.Planning.{checked_of}
 use Rattle.planning.specs.Stage.{Stand}
 use Rattle.planning.specs.DataWords.{all_data_over}
 
@@ -47,14 +46,22 @@ planned_of rs s size =
 
 -- the answer, and the words of the source, of fragments and of columns at the end
 pub data PlanLeft : Type 0 where
-  plan_left : Planned → List ℕ → List ℕ → List ℕ → PlanLeft
+  ended : Checked Planned → List ℕ → List ℕ → List ℕ → PlanLeft
+
+abbrev pub plan_left : Result Planned Refusal → List ℕ → List ℕ → List ℕ → PlanLeft
+plan_left r w f c = ended (checked_of r) w f c
 
 -- "Work slices are zero after every return except refusal 1"; where planning succeeds they hold the recording and its plan
 abbrev pub left_by : Checked Arranged → List ℕ → List ℕ → List ℕ → PlanLeft
-left_by (refused number place) w f c = plan_left (Refused number place) (zeros w) (zeros f) (zeros c)
+left_by (refused number place) w f c = ended (refused number place) (zeros w) (zeros f) (zeros c)
 left_by (ok a) w f c =
-    plan_left (Done (length a.source.items) (length a.source.fragments) (length a.planned.columns) (length a.planned.omissions)
-    (shared_groups a.stands))
+    ended (ok (record {
+      items = length a.source.items;
+      fragments = length a.source.fragments;
+      columns = length a.planned.columns;
+      omissions = length a.planned.omissions;
+      shared = shared_groups a.stands;
+    }))
     (blit counts_at a.numbers (laid_items a.source.items w))
     (blit 0 (fragment_words (a.source.fragments ++ signal_fragments a.planned.columns)) f)
     (laid_plan (length a.source.fragments) a.planned c)
@@ -65,9 +72,9 @@ column_room = 6144
 -- "1, 0: a work slice too short": it "changes nothing"
 unfoldable pub plan_into : Rules → List ℕ → ℕ → List ℕ → List ℕ → List ℕ → PlanLeft
 plan_into rs s size w f c =
-    if_lt (length w) 4096 (plan_left (Refused 1 0) w f c)
-    (if_lt (length f) 3072 (plan_left (Refused 1 0) w f c)
-    (if_lt (length c) column_room (plan_left (Refused 1 0) w f c)
+    if_lt (length w) 4096 (ended (refused 1 0) w f c)
+    (if_lt (length f) 3072 (ended (refused 1 0) w f c)
+    (if_lt (length c) column_room (ended (refused 1 0) w f c)
     (left_by (planned_of rs s size) w f c)))
 
 -- ---- the same before any clearing: a refusal, or the numbers and words
@@ -81,9 +88,9 @@ pub record Kept : Type 0 where
   pub pieces : List ℕ
   pub plans : List ℕ
 
-abbrev pub given : Planned → List ℕ → List ℕ → List ℕ → Checked Kept
-given (Refused x p) w f c = refused x p
-given (Done n nf nc no' sh) w f c = ok (record { items = n; fragments = nf; columns = nc; omissions = no'; shared = sh; words = w; pieces = f; plans = c })
+abbrev pub given : Result Planned Refusal → List ℕ → List ℕ → List ℕ → Checked Kept
+given (Err x) w f c = refused (number_of x) (place_of x)
+given (Ok p) w f c = ok (record { items = p.items; fragments = p.fragments; columns = p.columns; omissions = p.omissions; shared = p.shared; words = w; pieces = f; plans = c })
 
 abbrev pub kept_by : Arranged → List ℕ → List ℕ → List ℕ → Kept
 kept_by a w f c = record {
@@ -120,7 +127,7 @@ unfoldable pub arranged : Rules → List ℕ → ℕ → Recording → Checked A
 arranged rs s size r = and_then (photos_first rs.photos s) (λ _. arranged_shared rs s size r)
 
 -- the data stage and the block counts, for all columns that stand in the words
-pub record StageOver (s : List ℕ) (size : ℕ) (src f w : List ℕ) (n nf nc : ℕ) (r : Check) : Type 0 where
+pub record StageOver (s : List ℕ) (size : ℕ) (src f w : List ℕ) (n nf nc : ℕ) (r : Result ⊤ Refusal) : Type 0 where
   pub is : (m : ℕ) (cs : List Column) → Stand w m 0 cs → length cs ≡ nc
       → verdict_of r ≡ and_then (all_data_over s w f nf nc (items_from src 0 n)) (λ _. blocks_in s size cs)
 
@@ -137,12 +144,12 @@ pub record ReadIn (s src f : List ℕ) (n nf : ℕ) (r : Recording) (w₀ f₀ :
 abbrev pub stand_words : List ℕ → List ℕ
 stand_words bys = bys ++ replicate (512 - length bys) 0
 
-abbrev pub stands_as : Checked (List ℕ) → Check → List ℕ → Type 0
-stands_as (refused x p) r w = r ≡ check.Refused x p
-stands_as (ok bys) r w = (r ≡ check.Fine) × (w ≡ stand_words bys)
+abbrev pub stands_as : Checked (List ℕ) → Result ⊤ Refusal → List ℕ → Type 0
+stands_as (refused x p) r w = verdict_of r ≡ refused x p
+stands_as (ok bys) r w = (verdict_of r ≡ fine) × (w ≡ stand_words bys)
 
 -- which masters stand for others, whichever recording the words hold; cells are compared in images of at most 4 GiB
-pub record StandsRead (on : Bool) (s src f : List ℕ) (n nf : ℕ) (r : Check) (w : List ℕ) : Type 0 where
+pub record StandsRead (on : Bool) (s src f : List ℕ) (n nf : ℕ) (r : Result ⊤ Refusal) (w : List ℕ) : Type 0 where
   pub is : (x : Recording) (w₀ f₀ : List ℕ) → ReadIn s src f n nf x w₀ f₀ → length s ≤ 4294967296 → stands_as (shared_in on s x) r w
 
 -- other words that say the same of every group
@@ -150,16 +157,16 @@ pub record StandAlike (w v : List ℕ) : Type 0 where
   pub is : (a : ℕ) (gs : List SrcGroup) → stand_in a gs v ≡ stand_in a gs w
 
 -- its plan and data stage by those words
-pub record PlanStood (rs : Rules) (s : List ℕ) (size : ℕ) (src stands f c : List ℕ) (n nf : ℕ) (r : Planned) (f' c' : List ℕ) : Type 0 where
+pub record PlanStood (rs : Rules) (s : List ℕ) (size : ℕ) (src stands f c : List ℕ) (n nf : ℕ) (r : Result Planned Refusal) (f' c' : List ℕ) : Type 0 where
   pub is : (x : Recording) (w₀ f₀ : List ℕ) → ReadIn s src f n nf x w₀ f₀ → (bys : List ℕ) → shared_in rs.share s x ≡ ok bys → stands ≡ stand_words bys
       → given r src f' c' ≡ and_then (arranged_by rs s size x bys) (λ a. ok (kept_by a w₀ f₀ c))
 
 -- that, and which masters stand for others
-pub record PlanShared (rs : Rules) (s : List ℕ) (size : ℕ) (src f c : List ℕ) (n nf : ℕ) (r : Planned) (f' c' : List ℕ) : Type 0 where
+pub record PlanShared (rs : Rules) (s : List ℕ) (size : ℕ) (src f c : List ℕ) (n nf : ℕ) (r : Result Planned Refusal) (f' c' : List ℕ) : Type 0 where
   pub is : (x : Recording) (w₀ f₀ : List ℕ) → ReadIn s src f n nf x w₀ f₀ → length s ≤ 4294967296
       → given r src f' c' ≡ and_then (arranged_shared rs s size x) (λ a. ok (kept_by a w₀ f₀ c))
 
 -- the whole of planning, whichever recording the words hold
-pub record PlanRead (rs : Rules) (s : List ℕ) (size : ℕ) (src f c : List ℕ) (n nf : ℕ) (r : Planned) (f' c' : List ℕ) : Type 0 where
+pub record PlanRead (rs : Rules) (s : List ℕ) (size : ℕ) (src f c : List ℕ) (n nf : ℕ) (r : Result Planned Refusal) (f' c' : List ℕ) : Type 0 where
   pub is : (x : Recording) (w₀ f₀ : List ℕ) → ReadIn s src f n nf x w₀ f₀ → length s ≤ 4294967296
       → given r src f' c' ≡ and_then (arranged rs s size x) (λ a. ok (kept_by a w₀ f₀ c))

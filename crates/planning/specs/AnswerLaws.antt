@@ -1,5 +1,5 @@
 -- From reading, the plan and the data stage to the whole of planning.
-use Rattle.std.specs.Prelude.{ℕ, ◌+◌, ◌*◌, ◌≤◌, Bool, true, false, replicate}
+use Rattle.std.specs.Prelude.{ℕ, ◌+◌, ◌*◌, ◌≤◌, Bool, true, false, replicate, Result, Ok, Err, is_err, ⊤}
 use mathlib.Core.List.{List, ◌++◌}
 use Rattle.std.proofs.Math.Path.{◌≡◌, refl, sym, ap, subst}
 use Rattle.std.proofs.Common.{◌∙◌, arith}
@@ -9,9 +9,8 @@ use Rattle.base.specs.Blit.{part, blit}
 use Rattle.base.specs.BlitLaws.{length-blit, blit-append, part-blit, part-blit_before}
 use Rattle.base.specs.Checked.{Checked, ok, refused, and_then, Verdict, fine}
 use Rattle.base.specs.CheckedLaws.{refused≢ok, ok_same}
-use Rattle.fields.specs.declared.Check.{Check}
-use Rattle.fields.specs.declared.Check.TheVariants.{Fine}
-use Rattle.fields.specs.Answer.{verdict_of}
+use Rattle.fields.specs.declared.refusal.Refusal.{Refusal}
+use Rattle.fields.specs.Answer.{number_of, place_of, refused_by, verdict_of}
 use Rattle.mdf.specs.Chain.{Fragment}
 use Rattle.mdf.specs.Identification.{identified}
 use Rattle.mdf.specs.Walk.{Item, Source, walk}
@@ -38,7 +37,6 @@ use Rattle.reading.specs.Reading as read
 use Rattle.reading.specs.Reading.{Recording, reading, read_over, read_into, fragment_room, zeros}
 use Rattle.planning.specs.declared.column.Progress.{Progress}
 use Rattle.planning.specs.declared.recording.Planned.{Planned}
-use Rattle.planning.specs.declared.recording.Planned.TheVariants.{Refused, Done}
 use Rattle.planning.specs.Items.{items_from}
 use Rattle.planning.specs.Planning.{Gives, within}
 use Rattle.planning.specs.Bare.{bare_checked}
@@ -49,16 +47,16 @@ use Rattle.planning.specs.ReadBackLaws.{few-items}
 use Rattle.planning.specs.OutcomeLaws.{read_gives, read_items, PlanHeld, PlanIs, gives-plan, gives_none}
 use Rattle.planning.specs.DataWords.{all_data_over}
 use Rattle.planning.specs.DataWordsLaws.{Filled, data_filled, several_counted}
-use Rattle.planning.specs.Answer.{Arranged, planned_of, plan_left, left_by, plan_into, Kept, given, kept_by, plan_over, shared_in, arranged_by, arranged_shared, arranged, StageOver, ReadIn, stand_words, stands_as, StandsRead, PlanStood, PlanShared, PlanRead}
+use Rattle.planning.specs.Answer.{Arranged, planned_of, ended, plan_left, left_by, plan_into, Kept, given, kept_by, plan_over, shared_in, arranged_by, arranged_shared, arranged, StageOver, ReadIn, stand_words, stands_as, StandsRead, PlanStood, PlanShared, PlanRead}
 use Rattle.planning.specs.StandsLaws.{plan-words, sharing-length, no_stands, stands_laid, shared-words}
 use Rattle.planning.specs.Clocks.{ShareTimes}
 
 -- ---- the data stage, then the block counts
-module _ (s : List ℕ) (size : ℕ) (src f w : List ℕ) (n nf nc : ℕ) {v : Check} (e : verdict_of v ≡ all_data_over s w f nf nc (items_from src 0 n)) where
-  pub stage_stop : {x p : ℕ} → v ≡ Check.Refused x p → StageOver s size src f w n nf nc (Check.Refused x p)
+module _ (s : List ℕ) (size : ℕ) (src f w : List ℕ) (n nf nc : ℕ) {v : Result ⊤ Refusal} (e : verdict_of v ≡ all_data_over s w f nf nc (items_from src 0 n)) where
+  pub stage_stop : {x : Refusal} → v ≡ Err x → StageOver s size src f w n nf nc (Err x)
   stage_stop q = record { is = λ m cs h l. rw (← e, q) }
 
-  pub stage_blocks : v ≡ Fine → {r : Check} → BlocksStage s w nc size r → StageOver s size src f w n nf nc r
+  pub stage_blocks : {u : ⊤} → v ≡ Ok u → {r : Result ⊤ Refusal} → BlocksStage s w nc size r → StageOver s size src f w n nf nc r
   stage_blocks q b = record { is = λ m cs h l. rw (← e, q) (b.is m cs h l) }
 
 -- two checks, then what is decided
@@ -119,18 +117,18 @@ planned-reading rs s size = go (identified s) (walk s)
     go (refused x p) b = refl
 
 -- the numbers of a plan are bounded
-within-few : (n : ℕ) {r : Progress} {nc no nf : ℕ} → within r (1537 * n) (1537 * n) → r ≡ Progress.Done nc no nf → n ≤ 1536 → (nc ≤ 4194304) × (nf ≤ 1024)
-within-few n {nc = nc} {no} {nf} b q h =
-    let k : within (Progress.Done nc no nf) (1537 * n) (1537 * n) = rw q at b in
+within-few : (n : ℕ) {r : Result Progress Refusal} {p : Progress} → within r (1537 * n) (1537 * n) → r ≡ Ok p → n ≤ 1536 → (p.columns ≤ 4194304) × (p.fragments ≤ 1024)
+within-few n {p = p} b q h =
+    let k : within (Ok p) (1537 * n) (1537 * n) = rw q at b in
     let i = k.0 in
     (omega arith, k.2)
 
-pub planned-few : (rs : Rules) (s src bys : List ℕ) (n nf : ℕ) (c f c1 f1 : List ℕ) {r : Progress} {nc no nf' : ℕ} → GroupsPlan rs s src bys n nf c f r c1 f1 → r ≡ Progress.Done nc no nf'
-    → n ≤ 1536 → (nc ≤ 4194304) × (nf' ≤ 1024)
+pub planned-few : (rs : Rules) (s src bys : List ℕ) (n nf : ℕ) (c f c1 f1 : List ℕ) {r : Result Progress Refusal} {p : Progress} → GroupsPlan rs s src bys n nf c f r c1 f1 → r ≡ Ok p
+    → n ≤ 1536 → (p.columns ≤ 4194304) × (p.fragments ≤ 1024)
 planned-few rs s src bys n nf c f c1 f1 g q h = within-few n g.bound q h
 
 -- ---- the plan of what was read
-module _ (rs : Rules) (s : List ℕ) (size : ℕ) (src stands f c : List ℕ) (n nf : ℕ) {r : Progress} (c1 f1 : List ℕ) (g : GroupsPlan rs s src stands n nf c f r c1 f1) where
+module _ (rs : Rules) (s : List ℕ) (size : ℕ) (src stands f c : List ℕ) (n nf : ℕ) {r : Result Progress Refusal} (c1 f1 : List ℕ) (g : GroupsPlan rs s src stands n nf c f r c1 f1) where
   module _ (x : Recording) (w₀ f₀ : List ℕ) (h : ReadIn s src f n nf x w₀ f₀) (bys : List ℕ) (shared : shared_in rs.share s x ≡ ok bys) (e : stands ≡ stand_words bys) where
     known : ReadKnown s x
     known = reading-known s x h.is
@@ -149,21 +147,21 @@ module _ (rs : Rules) (s : List ℕ) (size : ℕ) (src stands f c : List ℕ) (n
         (ap (λ (l : List ℕ). plan rs s (length x.source.fragments) (src_groups (data_groups x.source) x.counts) l) e ∙ plan-words rs s (length x.source.fragments) _ bys as_many)
         (read_gives s x.source x.counts known.walked known.counted w₀ h.long (rw (h.words, h.items, h.fragments) at g))
 
-    no_plan : {y p : ℕ} → r ≡ Progress.Refused y p → refused y p ≡ and_then (arranged_by rs s size x bys) (λ a. ok (kept_by a w₀ f₀ c))
+    no_plan : {y : Refusal} → r ≡ Err y → refused (number_of y) (place_of y) ≡ and_then (arranged_by rs s size x bys) (λ a. ok (kept_by a w₀ f₀ c))
     unfolding arranged_by
     no_plan q =
         let e = gives_none (length x.source.fragments) c f planned gave q in
         rw e
 
-    module _ (long : 6144 ≤ length c) (room : 3072 ≤ length f) {nc no nf' : ℕ} (q : r ≡ Progress.Done nc no nf') (few : nf' ≤ 1024)
-        (v : Check) (t : StageOver s size src f1 c1 n nf nc v) where
-      planned_is : PlanIs planned (length x.source.fragments) nc no nf' c f c1 f1
+    module _ (long : 6144 ≤ length c) (room : 3072 ≤ length f) {went : Progress} (q : r ≡ Ok went) (few : went.fragments ≤ 1024)
+        (v : Result ⊤ Refusal) (t : StageOver s size src f1 c1 n nf went.columns v) where
+      planned_is : PlanIs planned (length x.source.fragments) went.columns went.omissions went.fragments c f c1 f1
       planned_is = gives-plan (length x.source.fragments) c f planned gave q
 
       abbrev p : Plan
       p = planned_is.plan
 
-      held : PlanHeld (length x.source.fragments) p nc no nf' c f c1 f1
+      held : PlanHeld (length x.source.fragments) p went.columns went.omissions went.fragments c f c1 f1
       held = planned_is.held
 
       filled : Filled c1 f1 p.columns x.source.fragments
@@ -211,31 +209,33 @@ module _ (rs : Rules) (s : List ℕ) (size : ℕ) (src stands f c : List ℕ) (n
       unfolding arranged_by
       opened = rw planned_is.is
 
-      stopped : {y k : ℕ} → v ≡ Check.Refused y k → refused y k ≡ and_then (arranged_by rs s size x bys) (λ a. ok (kept_by a w₀ f₀ c))
+      stopped : {y : Refusal} → v ≡ Err y → refused (number_of y) (place_of y) ≡ and_then (arranged_by rs s size x bys) (λ a. ok (kept_by a w₀ f₀ c))
       stopped z =
           stage_refused (all_data_in s p.columns (data_groups x.source)) (blocks_in s size p.columns) found (λ a. kept_by a w₀ f₀ c) (ap verdict_of (sym z) ∙ staged)
           ∙ ap (λ u. and_then u (λ a. ok (kept_by a w₀ f₀ c))) (sym opened)
 
-      done : {sh : ℕ} → sh ≡ shared_groups stands → v ≡ Fine → given (Done n nf nc no sh) src f1 c1 ≡ and_then (arranged_by rs s size x bys) (λ a. ok (kept_by a w₀ f₀ c))
+      done : {sh : ℕ} → sh ≡ shared_groups stands → {u : ⊤} → v ≡ Ok u
+          → given (Ok (record { items = n; fragments = nf; columns = went.columns; omissions = went.omissions; shared = sh })) src f1 c1 ≡ and_then (arranged_by rs s size x bys) (λ a. ok (kept_by a w₀ f₀ c))
       done i z =
           same_kept h.items h.fragments held.columns held.omissions (i ∙ ap shared_groups e ∙ shared-words bys) h.words (all-pieces x.source.fragments (signal_fragments p.columns) f f₀ f1 held.in_fragments h.pieces) held.in_columns
           ∙ stage_fine (all_data_in s p.columns (data_groups x.source)) (blocks_in s size p.columns) found (λ a. kept_by a w₀ f₀ c) (ap verdict_of (sym z) ∙ staged)
           ∙ ap (λ u. and_then u (λ a. ok (kept_by a w₀ f₀ c))) (sym opened)
 
-  pub read_unplanned : {y p : ℕ} → r ≡ Progress.Refused y p → PlanStood rs s size src stands f c n nf (Refused y p) f1 c1
+  pub read_unplanned : {y : Refusal} → r ≡ Err y → PlanStood rs s size src stands f c n nf (Err y) f1 c1
   read_unplanned q = record { is = λ x w₀ f₀ h bys o e. no_plan x w₀ f₀ h bys o e q }
 
-  module _ (long : 6144 ≤ length c) (room : 3072 ≤ length f) {nc no nf' : ℕ} (q : r ≡ Progress.Done nc no nf') (few : nf' ≤ 1024)
-      {v : Check} (t : StageOver s size src f1 c1 n nf nc v) where
-    pub read_unstaged : {y p : ℕ} → v ≡ Check.Refused y p → PlanStood rs s size src stands f c n nf (Refused y p) f1 c1
+  module _ (long : 6144 ≤ length c) (room : 3072 ≤ length f) {went : Progress} (q : r ≡ Ok went) (few : went.fragments ≤ 1024)
+      {v : Result ⊤ Refusal} (t : StageOver s size src f1 c1 n nf went.columns v) where
+    pub read_unstaged : {y : Refusal} → v ≡ Err y → PlanStood rs s size src stands f c n nf (Err y) f1 c1
     read_unstaged z = record { is = λ x w₀ f₀ h bys o e. stopped x w₀ f₀ h bys o e long room q few v t z }
 
-    pub read_planned : {sh : ℕ} → sh ≡ shared_groups stands → v ≡ Fine → PlanStood rs s size src stands f c n nf (Done n nf nc no sh) f1 c1
+    pub read_planned : {sh : ℕ} → sh ≡ shared_groups stands → {u : ⊤} → v ≡ Ok u
+        → PlanStood rs s size src stands f c n nf (Ok (record { items = n; fragments = nf; columns = went.columns; omissions = went.omissions; shared = sh })) f1 c1
     read_planned i z = record { is = λ x w₀ f₀ h bys o e. done x w₀ f₀ h bys o e long room q few v t i z }
 
 -- ---- those that stand for others
 module _ (s src f : List ℕ) (n nf : ℕ) {on : Bool} where
-  pub stands_off : {w : List ℕ} → on ≡ false → w ≡ replicate 512 0 → StandsRead on s src f n nf Fine w
+  pub stands_off : {w : List ℕ} → on ≡ false → w ≡ replicate 512 0 → {u : ⊤} → StandsRead on s src f n nf (Ok u) w
   unfolding shared_in sharing
   stands_off q e =
       record {
@@ -244,7 +244,7 @@ module _ (s src f : List ℕ) (n nf : ℕ) {on : Bool} where
             rw q (refl, e ∙ no_stands _ (groups_known s x.source x.counts k.walked k.counted).few_groups);
       }
 
-  pub stands_on : {w w' : List ℕ} {r : Check} → on ≡ true → w ≡ replicate 512 0 → ShareTimes s src f n nf r w w' → StandsRead on s src f n nf r w'
+  pub stands_on : {w w' : List ℕ} {r : Result ⊤ Refusal} → on ≡ true → w ≡ replicate 512 0 → ShareTimes s src f n nf r w w' → StandsRead on s src f n nf r w'
   unfolding shared_in sharing
   stands_on {w} {w'} {r} q e t =
       record {
@@ -257,45 +257,42 @@ module _ (s src f : List ℕ) (n nf : ℕ) {on : Bool} where
             ∙ stands_laid (shared_times s gs) (rw (shared-length s gs) (groups_known s x.source x.counts k.walked k.counted).few_groups)));
       }
     where
-      go : (bys : List ℕ) (u c : Verdict) (r : Check) → verdict_of r ≡ and_then u (λ _. c) → (r ≡ Fine → w' ≡ stand_words bys)
+      go : (bys : List ℕ) (u c : Verdict) (r : Result ⊤ Refusal) → verdict_of r ≡ and_then u (λ _. c) → (verdict_of r ≡ fine → w' ≡ stand_words bys)
           → stands_as (and_then u (λ _. and_then c (λ _. ok bys))) r w'
-      go bys (ok _) (ok _) Fine e g = (refl, g refl)
-      go bys (ok _) (ok _) (Check.Refused x p) e g = absurd (refused≢ok e)
-      go bys (ok _) (refused a b) Fine e g = absurd (ok≢refused e)
-      go bys (ok _) (refused a b) (Check.Refused x p) e g = let i : x ≡ a = cc in let j : p ≡ b = cc in rw (i, j)
-      go bys (refused a b) c Fine e g = absurd (ok≢refused e)
-      go bys (refused a b) c (Check.Refused x p) e g = let i : x ≡ a = cc in let j : p ≡ b = cc in rw (i, j)
+      go bys (ok _) (ok _) r e g = (e, g e)
+      go bys (ok _) (refused a b) r e g = e
+      go bys (refused a b) c r e g = e
 
 -- ---- then the plan
-module _ (rs : Rules) (s : List ℕ) (size : ℕ) (src f c : List ℕ) (n nf : ℕ) (stands : List ℕ) {v : Check} (t : StandsRead rs.share s src f n nf v stands) where
-  pub read_unshared : {y p : ℕ} → v ≡ Check.Refused y p → PlanShared rs s size src f c n nf (Refused y p) f c
+module _ (rs : Rules) (s : List ℕ) (size : ℕ) (src f c : List ℕ) (n nf : ℕ) (stands : List ℕ) {v : Result ⊤ Refusal} (t : StandsRead rs.share s src f n nf v stands) where
+  pub read_unshared : {y : Refusal} → v ≡ Err y → PlanShared rs s size src f c n nf (Err y) f c
   unfolding arranged_shared
-  read_unshared {y} {p} q = record { is = λ x w₀ f₀ h short. go x (λ a. kept_by a w₀ f₀ c) (shared_in rs.share s x) (t.is x w₀ f₀ h short) }
+  read_unshared {y} q = record { is = λ x w₀ f₀ h short. go x (λ a. kept_by a w₀ f₀ c) (shared_in rs.share s x) (t.is x w₀ f₀ h short) }
     where
-      go : (x : Recording) (k : Arranged → Kept) (o : Checked (List ℕ)) → stands_as o v stands → refused y p ≡ and_then (and_then o (arranged_by rs s size x)) (λ a. ok (k a))
-      go x k (ok bys) h = absurd (let e : Check.Refused y p ≡ Fine = sym q ∙ h.0 in let z : ◌≡◌ {A = ℕ} 0 1 = cc in omega arith)
+      go : (x : Recording) (k : Arranged → Kept) (o : Checked (List ℕ)) → stands_as o v stands → refused (number_of y) (place_of y) ≡ and_then (and_then o (arranged_by rs s size x)) (λ a. ok (k a))
+      go x k (ok bys) h = absurd (refused≢ok (ap verdict_of (sym q) ∙ h.0))
       go x k (refused a b) h =
-          let e : Check.Refused y p ≡ Check.Refused a b = sym q ∙ h in
-          let i : y ≡ a = cc in
-          let j : p ≡ b = cc in
+          let e : ◌≡◌ {A = Verdict} (refused_by y) (refused a b) = ap verdict_of (sym q) ∙ h in
+          let i : number_of y ≡ a = cc in
+          let j : place_of y ≡ b = cc in
           rw (i, j)
 
-  pub read_shared : v ≡ Fine → {r : Planned} {f' c' : List ℕ} → PlanStood rs s size src stands f c n nf r f' c' → PlanShared rs s size src f c n nf r f' c'
+  pub read_shared : {u : ⊤} → v ≡ Ok u → {r : Result Planned Refusal} {f' c' : List ℕ} → PlanStood rs s size src stands f c n nf r f' c' → PlanShared rs s size src f c n nf r f' c'
   unfolding arranged_shared
   read_shared q {r} {f'} {c'} g = record { is = λ x w₀ f₀ h short. go x w₀ f₀ h (shared_in rs.share s x) refl (t.is x w₀ f₀ h short) }
     where
       go : (x : Recording) (w₀ f₀ : List ℕ) → ReadIn s src f n nf x w₀ f₀ → (o : Checked (List ℕ)) → shared_in rs.share s x ≡ o → stands_as o v stands
           → given r src f' c' ≡ and_then (and_then o (arranged_by rs s size x)) (λ a. ok (kept_by a w₀ f₀ c))
       go x w₀ f₀ h (ok bys) e k = g.is x w₀ f₀ h bys e k.1
-      go x w₀ f₀ h (refused a b) e k = absurd (let e : Fine ≡ Check.Refused a b = sym q ∙ k in let z : ◌≡◌ {A = ℕ} 0 1 = cc in omega arith)
+      go x w₀ f₀ h (refused a b) e k = absurd (ok≢refused (ap verdict_of (sym q) ∙ k))
 
 -- ---- before them the attachments
-module _ (rs : Rules) (s : List ℕ) (size : ℕ) (src f c : List ℕ) (n nf : ℕ) {v : Check} (t : verdict_of v ≡ photos_first rs.photos s) where
-  pub read_astray : {y p : ℕ} → v ≡ Check.Refused y p → PlanRead rs s size src f c n nf (Refused y p) f c
+module _ (rs : Rules) (s : List ℕ) (size : ℕ) (src f c : List ℕ) (n nf : ℕ) {v : Result ⊤ Refusal} (t : verdict_of v ≡ photos_first rs.photos s) where
+  pub read_astray : {y : Refusal} → v ≡ Err y → PlanRead rs s size src f c n nf (Err y) f c
   unfolding arranged
   read_astray q = record { is = λ x w₀ f₀ h short. rw (so_refused t q) refl }
 
-  pub read_followed : v ≡ Fine → {r : Planned} {f' c' : List ℕ} → PlanShared rs s size src f c n nf r f' c' → PlanRead rs s size src f c n nf r f' c'
+  pub read_followed : {u : ⊤} → v ≡ Ok u → {r : Result Planned Refusal} {f' c' : List ℕ} → PlanShared rs s size src f c n nf r f' c' → PlanRead rs s size src f c n nf r f' c'
   unfolding arranged
   read_followed q g = record { is = λ x w₀ f₀ h short. rw (so_fine t q) (g.is x w₀ f₀ h short) }
 
@@ -304,34 +301,37 @@ pub record FoundIn (s w' f' : List ℕ) (n nf : ℕ) (w f : List ℕ) : Type 0 w
   pub recording : Recording
   pub read_in : ReadIn s w' f' n nf recording w f
 
-module _ (s w f : List ℕ) (l : source_words ≤ length w) (m : fragment_room ≤ length f) (w' f' : List ℕ) {r : Read} (e : read.Left.left r w' f' ≡ read_into s w f) where
-  long_enough : read_into s w f ≡ read.left_by (read_over s w f) w f
-  unfolding read_into
-  long_enough = sym (lt_no _ _ _ _ l (lt_no _ _ _ _ m refl))
+long-enough : (s w f : List ℕ) → source_words ≤ length w → fragment_room ≤ length f → read_into s w f ≡ read.left_by (read_over s w f) w f
+unfolding read_into
+long-enough s w f l m = sym (lt_no _ _ _ _ l (lt_no _ _ _ _ m refl))
 
-  pub read_found : {n g nf : ℕ} → r ≡ Read.Done n g nf → FoundIn s w' f' n nf w f
+module _ (s w f : List ℕ) (l : source_words ≤ length w) (m : fragment_room ≤ length f) (w' f' : List ℕ) {r : Result Read Refusal} (e : read.left r w' f' ≡ read_into s w f) where
+  pub read_found : {m' : Read} → r ≡ Ok m' → FoundIn s w' f' m'.items m'.fragments w f
   unfolding read_over
-  read_found {n} {g} {nf} q = go (reading s) refl (ap (λ (v : Read). read.Left.left v w' f') (sym q) ∙ e ∙ long_enough)
+  read_found {m'} q = go (reading s) refl (ap (λ (v : Result Read Refusal). read.left v w' f') (sym q) ∙ e ∙ long-enough s w f l m)
     where
-      go : (v : Checked Recording) → reading s ≡ v → read.Left.left (Read.Done n g nf) w' f' ≡ read.left_by (and_then v (λ x. ok (read.kept_by x w f))) w f → FoundIn s w' f' n nf w f
-      go (ok x) i z = record { recording = x; read_in = record { is = i; long = l; items = cc; fragments = cc; words = cc; pieces = cc } }
+      go : (v : Checked Recording) → reading s ≡ v → read.left (Ok m') w' f' ≡ read.left_by (and_then v (λ x. ok (read.kept_by x w f))) w f → FoundIn s w' f' m'.items m'.fragments w f
+      go (ok x) i z =
+          let k = read.kept_by x w f in
+          let met : m' ≡ record { items = k.items; groups = k.groups; fragments = k.fragments } = cc in
+          record { recording = x; read_in = record { is = i; long = l; items = ap Read.items met; fragments = ap Read.fragments met; words = cc; pieces = cc } }
       go (refused y p) i z = absurd (let o : ◌≡◌ {A = ℕ} 0 1 = cc in omega arith)
 
-  pub all_unread : (rs : Rules) (size : ℕ) (c : List ℕ) {y p : ℕ} → r ≡ Read.Refused y p → refused y p ≡ plan_over rs s size w f c
+  pub all_unread : (rs : Rules) (size : ℕ) (c : List ℕ) {y : Refusal} → r ≡ Err y → refused (number_of y) (place_of y) ≡ plan_over rs s size w f c
   unfolding read_over plan_over
-  all_unread rs size c {y} {p} q =
-      rw (planned-reading rs s size) (go (reading s) (ap (λ (v : Read). read.Left.left v w' f') (sym q) ∙ e ∙ long_enough))
+  all_unread rs size c {y} q =
+      rw (planned-reading rs s size) (go (reading s) (ap (λ (v : Result Read Refusal). read.left v w' f') (sym q) ∙ e ∙ long-enough s w f l m))
     where
-      go : (v : Checked Recording) → read.Left.left (Read.Refused y p) w' f' ≡ read.left_by (and_then v (λ x. ok (read.kept_by x w f))) w f
-          → refused y p ≡ and_then (and_then v (arranged rs s size)) (λ a. ok (kept_by a w f c))
+      go : (v : Checked Recording) → read.left (Err y) w' f' ≡ read.left_by (and_then v (λ x. ok (read.kept_by x w f))) w f
+          → refused (number_of y) (place_of y) ≡ and_then (and_then v (arranged rs s size)) (λ a. ok (kept_by a w f c))
       go (ok x) z = absurd (let o : ◌≡◌ {A = ℕ} 0 1 = cc in omega arith)
       go (refused x k) z =
-          let i : y ≡ x = cc in
-          let j : p ≡ k = cc in
+          let i : number_of y ≡ x = cc in
+          let j : place_of y ≡ k = cc in
           rw (i, j)
 
-  module _ {n g nf : ℕ} (q : r ≡ Read.Done n g nf) where
-    pub read_few : (n ≤ 1536) × (nf ≤ 1024)
+  module _ {m' : Read} (q : r ≡ Ok m') where
+    pub read_few : (m'.items ≤ 1536) × (m'.fragments ≤ 1024)
     read_few =
         let k = read_found q in
         let x = k.recording in
@@ -343,7 +343,7 @@ module _ (s w f : List ℕ) (l : source_words ≤ length w) (m : fragment_room �
         let d = h.fragments in
         (omega arith, omega arith)
 
-    pub all-planned : (rs : Rules) (size : ℕ) (c : List ℕ) {v : Planned} {f'' c'' : List ℕ} → PlanRead rs s size w' f' c n nf v f'' c'' → length s ≤ 4294967296
+    pub all-planned : (rs : Rules) (size : ℕ) (c : List ℕ) {v : Result Planned Refusal} {f'' c'' : List ℕ} → PlanRead rs s size w' f' c m'.items m'.fragments v f'' c'' → length s ≤ 4294967296
         → given v w' f'' c'' ≡ plan_over rs s size w f c
     unfolding plan_over
     all-planned rs size c t short =
@@ -356,29 +356,31 @@ module _ (rs : Rules) (s : List ℕ) (size : ℕ) (w f c : List ℕ) (l : 4096 �
   unfolding plan_into
   all-long = sym (lt_no _ _ _ _ l (lt_no _ _ _ _ m (lt_no _ _ _ _ n refl)))
 
-  pub plan_refused : (w' f' c' : List ℕ) (a : Planned) → given a w' f' c' ≡ plan_over rs s size w f c → {y p : ℕ} → a ≡ Refused y p → {w'' f'' c'' : List ℕ} → length w' ≡ length w → length f' ≡ length f → length c' ≡ length c
-      → w'' ≡ zeros w' → f'' ≡ zeros f' → c'' ≡ zeros c' → plan_left (Refused y p) w'' f'' c'' ≡ plan_into rs s size w f c
+  pub plan_refused : (w' f' c' : List ℕ) (a : Result Planned Refusal) → given a w' f' c' ≡ plan_over rs s size w f c → is_err a ≡ true → {w'' f'' c'' : List ℕ} → length w' ≡ length w → length f' ≡ length f → length c' ≡ length c
+      → w'' ≡ zeros w' → f'' ≡ zeros f' → c'' ≡ zeros c' → plan_left a w'' f'' c'' ≡ plan_into rs s size w f c
   unfolding plan_over
-  plan_refused w' f' c' a e {y} {p} q i j k x z u =
-      rw (x, z, u, i, j, k) (go (planned_of rs s size) (ap (λ (v : Planned). given v w' f' c') (sym q) ∙ e) ∙ sym all-long)
+  plan_refused w' f' c' (Ok p) e t i j k x z u = cc
+  plan_refused w' f' c' (Err y) e t i j k x z u = rw (x, z, u, i, j, k) (go (planned_of rs s size) e ∙ sym all-long)
     where
-      go : (v : Checked Arranged) → ◌≡◌ {A = Checked Kept} (refused y p) (and_then v (λ b. ok (kept_by b w f c))) → plan_left (Refused y p) (zeros w) (zeros f) (zeros c) ≡ left_by v w f c
+      go : (v : Checked Arranged) → ◌≡◌ {A = Checked Kept} (refused (number_of y) (place_of y)) (and_then v (λ b. ok (kept_by b w f c)))
+          → ended (refused (number_of y) (place_of y)) (zeros w) (zeros f) (zeros c) ≡ left_by v w f c
       go (ok b) o = absurd (refused≢ok o)
       go (refused b d) o =
-          let i : y ≡ b = cc in
-          let j : p ≡ d = cc in
+          let i : number_of y ≡ b = cc in
+          let j : place_of y ≡ d = cc in
           rw (i, j)
 
-  pub plan_done : (w' f' c' : List ℕ) (a : Planned) → given a w' f' c' ≡ plan_over rs s size w f c → {x y z u v : ℕ} → a ≡ Done x y z u v → plan_left a w' f' c' ≡ plan_into rs s size w f c
+  pub plan_done : (w' f' c' : List ℕ) (a : Result Planned Refusal) → given a w' f' c' ≡ plan_over rs s size w f c → is_err a ≡ false → plan_left a w' f' c' ≡ plan_into rs s size w f c
   unfolding plan_over
-  plan_done w' f' c' a e {x} {y} {z} {u} {v} q = ap (λ (b : Planned). plan_left b w' f' c') q ∙ go (planned_of rs s size) (ap (λ (v : Planned). given v w' f' c') (sym q) ∙ e) ∙ sym all-long
+  plan_done w' f' c' (Err y) e t = cc
+  plan_done w' f' c' (Ok p) e t = go (planned_of rs s size) e ∙ sym all-long
     where
-      go : (o : Checked Arranged) → ◌≡◌ {A = Checked Kept} (given (Done x y z u v) w' f' c') (and_then o (λ b. ok (kept_by b w f c))) → plan_left (Done x y z u v) w' f' c' ≡ left_by o w f c
+      go : (o : Checked Arranged) → ◌≡◌ {A = Checked Kept} (given (Ok p) w' f' c') (and_then o (λ b. ok (kept_by b w f c))) → ended (ok p) w' f' c' ≡ left_by o w f c
       go (ok b) o =
           let k = ok_same o in
           same_left (ap Kept.items k) (ap Kept.fragments k) (ap Kept.columns k) (ap Kept.omissions k) (ap Kept.shared k) (ap Kept.words k) (ap Kept.pieces k) (ap Kept.plans k)
         where
-          same_left : {x' y' z' u' v' : ℕ} {w'' f'' c'' : List ℕ} → x ≡ x' → y ≡ y' → z ≡ z' → u ≡ u' → v ≡ v' → w' ≡ w'' → f' ≡ f'' → c' ≡ c''
-              → plan_left (Done x y z u v) w' f' c' ≡ plan_left (Done x' y' z' u' v') w'' f'' c''
-          same_left i j k l m x y z = rw (i, j, k, l, m, x, y, z)
+          same_left : {x y z u v : ℕ} {w'' f'' c'' : List ℕ} → p.items ≡ x → p.fragments ≡ y → p.columns ≡ z → p.omissions ≡ u → p.shared ≡ v → w' ≡ w'' → f' ≡ f'' → c' ≡ c''
+              → ended (ok p) w' f' c' ≡ ended (ok (record { items = x; fragments = y; columns = z; omissions = u; shared = v })) w'' f'' c''
+          same_left i j k l m x y z = rw (← i, ← j, ← k, ← l, ← m, x, y, z)
       go (refused b d) o = absurd (ok≢refused o)

@@ -1,6 +1,6 @@
 -- Laws of planning the channels of a group, one for each way of the code.
 use Prim.{tt}
-use Rattle.std.specs.Prelude.{ℕ, ◌+◌, ◌*◌, ◌-◌, ◌≤◌, ◌<◌, List, [], ◌∷◌, Bool, true, false, get_or}
+use Rattle.std.specs.Prelude.{ℕ, ◌+◌, ◌*◌, ◌-◌, ◌≤◌, ◌<◌, List, [], ◌∷◌, Bool, true, false, get_or, Result, Ok, Err}
 use Rattle.std.proofs.Math.Option.{Option}
 use Rattle.std.proofs.Math.Path.{◌≡◌, refl, sym, ap}
 use Rattle.std.proofs.Common.{◌∙◌, zero-add}
@@ -9,6 +9,7 @@ use Rattle.base.specs.Choice.{if_eq}
 use Rattle.base.specs.ChoiceLaws.{eq_yes, eq_no}
 use Rattle.base.specs.Blit.{blit}
 use Rattle.base.specs.Checked.{Checked, ok, refused, and_then}
+use Rattle.reading.specs.CheckedLaws.{ok≢refused}
 use Rattle.chains.specs.Kept.{kept}
 use Rattle.plan.specs.Rules.{Rules}
 use Rattle.plan.specs.Photos.{photos_of}
@@ -18,13 +19,15 @@ use Rattle.work_words.specs.PlanWords.{master_word, signal_word, column_words, f
 use Rattle.plan_laws.specs.DecideLaws.{decide-kept, signal_few}
 use Rattle.deciding.specs.declared.Decision.{Decision}
 use Rattle.deciding.specs.declared.Decision.TheVariants.{Omitted, Kept}
-use Rattle.deciding.specs.declared.Decision.TheVariants as decisions
-use Rattle.deciding.specs.Decided.{stops, leaves, left, is_signed, laid_decision}
+use Rattle.deciding.specs.declared.reason.Reason.{Reason}
+use Rattle.deciding.specs.Decided.{stops, omits, keeps, left, is_signed, laid_decision}
+use Rattle.deciding.specs.Reasons.{reason_number}
 use Rattle.planning.specs.declared.column.Progress.{Progress}
-use Rattle.planning.specs.declared.column.Progress.TheVariants.{Refused, Done}
+use Rattle.fields.specs.declared.refusal.Refusal.{Refusal}
+use Rattle.fields.specs.Answer.{number_of, place_of}
 use Rattle.planning.specs.Items.{group_of, channels_in}
 use Rattle.planning.specs.ItemLaws.{channels_end, channels_next, channels_over}
-use Rattle.planning.specs.Planning.{signal_if, Base, Held, gives, Gives, within, others, ChannelPlan, ChannelsPlan}
+use Rattle.planning.specs.Planning.{signal_if, checked_of, Base, Held, gives, Gives, within, others, ChannelPlan, ChannelsPlan}
 use Rattle.planning.specs.HeldLaws.{held-column, held_omission}
 
 -- ---- a decision back from what the code left
@@ -45,20 +48,20 @@ module _ (o : Checked columns.Decision) (n : ℕ) (w : List ℕ) where
       go (ok (omitted k)) z = absurd (let l : ◌≡◌ {A = ℕ} 0 1 = cc in omega arith)
       go (ok (columns.kept d)) z = absurd (let l : ◌≡◌ {A = ℕ} 0 1 = cc in omega arith)
 
-  pub back_omitted : {k : ℕ} {w' : List ℕ} → leaves (Omitted k) w' ≡ laid_decision o n w → (o ≡ ok (omitted k)) × (w' ≡ w)
+  pub back_omitted : {k : ℕ} {w' : List ℕ} → omits k w' ≡ laid_decision o n w → (o ≡ ok (omitted k)) × (w' ≡ w)
   unfolding laid_decision
   back_omitted {k} {w'} e = go o e
     where
-      go : (o : Checked columns.Decision) → leaves (Omitted k) w' ≡ laid_decision o n w → (o ≡ ok (omitted k)) × (w' ≡ w)
+      go : (o : Checked columns.Decision) → omits k w' ≡ laid_decision o n w → (o ≡ ok (omitted k)) × (w' ≡ w)
       go (refused y q) z = absurd (let l : ◌≡◌ {A = ℕ} 0 1 = cc in omega arith)
       go (ok (omitted j)) z = (cc, cc)
       go (ok (columns.kept d)) z = absurd (let l : ◌≡◌ {A = ℕ} 0 1 = cc in omega arith)
 
-  pub back_kept : {b : Bool} {m : ℕ} {w' : List ℕ} → leaves (Kept b m) w' ≡ laid_decision o n w → KeptBack o b m n w w'
+  pub back_kept : {b : Bool} {m : ℕ} {w' : List ℕ} → keeps b m w' ≡ laid_decision o n w → KeptBack o b m n w w'
   unfolding laid_decision
   back_kept {b} {m} {w'} e = go o e
     where
-      go : (o : Checked columns.Decision) → leaves (Kept b m) w' ≡ laid_decision o n w → KeptBack o b m n w w'
+      go : (o : Checked columns.Decision) → keeps b m w' ≡ laid_decision o n w → KeptBack o b m n w w'
       go (refused y q) z = absurd (let l : ◌≡◌ {A = ℕ} 0 1 = cc in omega arith)
       go (ok (omitted j)) z = absurd (let l : ◌≡◌ {A = ℕ} 0 1 = cc in omega arith)
       go (ok (columns.kept d)) z = record { signal = d; is = refl; sign = cc; counted = cc; words = cc }
@@ -76,7 +79,7 @@ signal_word_lem (signal_data fs) n = refl
 kept-plan : (rs : Rules) (s : List ℕ) (g d records master c nc no nf : ℕ) (w f : List ℕ) {b : Bool} {m x : ℕ} {w' f' : List ℕ} (e : Signal)
     → decide rs.photos rs.table s nf g c ≡ ok (columns.kept e) → b ≡ is_signed e → m ≡ nf + size_of_signal e → f' ≡ kept nf (fragments_in e) f → m ≤ 1024
     → x ≡ signal_if b nf → w' ≡ blit (8 * nc) (c ∷ g ∷ d ∷ records ∷ 0 ∷ master ∷ x ∷ (m - nf) ∷ []) w
-    → ChannelPlan rs s g d records master c nc no nf w f (Done (nc + 1) no m) w' f'
+    → ChannelPlan rs s g d records master c nc no nf w f (Ok (record { columns = nc + 1; omissions = no; fragments = m })) w' f'
 unfolding gives column_words
 kept-plan rs s g d records master c nc om nf w f {m = m} e o i j k t y u =
     let v : m - nf ≡ size_of_signal e = omega arith in
@@ -84,9 +87,7 @@ kept-plan rs s g d records master c nc om nf w f {m = m} e o i j k t y u =
       bound = (omega arith, omega arith, t);
       is = λ b p q cs h l r. record {
         by = rw o (record {
-          nc = nc + 1;
-          no = om;
-          nf = nf + size_of_signal e;
+          progress = record { columns = nc + 1; omissions = om; fragments = nf + size_of_signal e };
           is = rw j;
           held = held-column h (record { group = group_of d g cs records; channel = c; is_time_lem = false; master = q; signal_of = e; photos = photos_of rs.photos s c }) r
               (u ∙ rw (y, i, signal_word_lem e nf, v, l))
@@ -96,36 +97,36 @@ kept-plan rs s g d records master c nc om nf w f {m = m} e o i j k t y u =
     }
 
 -- ---- one channel: r is the decision of the code
-pub channel_bounds : (photos : Bool) (table s : List ℕ) (g c nf : ℕ) (f : List ℕ) (r : Decision) (f' : List ℕ) → left r f' ≡ laid_decision (decide photos table s nf g c) nf f
-    → {b : Bool} {m : ℕ} → r ≡ Kept b m → nf ≤ 1024 → (nf ≤ m) × (m ≤ 1024)
+pub channel_bounds : (photos : Bool) (table s : List ℕ) (g c nf : ℕ) (f : List ℕ) (r : Result Decision Refusal) (f' : List ℕ) → left r f' ≡ laid_decision (decide photos table s nf g c) nf f
+    → {b : Bool} {m : ℕ} → r ≡ Ok (Kept b m) → nf ≤ 1024 → (nf ≤ m) × (m ≤ 1024)
 channel_bounds photos table s g c nf f r f' e q t =
     let k = back_kept (decide photos table s nf g c) nf f (rw q at e) in
     let few = signal_few table s nf c k.signal t (decide-kept photos table s nf g c k.signal k.is).signal in
     (omega arith, omega arith)
 
-module _ (rs : Rules) (s : List ℕ) (g d records master c nc no nf : ℕ) (w f : List ℕ) (r : Decision) (f' : List ℕ)
+module _ (rs : Rules) (s : List ℕ) (g d records master c nc no nf : ℕ) (w f : List ℕ) (r : Result Decision Refusal) (f' : List ℕ)
     (e : left r f' ≡ laid_decision (decide rs.photos rs.table s nf g c) nf f) where
-  pub channel_refused : {x p : ℕ} {w' : List ℕ} → r ≡ decisions.Refused x p → ChannelPlan rs s g d records master c nc no nf w f (Refused x p) w' f'
+  pub channel_refused : {x : Refusal} {w' : List ℕ} → r ≡ Err x → ChannelPlan rs s g d records master c nc no nf w f (Err x) w' f'
   unfolding gives
   channel_refused q =
       let o = back_refused (decide rs.photos rs.table s nf g c) nf f (rw q at e) in
       record { bound = tt; is = λ b p m cs h k l. record { by = rw o } }
 
-  pub channel-omitted : {k : ℕ} {w' : List ℕ} → r ≡ Omitted k → nf ≤ 1024 → w' ≡ blit (4096 + 2 * no) (c ∷ k ∷ []) w
-      → ChannelPlan rs s g d records master c nc no nf w f (Done nc (no + 1) nf) w' f'
+  pub channel-omitted : {y : Reason} {k : ℕ} {w' : List ℕ} → r ≡ Ok (Omitted y) → k ≡ reason_number y → nf ≤ 1024 → w' ≡ blit (4096 + 2 * no) (c ∷ k ∷ []) w
+      → ChannelPlan rs s g d records master c nc no nf w f (Ok (record { columns = nc; omissions = no + 1; fragments = nf })) w' f'
   unfolding gives
-  channel-omitted {k} q t u =
+  channel-omitted {y} {k} q v t u =
       let o = back_omitted (decide rs.photos rs.table s nf g c) nf f (rw q at e) in
       record {
         bound = (omega arith, omega arith, t);
         is = λ b p m cs h i l. record {
-          by = rw o.0 (record { nc = nc; no = no + 1; nf = nf; is = refl; held = rw o.1 (held_omission h c k u) });
+          by = rw o.0 (record { progress = record { columns = nc; omissions = no + 1; fragments = nf }; is = refl; held = rw o.1 (held_omission h c (reason_number y) (rw v at u)) });
         };
       }
 
-  pub channel-kept : {b : Bool} {m x : ℕ} {w' : List ℕ} → r ≡ Kept b m → nf ≤ 1024 → x ≡ signal_if b nf
+  pub channel-kept : {b : Bool} {m x : ℕ} {w' : List ℕ} → r ≡ Ok (Kept b m) → nf ≤ 1024 → x ≡ signal_if b nf
       → w' ≡ blit (8 * nc) (c ∷ g ∷ d ∷ records ∷ 0 ∷ master ∷ x ∷ (m - nf) ∷ []) w
-      → ChannelPlan rs s g d records master c nc no nf w f (Done (nc + 1) no m) w' f'
+      → ChannelPlan rs s g d records master c nc no nf w f (Ok (record { columns = nc + 1; omissions = no; fragments = m })) w' f'
   channel-kept q t y u =
       let k = back_kept (decide rs.photos rs.table s nf g c) nf f (rw q at e) in
       kept-plan rs s g d records master c nc no nf w f k.signal k.is k.sign k.counted k.words (channel_bounds rs.photos rs.table s g c nf f r f' e q t).1 y u
@@ -163,12 +164,16 @@ module _ (rs : Rules) (s : List ℕ) (g : SrcGroup) (own : ℕ) (m : Option ℕ)
   plan-step c cs p nf e h = rw (← e) (sym (plan-more c cs p h))
 
 -- ---- the code's answer back to the plan
-pub gives_refused : {b : Base} {o : Checked Plan} {r : Progress} {w f : List ℕ} {x y : ℕ} → Gives b o r w f → r ≡ Refused x y → o ≡ refused x y
+pub gives_refused : {b : Base} {o : Checked Plan} {r : Result Progress Refusal} {w f : List ℕ} {x : Refusal} → Gives b o r w f → r ≡ Err x → o ≡ refused (number_of x) (place_of x)
 unfolding gives
-gives_refused {b} {o} {r} {w} {f} {x} {y} g e = go o g.by
+gives_refused {b} {o} {r} {w} {f} {x} g e = go o g.by
   where
-    go : (o : Checked Plan) → gives b o r w f → o ≡ refused x y
-    go (refused x' y') h = cc
+    go : (o : Checked Plan) → gives b o r w f → o ≡ refused (number_of x) (place_of x)
+    go (refused x' y') h =
+        let k : ◌≡◌ {A = Checked Progress} (refused (number_of x) (place_of x)) (refused x' y') = ap checked_of (sym e) ∙ h in
+        let i : number_of x ≡ x' = cc in
+        let j : place_of x ≡ y' = cc in
+        rw (i, j)
     go (ok q) h = absurd (let k = h.is in let z : ◌≡◌ {A = ℕ} 0 1 = cc in omega arith)
 
 pub record Onward (b : Base) (o : Checked Plan) (x y z : ℕ) (w f : List ℕ) : Type 0 where
@@ -176,20 +181,16 @@ pub record Onward (b : Base) (o : Checked Plan) (x y z : ℕ) (w f : List ℕ) :
   pub is : o ≡ ok plan
   pub held : Held b plan x y z w f
 
-pub gives_done : {b : Base} {o : Checked Plan} {r : Progress} {w f : List ℕ} {x y z : ℕ} → Gives b o r w f → r ≡ Done x y z → Onward b o x y z w f
+pub gives_done : {b : Base} {o : Checked Plan} {r : Result Progress Refusal} {w f : List ℕ} {p : Progress} → Gives b o r w f → r ≡ Ok p → Onward b o p.columns p.omissions p.fragments w f
 unfolding gives
-gives_done {b} {o} {r} {w} {f} {x} {y} {z} g e = go o g.by
+gives_done {b} {o} {r} {w} {f} {p} g e = go o g.by
   where
-    at : (q : Plan) (x' y' z' : ℕ) → r ≡ Done x' y' z' → Held b q x' y' z' w f → Held b q x y z w f
-    at q x' y' z' i h =
-        let ex : x' ≡ x = cc in
-        let ey : y' ≡ y = cc in
-        let ez : z' ≡ z = cc in
-        rw (← ex, ← ey, ← ez) h
-
-    go : (o : Checked Plan) → gives b o r w f → Onward b o x y z w f
-    go (refused x' y') h = absurd (let k : ◌≡◌ {A = ℕ} 0 1 = cc in omega arith)
-    go (ok q) h = record { plan = q; is = refl; held = at q h.nc h.no h.nf h.is h.held }
+    go : (o : Checked Plan) → gives b o r w f → Onward b o p.columns p.omissions p.fragments w f
+    go (refused x y) h = absurd (ok≢refused (ap checked_of (sym e) ∙ h))
+    go (ok q) h =
+        let z = h.is in
+        let i : h.progress ≡ p = cc in
+        record { plan = q; is = refl; held = rw i at h.held }
 
 -- where the loop stands for one plan
 pub record Standing (rs : Rules) (s src : List ℕ) (n i k own nc no nf : ℕ) (g : SrcGroup) (b : Base) (p : Plan) (m : Option ℕ) (w f : List ℕ) : Type 0 where
@@ -222,7 +223,7 @@ channels_begin h l =
 module _ {rs : Rules} {s src : List ℕ} {n i g d records own master nc₀ no₀ nf₀ : ℕ} {w₀ f₀ : List ℕ} {k nc no nf : ℕ} {w f : List ℕ}
     (t : Channels rs s src n i g d records own master nc₀ no₀ nf₀ w₀ f₀ k nc no nf w f) where
   -- no channel is left
-  channels_none : n ≤ 1536 → channels_in src n k ≡ [] → ChannelsPlan rs s src n i g d records own master nc₀ no₀ nf₀ w₀ f₀ (Done nc no nf) w f
+  channels_none : n ≤ 1536 → channels_in src n k ≡ [] → ChannelsPlan rs s src n i g d records own master nc₀ no₀ nf₀ w₀ f₀ (Ok (record { columns = nc; omissions = no; fragments = nf })) w f
   unfolding gives
   channels_none z e =
       let a = t.from in
@@ -235,14 +236,14 @@ module _ {rs : Rules} {s src : List ℕ} {n i g d records own master nc₀ no₀
             let r = t.now b p m cs h j y in
             let q : plan_channels rs s (group_of d g cs records) own m (channels_in src n i) p ≡ ok r.plan =
             sym r.rest ∙ rw (e, plan-none rs s (group_of d g cs records) own m r.plan) in
-            record { by = rw q (record { nc = nc; no = no; nf = nf; is = refl; held = r.held }) };
+            record { by = rw q (record { progress = record { columns = nc; omissions = no; fragments = nf }; is = refl; held = r.held }) };
       }
 
-  pub channels_last : n ≤ 1536 → n ≤ k → ChannelsPlan rs s src n i g d records own master nc₀ no₀ nf₀ w₀ f₀ (Done nc no nf) w f
+  pub channels_last : n ≤ 1536 → n ≤ k → ChannelsPlan rs s src n i g d records own master nc₀ no₀ nf₀ w₀ f₀ (Ok (record { columns = nc; omissions = no; fragments = nf })) w f
   channels_last z h = channels_none z (channels_end src n k h)
 
   module _ (h : k < n) {x : ℕ} (e : x ≡ get_or src (1536 + k) 0) where
-    pub channels_stop : n ≤ 1536 → (x ≡ 0 → ⊥) → ChannelsPlan rs s src n i g d records own master nc₀ no₀ nf₀ w₀ f₀ (Done nc no nf) w f
+    pub channels_stop : n ≤ 1536 → (x ≡ 0 → ⊥) → ChannelsPlan rs s src n i g d records own master nc₀ no₀ nf₀ w₀ f₀ (Ok (record { columns = nc; omissions = no; fragments = nf })) w f
     channels_stop z y = channels_none z (channels_over src n k h e y)
 
     module _ (z : x ≡ 0) {c : ℕ} (v : c ≡ get_or src k 0) where
@@ -267,7 +268,7 @@ module _ {rs : Rules} {s src : List ℕ} {n i g d records own master nc₀ no₀
                 };
           }
 
-      module _ (q : c ≡ own → ⊥) {r : Progress} {w' f' : List ℕ} (l : ChannelPlan rs s g d records master c nc no nf w f r w' f') where
+      module _ (q : c ≡ own → ⊥) {r : Result Progress Refusal} {w' f' : List ℕ} (l : ChannelPlan rs s g d records master c nc no nf w f r w' f') where
         -- the channel, for one plan
         module _ (b : Base) (p : Plan) (m : Option ℕ) (cs : List ℕ) (j : Held b p nc₀ no₀ nf₀ w₀ f₀) (y : master_word m ≡ master)
             (u : nc₀ + others own (channels_in src n i) ≤ 512) where
@@ -289,22 +290,22 @@ module _ {rs : Rules} {s src : List ℕ} {n i g d records own master nc₀ no₀
               plan-step rs s (group_of d g cs records) own m c (channels_in src n (k + 1)) stood.plan nf stood.held.fragments q
               ∙ (rw (channels_next src n k h e z v) at stood.rest)
 
-        pub channels_refused : {x' y : ℕ} → r ≡ Refused x' y → ChannelsPlan rs s src n i g d records own master nc₀ no₀ nf₀ w₀ f₀ (Refused x' y) w' f'
+        pub channels_refused : {x' : Refusal} → r ≡ Err x' → ChannelsPlan rs s src n i g d records own master nc₀ no₀ nf₀ w₀ f₀ (Err x') w' f'
         unfolding gives
-        channels_refused {x'} {y} a =
+        channels_refused {x'} a =
             record {
               bound = tt;
               is = λ b p m cs j o u.
-                  let i' : plan_channels rs s (group_of d g cs records) own m (channels_in src n i) p ≡ refused x' y =
+                  let i' : plan_channels rs s (group_of d g cs records) own m (channels_in src n i) p ≡ refused (number_of x') (place_of x') =
                   sym (step-rest b p m cs j o u)
                   ∙ ap (λ v'. and_then v' (plan_channels rs s (group_of d g cs records) own m (channels_in src n (k + 1))))
                   (gives_refused (step_gives b p m cs j o u) a) in
                   record { by = rw i' };
             }
 
-        pub channels_on : {x' y z' : ℕ} → r ≡ Done x' y z' → Channels rs s src n i g d records own master nc₀ no₀ nf₀ w₀ f₀ (k + 1) x' y z' w' f'
-        channels_on {x'} {y} {z'} a =
-            let bs : within (Done x' y z') (nc + 1) (no + 1) = rw a at l.bound in
+        pub channels_on : {x' : Progress} → r ≡ Ok x' → Channels rs s src n i g d records own master nc₀ no₀ nf₀ w₀ f₀ (k + 1) x'.columns x'.omissions x'.fragments w' f'
+        channels_on {x'} a =
+            let bs : within (Ok x') (nc + 1) (no + 1) = rw a at l.bound in
             let from = t.from in
             let few = t.few in
             let left = t.few_omitted in

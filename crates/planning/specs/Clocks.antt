@@ -1,11 +1,10 @@
 -- One clock for many groups, out of the table of groups (document 02, request 8): which group's master stands for which.
-use Rattle.std.specs.Prelude.{ℕ, ◌+◌, ◌-◌, ◌≤◌, ◌<◌, List, [], ◌∷◌, ◌++◌, Bool, true, false, ◌≡◌, length, get_or, take, drop}
+use Rattle.std.specs.Prelude.{ℕ, ◌+◌, ◌-◌, ◌≤◌, ◌<◌, List, [], ◌∷◌, ◌++◌, Bool, true, false, ◌≡◌, length, get_or, take, drop, Result, ⊤}
 use Rattle.std.proofs.Math.Option.{some}
 use Rattle.base.specs.Choice.{if_eq}
 use Rattle.base.specs.Blit.{blit}
-use Rattle.base.specs.Checked.{and_then}
-use Rattle.fields.specs.declared.Check.{Check}
-use Rattle.fields.specs.declared.Check.TheVariants.{Fine}
+use Rattle.base.specs.Checked.{and_then, fine}
+use Rattle.fields.specs.declared.refusal.Refusal.{Refusal}
 use Rattle.fields.specs.Answer.{verdict_of}
 use Rattle.mdf.specs.Group.{data_groups}
 use Rattle.work_words.specs.Words.{groups_at}
@@ -66,11 +65,11 @@ pub record AllStand (s w f t : List ℕ) (n : ℕ) (l l' : List ℕ) : Type 0 wh
   pub is : (gs : List SrcGroup) → Shown s w f t n gs → l' ≡ blit 0 (shared_times s gs) l
 
 -- what planning starts with, of a recording x: its refusals; and where there is none, in the words l' for each group the CG of the one that stands for it
-pub record Shares (s : List ℕ) (x : Recording) (r : Check) (l l' : List ℕ) : Type 0 where
+pub record Shares (s : List ℕ) (x : Recording) (r : Result ⊤ Refusal) (l l' : List ℕ) : Type 0 where
   pub verdict : verdict_of r
       ≡ and_then (units_in s (src_groups (data_groups x.source) x.counts)) (λ _. compared_in s (src_groups (data_groups x.source) x.counts) (data_groups x.source))
-  pub stands : r ≡ Fine → length s ≤ 4294967296 → l' ≡ blit 0 (shared_times s (src_groups (data_groups x.source) x.counts)) l
+  pub stands : verdict_of r ≡ fine → length s ≤ 4294967296 → l' ≡ blit 0 (shared_times s (src_groups (data_groups x.source) x.counts)) l
 
 -- whichever recording the words hold
-pub record ShareTimes (s w f : List ℕ) (n nf : ℕ) (r : Check) (l l' : List ℕ) : Type 0 where
+pub record ShareTimes (s w f : List ℕ) (n nf : ℕ) (r : Result ⊤ Refusal) (l l' : List ℕ) : Type 0 where
   pub is : (x : Recording) (w₀ f₀ : List ℕ) → ReadIn s w f n nf x w₀ f₀ → Shares s x r l l'

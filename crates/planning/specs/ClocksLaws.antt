@@ -39,11 +39,6 @@ same-clock : (d a m r : ℕ) {n n' : ℕ} → n ≡ n'
     → ◌≡◌ {A = Clock} (record { dg = d; number = n; at = a; master = m; records = r }) (record { dg = d; number = n'; at = a; master = m; records = r })
 same-clock d a m r e = rw e
 
-pub clock-none : (e : Entry) (j : ℕ) → 3072 + j < e.groups
-    → ◌≡◌ {A = Clock} (record { dg = e.dg; number = 0; at = e.at; master = e.master; records = e.records }) (clock_of j e)
-unfolding clock_of
-clock-none e j h = same-clock _ _ _ _ (omega arith)
-
 -- the clock of group g with its master m
 clock_for : SrcGroup → ℕ → Clock
 clock_for g m = record { dg = g.data_group.at; number = g.number; at = g.at; master = m; records = g.records }

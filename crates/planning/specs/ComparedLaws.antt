@@ -1,5 +1,5 @@
 -- Laws of what planning starts with when clocks are shared, out of the entries of groups: one for each way of the code.
-use Rattle.std.specs.Prelude.{ℕ, suc, ◌+◌, ◌-◌, ◌≤◌, ◌<◌, List, [], ◌∷◌, Bool, true, false, ◌≡◌, eqb, ltb}
+use Rattle.std.specs.Prelude.{ℕ, suc, ◌+◌, ◌-◌, ◌≤◌, ◌<◌, List, [], ◌∷◌, Bool, true, false, ◌≡◌, eqb, ltb, Result, Ok, Err, ⊤}
 use Rattle.std.proofs.Math.Path.{refl}
 use Rattle.std.proofs.Common.{sym, ap, ◌∙◌, lt-ltb, le-ltb, eq-eqb, ne_eqb}
 use native.Mathlib.Omega.{arith}
@@ -7,9 +7,8 @@ use Rattle.base.specs.Choice.{pick}
 use Rattle.base.specs.ChoiceLaws.{eq_yes, eq_no}
 use Rattle.base.specs.Blit.{part}
 use Rattle.base.specs.Checked.{refused, and_then, Verdict, fine}
-use Rattle.fields.specs.declared.Check.{Check}
-use Rattle.fields.specs.declared.Check.TheVariants.{Fine, Refused}
-use Rattle.fields.specs.Answer.{verdict_of}
+use Rattle.fields.specs.declared.refusal.Refusal.{Refusal}
+use Rattle.fields.specs.Answer.{verdict_of, refused_by}
 use Rattle.mdf.specs.Name.{name_at}
 use Rattle.work_words.specs.Words.{fragments_of}
 use Rattle.plan.specs.Channel.{both}
@@ -48,10 +47,10 @@ module _ {p : Entry → Verdict} {w : List ℕ} {n j : ℕ} (t : Checking p w n 
     unfolding each_over
     each_open v k = rw k (rw (entries_next w n j h q) at t.rest)
 
-    pub each_stop : {v : Check} → verdict_of v ≡ p e → {x y : ℕ} → v ≡ Refused x y → refused x y ≡ each_over p (entries_at w 0 n)
+    pub each_stop : {v : Result ⊤ Refusal} → verdict_of v ≡ p e → {x : Refusal} → v ≡ Err x → refused_by x ≡ each_over p (entries_at w 0 n)
     each_stop k z = each_open (refused _ _) (ap verdict_of (sym z) ∙ k)
 
-    pub each_on : {v : Check} → verdict_of v ≡ p e → v ≡ Fine → Checking p w n (j + 1)
+    pub each_on : {v : Result ⊤ Refusal} → verdict_of v ≡ p e → {u : ⊤} → v ≡ Ok u → Checking p w n (j + 1)
     each_on k z = record { room = omega arith; rest = each_open fine (ap verdict_of (sym z) ∙ k) }
 
 -- ---- units
@@ -73,12 +72,6 @@ module _ (s : List ℕ) (e f : Entry) where
   pub key_some : (f.master ≡ 0 → ⊥) → {r : Bool} → r ≡ same (entry_key s e) (entry_key s f) → r ≡ shares_key s e f
   unfolding shares_key
   key_some h k = eq_no _ _ _ _ h k
-
-  pub key_one : {r : Bool} → r ≡ shares_key s e f → r ≡ true → (◌≡◌ {A = ℕ} 1 (pick (shares_key s e f) 1 0)) × (1 ≤ 1)
-  key_one k h = (rw (← k, h), omega arith)
-
-  pub key_zero : {r : Bool} → r ≡ shares_key s e f → r ≡ false → (◌≡◌ {A = ℕ} 0 (pick (shares_key s e f) 1 0)) × (0 ≤ 1)
-  key_zero k h = (rw (← k, h), omega arith)
 
 -- ---- compared groups
 pub record Keying (s : List ℕ) (e : Entry) (w : List ℕ) (n j many : ℕ) : Type 0 where

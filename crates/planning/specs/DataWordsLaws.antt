@@ -1,7 +1,8 @@
 -- Laws of the data stage out of words: one for each way of the code, and that the stage is that of the columns and fragments which stand in the words.
 use Prim.Native.Nat.{ℕ, zero, suc, ◌+◌, ◌*◌, ◌-◌, ◌≤◌, ◌<◌, min}
 use mathlib.Core.List.{List, [], ◌∷◌}
-use Rattle.std.specs.Prelude.{Bool, true, false, ◌≡◌, take, drop, ltb}
+use Rattle.std.specs.Prelude.{Bool, true, false, ◌≡◌, eqb, take, drop, ltb, Result, Ok, Err, ⊤}
+use borrow.Author.Tests.{eqb-true, eqb-false}
 use Rattle.std.proofs.Math.Path.{refl, sym}
 use Rattle.std.proofs.Common.{ap, ◌∙◌, zero-add, le_of_lt, ltb-true, ltb-false, length-append, length-drop, take_all}
 use Rattle.std.proofs.Math.Nat.{min-eq_left, min-eq_right, min-le_right}
@@ -12,9 +13,8 @@ use Rattle.base.specs.Choice.{pick, if_eq}
 use Rattle.base.specs.ChoiceLaws.{lt_yes, lt_no, eq_yes, eq_no}
 use Rattle.base.specs.Blit.{part}
 use Rattle.base.specs.Checked.{ok, refused, and_then, Verdict, fine}
-use Rattle.fields.specs.declared.Check.{Check}
-use Rattle.fields.specs.declared.Check.TheVariants.{Fine, Refused}
-use Rattle.fields.specs.Answer.{verdict_of}
+use Rattle.fields.specs.declared.refusal.Refusal.{Refusal}
+use Rattle.fields.specs.Answer.{verdict_of, refused_by}
 use Rattle.mdf.specs.Chain.{Fragment}
 use Rattle.mdf.specs.Walk.{Item, dg, cg, cn}
 use Rattle.mdf.specs.Group.{DataGroup, addresses, groups_of, up_to, data_groups_of}
@@ -109,22 +109,31 @@ module _ {s w f : List ℕ} {d n k : ℕ} (t : Signals s w f d n k) where
   unfolding signals_over
   signals_end h = let e : n - k ≡ 0 = omega arith in rw e at t.rest
 
-  module _ (h : k < n) {r : Check} (e : verdict_of r ≡ signal_over s w f d k) where
-    pub signals_stop : {x p : ℕ} → r ≡ Refused x p → refused x p ≡ signals_over s w f d 0 n
+  module _ (h : k < n) {r : Result ⊤ Refusal} (e : verdict_of r ≡ signal_over s w f d k) where
+    pub signals_stop : {x : Refusal} → r ≡ Err x → refused_by x ≡ signals_over s w f d 0 n
     signals_stop q = rw (signals_more s w f d k n h, ← e, q) at t.rest
 
-    pub signals_on : r ≡ Fine → Signals s w f d n (k + 1)
+    pub signals_on : {u : ⊤} → r ≡ Ok u → Signals s w f d n (k + 1)
     signals_on q = record { rest = rw (signals_more s w f d k n h, ← e, q) at t.rest }
 
 -- ---- records
 module _ (s f : List ℕ) (d g i end : ℕ) {v : Verdict} where
-  pub sorted_none : end ≤ i → v ≡ sorted_in s d g (fragments_of (mid_of 0 0 f)) → v ≡ sorted_in s d g (fragments_of (part (3 * i) (3 * (end - i)) f))
+  pub sorted_part : {j : ℕ} → j ≡ min i end → v ≡ sorted_in s d g (fragments_of (mid_of (3 * j) (3 * end - 3 * j) f))
+      → v ≡ sorted_in s d g (fragments_of (part (3 * i) (3 * (end - i)) f))
   unfolding part
-  sorted_none h e = let z : 3 * (end - i) ≡ 0 = omega arith in rw z e
-
-  pub sorted_some : v ≡ sorted_in s d g (fragments_of (mid_of (3 * i) (3 * end - 3 * i) f)) → v ≡ sorted_in s d g (fragments_of (part (3 * i) (3 * (end - i)) f))
-  unfolding part
-  sorted_some e = let z : 3 * end - 3 * i ≡ 3 * (end - i) = omega arith in rw z at e
+  sorted_part {j} h e = go (eqb (end - i) 0) refl
+    where
+      go : (b : Bool) → eqb (end - i) 0 ≡ b → v ≡ sorted_in s d g (fragments_of (take (3 * (end - i)) (drop (3 * i) f)))
+      go true q =
+          let z = eqb-true (end - i) 0 q in
+          let x : 3 * end - 3 * j ≡ 0 = omega arith in
+          let y : 3 * (end - i) ≡ 0 = omega arith in
+          rw y (rw x at e)
+      go false q =
+          let n = eqb-false (end - i) 0 q in
+          let k : j ≡ i = omega arith in
+          let z : 3 * end - 3 * i ≡ 3 * (end - i) = omega arith in
+          rw z at (rw k at e)
 
 module _ (s f src : List ℕ) (n nf i d m : ℕ) (l : n ≤ 1536) {x : ℕ} (e : x ≡ length (groups_of (items_from src i (min n 1536 - i)))) where
   pub records_none : (x ≡ 1 → ⊥) → fine ≡ records_over s f nf d m (items_from src i (n - i))
@@ -145,12 +154,12 @@ module _ (s w f : List ℕ) (nf nc d m : ℕ) (is : List Item) {t : Bool} (e : t
   unfolding data_over
   data_empty q u = rw (← e, q) u
 
-  module _ (q : t ≡ true) {r : Check} (k : verdict_of r ≡ records_over s f nf d m is) where
-    pub data_stop : {x p : ℕ} → r ≡ Refused x p → refused x p ≡ data_over s w f nf nc d m is
+  module _ (q : t ≡ true) {r : Result ⊤ Refusal} (k : verdict_of r ≡ records_over s f nf d m is) where
+    pub data_stop : {x : Refusal} → r ≡ Err x → refused_by x ≡ data_over s w f nf nc d m is
     unfolding data_over
     data_stop z = rw (← e, q, ← k, z)
 
-    pub data_on : r ≡ Fine → {v : Verdict} → v ≡ signals_over s w f d 0 nc → v ≡ data_over s w f nf nc d m is
+    pub data_on : {u : ⊤} → r ≡ Ok u → {v : Verdict} → v ≡ signals_over s w f d 0 nc → v ≡ data_over s w f nf nc d m is
     unfolding data_over
     data_on z u = rw (← e, q, ← k, z) u
 
@@ -189,11 +198,11 @@ module _ {s w f : List ℕ} {nf nc : ℕ} {src : List ℕ} {n i : ℕ} (t : Data
     unfolding all_data_over
     opened l v k = rw (k, j) (rw (next-dg src n i h e l) at t.rest)
 
-    module _ (l : 1 < m) {r : Check} (k : verdict_of r ≡ data_over s w f nf nc d (m - 2) (items_from src (i + 1) (n - (i + 1)))) where
-      pub all_stop : {x p : ℕ} → r ≡ Refused x p → refused x p ≡ all_data_over s w f nf nc (items_from src 0 n)
+    module _ (l : 1 < m) {r : Result ⊤ Refusal} (k : verdict_of r ≡ data_over s w f nf nc d (m - 2) (items_from src (i + 1) (n - (i + 1)))) where
+      pub all_stop : {x : Refusal} → r ≡ Err x → refused_by x ≡ all_data_over s w f nf nc (items_from src 0 n)
       all_stop q = opened l (refused _ _) (ap verdict_of (sym q) ∙ k)
 
-      pub all-on : r ≡ Fine → DataLeft s w f nf nc src n (i + 1)
+      pub all-on : {u : ⊤} → r ≡ Ok u → DataLeft s w f nf nc src n (i + 1)
       all-on q = record { up_to = omega arith; rest = opened l fine (ap verdict_of (sym q) ∙ k) }
 
 -- ---- the stage of the columns and fragments that stand in the words

@@ -1,5 +1,5 @@
 -- Laws of the items and groups in words.
-use Rattle.std.specs.Prelude.{ℕ, suc, ◌+◌, ◌-◌, ◌≤◌, ◌<◌, List, [], ◌∷◌, ◌≡◌, refl, Bool, true, false, drop, eqb}
+use Rattle.std.specs.Prelude.{ℕ, suc, ◌+◌, ◌-◌, ◌≤◌, ◌<◌, List, [], ◌∷◌, ◌≡◌, refl, Bool, true, false, drop, eqb, Some, None}
 use Rattle.std.proofs.Math.Option.{some}
 use Rattle.std.proofs.Math.Path.{sym, ap}
 use Rattle.std.proofs.Common.{◌∙◌, eqb-true, drop-drop}
@@ -11,7 +11,6 @@ use Rattle.base.specs.ChoiceLaws.{eq_yes, eq_no}
 use Rattle.mdf.specs.Walk.{Item, dg, cg, cn}
 use Rattle.mdf.specs.Group.{channels_of}
 use Rattle.plan.specs.Columns.{SrcGroup, group_at, stand_in}
-use Rattle.planning.specs.declared.groups.Sought.TheVariants.{Nothing, Group}
 use Rattle.planning.specs.Items.{item, items_from, group_of, flat, groups_in, groups_from, channels_in, sought_in, word_of, FoundGroup}
 
 -- ---- an item by its mark
@@ -75,7 +74,7 @@ stand_pass a g gs [] h = sym (stand-past a gs)
 stand_pass a g gs (b ∷ bys) h = sym (eq_no _ _ _ _ h refl)
 
 module _ {w : List ℕ} {n a i g d : ℕ} (t : Finding w n a i g d) where
-  pub find_end : n ≤ i → FoundGroup w n a Nothing
+  pub find_end : n ≤ i → FoundGroup w n a None
   unfolding items_from flat group_at sought_in word_of
   find_end h =
       let e : n - i ≡ 0 = omega arith in
@@ -88,7 +87,7 @@ module _ {w : List ℕ} {n a i g d : ℕ} (t : Finding w n a i g d) where
     stood : (bys : List ℕ) → stand_in a (flat w d g (item m b ∷ items_from w (i + 1) (n - (i + 1)))) (drop g bys) ≡ stand_in a (groups_in w n) bys
     stood bys = rw (items_open w i n p q h) at (t.stands bys)
 
-    pub find_hit : m ≡ 1 → b ≡ a → {r : ℕ} → r ≡ get_or w (3584 + g) 0 → FoundGroup w n a (Group (i + 1) r d g)
+    pub find_hit : m ≡ 1 → b ≡ a → {r : ℕ} → r ≡ get_or w (3584 + g) 0 → FoundGroup w n a (Some (record { item = (i + 1); records = r; dg = d; number = g }))
     unfolding flat sought_in word_of channels_in
     find_hit x y z =
         record {

@@ -1,5 +1,6 @@
 -- What reading kept, out of its words: the blocks met, and the groups that planning takes. The DG of a group is here only its address.
-use Rattle.std.specs.Prelude.{ℕ, zero, suc, ◌+◌, ◌-◌, List, [], ◌∷◌, ◌≡◌, get_or}
+use Rattle.std.specs.Prelude.{ℕ, zero, suc, ◌+◌, ◌-◌, List, [], ◌∷◌, ◌≡◌, get_or, Some, None}
+use Rattle.std.specs.Prelude as code
 use Rattle.std.proofs.Math.Option.{Option, none, some}
 use Rattle.base.specs.Choice.{if_eq}
 use Rattle.mdf.specs.Walk.{Item, dg, cg, cn}
@@ -7,7 +8,6 @@ use Rattle.mdf.specs.Group.{channels_of}
 use Rattle.work_words.specs.Words.{marks_at, counts_at}
 use Rattle.plan.specs.Columns.{SrcGroup, group_at, stand_in}
 use Rattle.planning.specs.declared.groups.Sought.{Sought}
-use Rattle.planning.specs.declared.groups.Sought.TheVariants.{Nothing, Group}
 
 -- the block with a mark and an address
 unfoldable pub item : ℕ → ℕ → Item
@@ -38,17 +38,17 @@ unfoldable pub channels_in : List ℕ → ℕ → ℕ → List ℕ
 channels_in w n i = channels_of (items_from w i (n - i))
 
 -- the group at a that the code found
-unfoldable pub sought_in : List ℕ → ℕ → ℕ → Sought → Option SrcGroup
-sought_in w n a Nothing = none
-sought_in w n a (Group i r d j) = some (group_of d a (channels_in w n i) r)
+unfoldable pub sought_in : List ℕ → ℕ → ℕ → code.Option Sought → Option SrcGroup
+sought_in w n a None = none
+sought_in w n a (Some x) = some (group_of x.dg a (channels_in w n x.item) x.records)
 
 -- its word among bys, 0 for none
-unfoldable pub word_of : List ℕ → Sought → ℕ
-word_of bys Nothing = 0
-word_of bys (Group i r d j) = get_or bys j 0
+unfoldable pub word_of : List ℕ → code.Option Sought → ℕ
+word_of bys None = 0
+word_of bys (Some x) = get_or bys x.number 0
 
 -- the first group at a of n items, and its place in any list of words
-pub record FoundGroup (w : List ℕ) (n a : ℕ) (r : Sought) : Type 0 where
+pub record FoundGroup (w : List ℕ) (n a : ℕ) (r : code.Option Sought) : Type 0 where
   pub group : sought_in w n a r ≡ group_at a (groups_in w n)
   pub stands : (bys : List ℕ) → word_of bys r ≡ stand_in a (groups_in w n) bys
 

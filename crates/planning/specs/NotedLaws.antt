@@ -1,5 +1,5 @@
 -- Laws of what is noted of the items: it grows by an item, the chain of an address gives its first group, and that is the one sought.
-use Rattle.std.specs.Prelude.{ℕ, zero, suc, ◌+◌, ◌*◌, ◌-◌, ◌%◌, ◌≤◌, ◌<◌, List, Bool, true, false, ◌≡◌, refl, eqb, ltb, length, get_or, set}
+use Rattle.std.specs.Prelude.{ℕ, zero, suc, ◌+◌, ◌*◌, ◌-◌, ◌%◌, ◌≤◌, ◌<◌, List, Bool, true, false, ◌≡◌, refl, eqb, ltb, length, get_or, set, Some, None}
 use Rattle.std.proofs.Common.{sym, ◌∙◌, le_refl, arith, eqb-true, ltb-true, ltb-false, length-set, get_or-set_same, get_or-set_other}
 use Rattle.std.proofs.Math.Numerals.{add-one}
 use Rattle.std.proofs.lemmas.Bool.{eqb-false}
@@ -7,7 +7,6 @@ use Rattle.base.specs.Choice.{pick, if_eq}
 use Rattle.base.specs.ChoiceLaws.{eq_yes, eq_no}
 use Rattle.index.specs.Index.{newest, Indexed}
 use Rattle.index.specs.IndexLaws.{newest_least, newest-own, older_is, index_more}
-use Rattle.planning.specs.declared.groups.Sought.TheVariants.{Nothing, Group}
 use Rattle.planning.specs.Items.{FoundGroup}
 use Rattle.planning.specs.ItemLaws.{Finding, find_begin, find_end, find_hit, find_other, find_data, find_channel}
 use Rattle.planning.specs.Noted.{groups_before, data_before, Noted, GroupAt, FirstAt}
@@ -239,7 +238,7 @@ reach w n a zero l nay = reach_none w n a
 reach w n a (suc k) l nay = rw (← add-one k) (reach_one w n a k (omega arith) (nay k (omega arith)) (reach w n a k (omega arith) (λ j b. nay j (omega arith))))
 
 module _ {w : List ℕ} {n a r : ℕ} (u : FirstAt w n a r) where
-  pub found_none : r ≡ 0 → FoundGroup w n a Nothing
+  pub found_none : r ≡ 0 → FoundGroup w n a None
   found_none z = find_end (reach w n a n (le_refl n) (λ k l g. let b = (u.first k l g).0 in omega (arith, b, z))) (le_refl n)
 
   module _ (z : r ≡ 0 → ⊥) {t x : List ℕ} (e : Noted w n t x) {g : ℕ} (p : g ≡ get_or t (2 * (r - 1)) 0) where
@@ -252,7 +251,7 @@ module _ {w : List ℕ} {n a r : ℕ} (u : FirstAt w n a r) where
     pub found-few : g < n
     found-few = let l = groups_few w (r - 1) in omega (arith, l, counted, past)
 
-    pub found-group : {c d : ℕ} → c ≡ get_or w (3584 + g) 0 → d ≡ get_or t (2 * (r - 1) + 1) 0 → FoundGroup w n a (Group r c d g)
+    pub found-group : {c d : ℕ} → c ≡ get_or w (3584 + g) 0 → d ≡ get_or t (2 * (r - 1) + 1) 0 → FoundGroup w n a (Some (record { item = r; records = c; dg = d; number = g }))
     found-group {c} {d} y s =
         let b : r - 1 + 1 ≡ r = omega (arith, z) in
         let o : GroupAt w (r - 1) a = u.own (r - 1) b in

@@ -1,5 +1,5 @@
 -- The code's answer for the groups in words is that of the recording's plan.
-use Rattle.std.specs.Prelude.{ℕ, suc, ◌+◌, ◌≤◌, List, [], ◌∷◌, ◌≡◌, refl}
+use Rattle.std.specs.Prelude.{ℕ, suc, ◌+◌, ◌≤◌, List, [], ◌∷◌, ◌≡◌, refl, Result, Ok, Err}
 use Rattle.std.proofs.Common.{sym, ◌∙◌, add-zero}
 use Rattle.std.proofs.Math.Path.{ap}
 use native.Mathlib.Omega.{arith}
@@ -18,9 +18,11 @@ use Rattle.work_words.specs.PlanWords.{columns_words, omission_pairs, signal_fra
 use Rattle.plan_laws.specs.WalkLaws.{walk-sound, walk_open}
 use Rattle.plan_laws.specs.SourceLaws.{groups_known}
 use Rattle.planning.specs.declared.column.Progress.{Progress}
-use Rattle.planning.specs.declared.column.Progress.TheVariants.{Refused, Done}
+use Rattle.fields.specs.declared.refusal.Refusal.{Refusal}
+use Rattle.reading.specs.CheckedLaws.{ok≢refused}
+use Rattle.fields.specs.Answer.{number_of, place_of}
 use Rattle.planning.specs.Items.{items_from, groups_in}
-use Rattle.planning.specs.Planning.{Held, gives, Gives}
+use Rattle.planning.specs.Planning.{checked_of, Held, gives, Gives}
 use Rattle.planning.specs.Planned.{GroupsPlan}
 use Rattle.planning.specs.Bare.{bares, bare_columns, bare_plan, bare_checked}
 use Rattle.planning.specs.BareLaws.{plan-bare, laid-bare, signals_bare}
@@ -68,25 +70,23 @@ held-bare n w f q h =
       in_fragments = h.in_fragments ∙ ap (λ fs. kept n fs f) (signals_bare q.columns);
     }
 
-pub gives-plan : (n : ℕ) (w f : List ℕ) (o : Checked Plan) {r : Progress} {nc no nf : ℕ} {w' f' : List ℕ}
-    → Gives (record { found = n; words = w; fragments = f }) (bare_checked o) r w' f' → r ≡ Done nc no nf → PlanIs o n nc no nf w f w' f'
+pub gives-plan : (n : ℕ) (w f : List ℕ) (o : Checked Plan) {r : Result Progress Refusal} {p : Progress} {w' f' : List ℕ}
+    → Gives (record { found = n; words = w; fragments = f }) (bare_checked o) r w' f' → r ≡ Ok p → PlanIs o n p.columns p.omissions p.fragments w f w' f'
 unfolding gives
-gives-plan n w f (refused x p) g e = absurd (let q = g.by in let z : ◌≡◌ {A = ℕ} 0 1 = cc in omega arith)
-gives-plan n w f (ok q) {nc = nc} {no} {nf} {w'} {f'} g e =
+gives-plan n w f (refused x y) g e = absurd (ok≢refused (ap checked_of (sym e) ∙ g.by))
+gives-plan n w f (ok q) {p = p} {w'} {f'} g e =
     let t = g.by in
     let i = t.is in
-    let a : t.nc ≡ nc = cc in
-    let b : t.no ≡ no = cc in
-    let c : t.nf ≡ nf = cc in
-    record { plan = q; is = refl; held = held-bare n w f q (rw (a, b, c) at t.held) }
+    let a : t.progress ≡ p = cc in
+    record { plan = q; is = refl; held = held-bare n w f q (rw a at t.held) }
 
-pub gives_none : (n : ℕ) (w f : List ℕ) (o : Checked Plan) {r : Progress} {x p : ℕ} {w' f' : List ℕ}
-    → Gives (record { found = n; words = w; fragments = f }) (bare_checked o) r w' f' → r ≡ Refused x p → o ≡ refused x p
+pub gives_none : (n : ℕ) (w f : List ℕ) (o : Checked Plan) {r : Result Progress Refusal} {x : Refusal} {w' f' : List ℕ}
+    → Gives (record { found = n; words = w; fragments = f }) (bare_checked o) r w' f' → r ≡ Err x → o ≡ refused (number_of x) (place_of x)
 unfolding gives
-gives_none n w f (refused y q) {x = x} {p} g e =
-    let b = g.by in
-    let i : y ≡ x = cc in
-    let j : q ≡ p = cc in
+gives_none n w f (refused y q) {x = x} g e =
+    let b : ◌≡◌ {A = Checked Progress} (refused (number_of x) (place_of x)) (refused y q) = ap checked_of (sym e) ∙ g.by in
+    let i : number_of x ≡ y = cc in
+    let j : place_of x ≡ q = cc in
     rw (i, j)
 gives_none n w f (ok q) g e = absurd (let t = g.by in let i = t.is in let z : ◌≡◌ {A = ℕ} 0 1 = cc in omega arith)
 
@@ -126,7 +126,7 @@ module _ (s : List ℕ) (st : Source) (ns : List ℕ) (walked : walk s ≡ ok st
       (walk_open s st walked) (omega arith)
 
   -- planning over those words is the recording's plan
-  pub read_gives : {rs : Rules} {bys : List ℕ} {r : Progress} {w f w' f' : List ℕ} → GroupsPlan rs s kept-words bys (length st.items) (length st.fragments) w f r w' f'
+  pub read_gives : {rs : Rules} {bys : List ℕ} {r : Result Progress Refusal} {w f w' f' : List ℕ} → GroupsPlan rs s kept-words bys (length st.items) (length st.fragments) w f r w' f'
       → Gives (record { found = length st.fragments; words = w; fragments = f }) (bare_checked (plan rs s (length st.fragments) all bys)) r w' f'
   unfolding plan
   read_gives {rs} {bys} {r} {w} {f} {w'} {f'} g =

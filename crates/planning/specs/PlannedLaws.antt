@@ -1,6 +1,6 @@
 -- Laws of planning groups, one for each way of the code.
 use Prim.{tt}
-use Rattle.std.specs.Prelude.{ℕ, ◌+◌, ◌*◌, ◌≤◌, ◌<◌, List, [], ◌∷◌, ◌++◌, Bool, false, ◌≡◌, length, get_or}
+use Rattle.std.specs.Prelude.{ℕ, ◌+◌, ◌*◌, ◌≤◌, ◌<◌, List, [], ◌∷◌, ◌++◌, Bool, false, ◌≡◌, length, get_or, Result, Ok, Err}
 use Rattle.std.proofs.Common.{append_assoc, ◌∙◌, le_refl, length-append}
 use Rattle.std.proofs.Math.Bool.{true}
 use Rattle.std.proofs.Math.Option.{Option, none}
@@ -17,7 +17,8 @@ use Rattle.result.specs.Guarantee.{In, here}
 use Rattle.plan_laws.specs.Answers.{with_ok, eq_cases, pick_cases, ok_same}
 use Rattle.plan_laws.specs.Lists.{in_right}
 use Rattle.planning.specs.declared.column.Progress.{Progress}
-use Rattle.planning.specs.declared.column.Progress.TheVariants.{Refused, Done}
+use Rattle.fields.specs.declared.refusal.Refusal.{Refusal}
+use Rattle.fields.specs.Answer.{number_of, place_of, refused_by}
 use Rattle.planning.specs.declared.timing.Settled.{Settled}
 use Rattle.planning.specs.Items.{group_of, groups_in, groups_from, channels_in}
 use Rattle.planning.specs.ItemLaws.{groups_all, groups_none, groups_cn, groups_cg, groups_dg}
@@ -36,18 +37,18 @@ timed-group : (rs : Rules) (s : List ℕ) (all : List SrcGroup) (bys : List ℕ)
 unfolding plan_group
 timed-group rs s all bys g p e = rw e
 
-within_more : (r : Progress) {a b a' b' : ℕ} → within r a b → a ≤ a' → b ≤ b' → within r a' b'
-within_more (Refused x p) h i j = tt
-within_more (Done x y z) h i j = (omega arith, omega arith, h.2)
+within_more : (r : Result Progress Refusal) {a b a' b' : ℕ} → within r a b → a ≤ a' → b ≤ b' → within r a' b'
+within_more (Err x) h i j = tt
+within_more (Ok p) h i j = (omega arith, omega arith, h.2)
 
 module _ (rs : Rules) (s src bys : List ℕ) (n i g d records nc no nf : ℕ) (w f : List ℕ) {t : Bool} (e : t ≡ is_storage s g) where
-  pub group_storage : t ≡ true → nf ≤ 1024 → GroupPlan rs s src bys n i g d records nc no nf w f (Done nc no nf) w f
+  pub group_storage : t ≡ true → nf ≤ 1024 → GroupPlan rs s src bys n i g d records nc no nf w f (Ok (record { columns = nc; omissions = no; fragments = nf })) w f
   unfolding gives plan_group
   group_storage h l =
       let o : is_storage s g ≡ true = sym e ∙ h in
       record {
         bound = (omega arith, omega arith, l);
-        is = λ b p k i y. record { by = rw o (record { nc = nc; no = no; nf = nf; is = refl; held = k }) };
+        is = λ b p k i y. record { by = rw o (record { progress = record { columns = nc; omissions = no; fragments = nf }; is = refl; held = k }) };
       }
 
   module _ (h : t ≡ false) {own : ℕ} (q : own ≡ own_master (master_in s src n i g)) {r : Settled} {w1 : List ℕ}
@@ -57,8 +58,8 @@ module _ (rs : Rules) (s src bys : List ℕ) (n i g d records nc no nf : ℕ) (w
     is_timed p = timed-group rs s (groups_in src n) bys (group_of d g (channels_in src n i) records) p (sym e ∙ h)
 
     -- the new time column is refused
-    pub group_untold : {x y : ℕ} {w' f' : List ℕ} → time_tested rs.photos s w1 nc r.columns ≡ refused x y
-        → GroupPlan rs s src bys n i g d records nc no nf w f (Refused x y) w' f'
+    pub group_untold : {x : Refusal} {w' f' : List ℕ} → time_tested rs.photos s w1 nc r.columns ≡ refused_by x
+        → GroupPlan rs s src bys n i g d records nc no nf w f (Err x) w' f'
     unfolding gives
     group_untold v =
         record {
@@ -69,7 +70,7 @@ module _ (rs : Rules) (s src bys : List ℕ) (n i g d records nc no nf : ℕ) (w
               record { by = rw (is_timed p ∙ z.rest rs refl, v) refl };
         }
 
-    module _ (tested : time_tested rs.photos s w1 nc r.columns ≡ fine) {x : Progress} {w' f' : List ℕ}
+    module _ (tested : time_tested rs.photos s w1 nc r.columns ≡ fine) {x : Result Progress Refusal} {w' f' : List ℕ}
         (l : ChannelsPlan rs s src n i g d records own r.master r.columns r.omissions nf w1 f x w' f') where
       own_is : own ≡ own_master (master_of s (group_of d g (channels_in src n i) records))
       own_is = q ∙ ap own_master (sym (master_group s src n i g d records))
@@ -192,7 +193,7 @@ groups_begin {src = src} {n = n} l =
     }
 
 module _ {rs : Rules} {s src bys : List ℕ} {n nf₀ : ℕ} {w₀ f₀ : List ℕ} {i g d nc no nf : ℕ} {w f : List ℕ} (t : Groups rs s src bys n nf₀ w₀ f₀ i g d nc no nf w f) where
-  pub groups_end : n ≤ i → GroupsPlan rs s src bys n nf₀ w₀ f₀ (Done nc no nf) w f
+  pub groups_end : n ≤ i → GroupsPlan rs s src bys n nf₀ w₀ f₀ (Ok (record { columns = nc; omissions = no; fragments = nf })) w f
   unfolding gives
   groups_end h =
       let u = t.up_to in
@@ -204,7 +205,7 @@ module _ {rs : Rules} {s src bys : List ℕ} {n nf₀ : ℕ} {w₀ f₀ : List �
             let r = t.now b p j y in
             let q : plan_groups rs s (groups_in src n) bys (groups_in src n) p ≡ ok r.plan =
             sym r.rest ∙ rw (groups_none src n d g i h, groups_over rs s (groups_in src n) bys r.plan) in
-            record { by = rw q (record { nc = nc; no = no; nf = nf; is = refl; held = r.held }) };
+            record { by = rw q (record { progress = record { columns = nc; omissions = no; fragments = nf }; is = refl; held = r.held }) };
       }
 
   module _ (h : i < n) {m a : ℕ} (e : m ≡ get_or src (1536 + i) 0) (q : a ≡ get_or src i 0) where
@@ -236,7 +237,7 @@ module _ {rs : Rules} {s src bys : List ℕ} {n nf₀ : ℕ} {w₀ f₀ : List �
           now = λ b p j y. rw (groups_dg src n d g i h e q z z') at (t.now b p j y);
         }
 
-    module _ (z : m ≡ 1) {records : ℕ} (k : records ≡ get_or src (3584 + g) 0) {r : Progress} {w' f' : List ℕ}
+    module _ (z : m ≡ 1) {records : ℕ} (k : records ≡ get_or src (3584 + g) 0) {r : Result Progress Refusal} {w' f' : List ℕ}
         (l : GroupPlan rs s src bys n (i + 1) a d records nc no nf w f r w' f') where
       -- the group and those after it
       abbrev this : SrcGroup
@@ -262,20 +263,20 @@ module _ {rs : Rules} {s src bys : List ℕ} {n nf₀ : ℕ} {w₀ f₀ : List �
             ≡ plan_groups rs s (groups_in src n) bys (groups_in src n) p
         step-rest = sym (groups_more rs s (groups_in src n) bys this later stood.plan) ∙ stood.rest
 
-      pub groups_refused : {x x' : ℕ} → r ≡ Refused x x' → GroupsPlan rs s src bys n nf₀ w₀ f₀ (Refused x x') w' f'
+      pub groups_refused : {x : Refusal} → r ≡ Err x → GroupsPlan rs s src bys n nf₀ w₀ f₀ (Err x) w' f'
       unfolding gives
-      groups_refused {x} {x'} v =
+      groups_refused {x} v =
           record {
             bound = tt;
             is = λ b p j y.
-                let o : plan_groups rs s (groups_in src n) bys (groups_in src n) p ≡ refused x x' =
+                let o : plan_groups rs s (groups_in src n) bys (groups_in src n) p ≡ refused (number_of x) (place_of x) =
                 sym (step-rest b p j y) ∙ ap (λ u. and_then u (plan_groups rs s (groups_in src n) bys later)) (gives_refused (step_gives b p j y) v) in
                 record { by = rw o };
           }
 
-      pub groups_on : {x y' z' : ℕ} → r ≡ Done x y' z' → Groups rs s src bys n nf₀ w₀ f₀ (i + 1) (g + 1) d x y' z' w' f'
-      groups_on {x} {y'} {z'} v =
-          let bs : within (Done x y' z') (nc + 1537) (no + 1537) = rw v at l.bound in
+      pub groups_on : {x : Progress} → r ≡ Ok x → Groups rs s src bys n nf₀ w₀ f₀ (i + 1) (g + 1) d x.columns x.omissions x.fragments w' f'
+      groups_on {x} v =
+          let bs : within (Ok x) (nc + 1537) (no + 1537) = rw v at l.bound in
           let u = t.few in
           let c = t.few_columns in
           let o = t.few_omitted in

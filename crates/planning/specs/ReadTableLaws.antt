@@ -1,5 +1,5 @@
 -- The table of a recording that was read, and what planning starts with when clocks are shared.
-use Rattle.std.specs.Prelude.{ℕ, ◌≤◌, min, List, ◌≡◌}
+use Rattle.std.specs.Prelude.{ℕ, ◌≤◌, min, List, ◌≡◌, Result, Ok, Err, ⊤}
 use Rattle.std.proofs.Common.{sym, ap, ◌∙◌}
 use Rattle.std.proofs.Math.Nat.{min-eq_left}
 use native.Mathlib.Omega.{arith}
@@ -7,9 +7,8 @@ use Rattle.std.proofs.Math.ListN.{length}
 use Rattle.base.specs.Blit.{blit}
 use Rattle.base.specs.BlitLaws.{length-blit, part-blit, part-blit_before}
 use Rattle.base.specs.Checked.{ok, and_then, Verdict, fine}
-use Rattle.base.specs.CheckedLaws.{ok_same}
-use Rattle.fields.specs.declared.Check.{Check}
-use Rattle.fields.specs.declared.Check.TheVariants.{Fine, Refused}
+use Rattle.base.specs.CheckedLaws.{refused≢ok, ok_same}
+use Rattle.fields.specs.declared.refusal.Refusal.{Refusal}
 use Rattle.fields.specs.Answer.{verdict_of}
 use Rattle.mdf.specs.Identification.{identified}
 use Rattle.mdf.specs.Walk.{walk, level_cg, tally}
@@ -144,35 +143,32 @@ module _ {s w f : List ℕ} {n nf : ℕ} {x : Recording} {w₀ f₀ : List ℕ} 
                 omega arith
 
 -- ---- one law for each way
-refused≢fine : {a b : ℕ} → ◌≡◌ {A = Check} (Refused a b) Fine → ⊥
-refused≢fine e = let z : ◌≡◌ {A = ℕ} 0 1 = cc in omega arith
-
 module _ (s w f : List ℕ) (n nf : ℕ) (room : 3072 ≤ length f) (t t₀ : List ℕ) {met groups : ℕ} (long : length t₀ ≡ 4096)
     (e : (met ≡ length (entries s w nf nobody 0 (items_from w 0 n))) × (t ≡ blit 0 (table_words (entries s w nf nobody 0 (items_from w 0 n))) t₀)) (g : groups ≡ min met 512)
-    {u : Check} (units : verdict_of u ≡ each_over (unit_over s) (entries_at t 0 groups)) where
-  pub share_units : (l : List ℕ) {a b : ℕ} → u ≡ Refused a b → ShareTimes s w f n nf (Refused a b) l l
+    {u : Result ⊤ Refusal} (units : verdict_of u ≡ each_over (unit_over s) (entries_at t 0 groups)) where
+  pub share_units : (l : List ℕ) {y : Refusal} → u ≡ Err y → ShareTimes s w f n nf (Err y) l l
   share_units l q = record {
     is = λ x w₀ f₀ h. record {
       verdict = ap (λ (v : Verdict). and_then v (λ _. compared_in s (groups_of x) (data_groups x.source))) (ap verdict_of (sym q) ∙ units_are h room t₀ long e g units);
-      stands = λ z. absurd (refused≢fine z);
+      stands = λ z. absurd (refused≢ok z);
     };
   }
 
-  module _ (p : u ≡ Fine) {v : Check} (streams : verdict_of v ≡ each_over (stream_over s f (entries_at t 0 groups)) (entries_at t 0 groups)) {o : Check} (q : v ≡ o) where
+  module _ {a : ⊤} (p : u ≡ Ok a) (v : Result ⊤ Refusal) (streams : verdict_of v ≡ each_over (stream_over s f (entries_at t 0 groups)) (entries_at t 0 groups)) {o : Verdict} (q : verdict_of v ≡ o) where
     both_are : (x : Recording) {w₀ f₀ : List ℕ} → ReadIn s w f n nf x w₀ f₀
-        → verdict_of o ≡ and_then (units_in s (groups_of x)) (λ _. compared_in s (groups_of x) (data_groups x.source))
+        → o ≡ and_then (units_in s (groups_of x)) (λ _. compared_in s (groups_of x) (data_groups x.source))
     both_are x h =
-        ap verdict_of (sym q) ∙ streams_are h room t₀ long e g streams
+        sym q ∙ streams_are h room t₀ long e g streams
         ∙ ap (λ (d : Verdict). and_then d (λ _. compared_in s (groups_of x) (data_groups x.source))) (ap verdict_of (sym p) ∙ units_are h room t₀ long e g units)
 
-  module _ (p : u ≡ Fine) {v : Check} (streams : verdict_of v ≡ each_over (stream_over s f (entries_at t 0 groups)) (entries_at t 0 groups)) where
-    pub share_streams : (l : List ℕ) {a b : ℕ} → v ≡ Refused a b → ShareTimes s w f n nf (Refused a b) l l
-    share_streams l q = record { is = λ x w₀ f₀ h. record { verdict = both_are p streams q x h; stands = λ z. absurd (refused≢fine z) } }
+  module _ {a : ⊤} (p : u ≡ Ok a) {v : Result ⊤ Refusal} (streams : verdict_of v ≡ each_over (stream_over s f (entries_at t 0 groups)) (entries_at t 0 groups)) where
+    pub share_streams : (l : List ℕ) {y : Refusal} → v ≡ Err y → ShareTimes s w f n nf (Err y) l l
+    share_streams l q = record { is = λ x w₀ f₀ h. record { verdict = both_are p v streams (ap verdict_of q) x h; stands = λ z. absurd (refused≢ok z) } }
 
-    pub share_all : v ≡ Fine → {l l' : List ℕ} → AllStand s w f t groups l l' → ShareTimes s w f n nf Fine l l'
+    pub share_all : {b : ⊤} → v ≡ Ok b → {l l' : List ℕ} → AllStand s w f t groups l l' → {c : ⊤} → ShareTimes s w f n nf (Ok c) l l'
     share_all q y = record {
       is = λ x w₀ f₀ h. record {
-        verdict = both_are p streams q x h;
+        verdict = both_are p v streams (ap verdict_of q) x h;
         stands = λ z short. y.is (groups_of x) (table_shown h room t₀ long e g streams (ap verdict_of q) short);
       };
     }

@@ -11,16 +11,14 @@ use Rattle.base.specs.Blit.{blit}
 use Rattle.chains.specs.KeptLaws.{kept-none}
 use Rattle.records.specs.SeveralLaws.{get_d_blit}
 use Rattle.plan.specs.Photos.{photos_in}
-use Rattle.plan.specs.Columns.{SrcGroup, Plan, TimeOf, time, untimed, differs, master_of, time_of, time_column, with_column, with_omission, time_on, with_time, new_time_in, own_master}
+use Rattle.plan.specs.Columns.{SrcGroup, Plan, TimeOf, time, untimed, differs, master_of, time_of, time_column, with_column, with_omission, time_on, with_time, new_time_in}
 use Rattle.work_words.specs.PlanWords.{master_word, column_words}
 use Rattle.result.specs.Guarantee.{In}
-use Rattle.planning.specs.declared.masters.Master.{Master}
-use Rattle.planning.specs.declared.masters.Master.TheVariants.{Without, Channel}
 use Rattle.planning.specs.declared.masters.Time.{Time}
 use Rattle.planning.specs.declared.masters.Time.TheVariants.{Untimed, Differs, At}
 use Rattle.planning.specs.declared.timing.Settled.{Settled}
 use Rattle.planning.specs.Items.{group_of, groups_in, channels_in}
-use Rattle.planning.specs.Times.{master_from, time_words}
+use Rattle.planning.specs.Times.{time_words}
 use Rattle.planning.specs.TimeLaws.{time_known}
 use Rattle.planning.specs.TimeIn.{time_in}
 use Rattle.planning.specs.Planning.{Base, Held}
@@ -28,14 +26,6 @@ use Rattle.planning.specs.HeldLaws.{held-column, held_omission}
 use Rattle.planning.specs.Timing.{waiting, time_tested, TimeHeld, TimePlan, Settling, SettlePlan}
 use Rattle.planning.specs.BudgetLaws.{time_added, waiting_fewer}
 use Rattle.planning.specs.TimeWordLaws.{held_time}
-
--- ---- the own master as a number
-module _ (m : Master) (o : Option ℕ) (e : master_from m ≡ o) where
-  pub own-none : m ≡ Without → 0 ≡ own_master o
-  own-none h = rw (← e, h)
-
-  pub own-some : {c : ℕ} → m ≡ Channel c → c ≡ own_master o
-  own-some h = rw (← e, h)
 
 -- ---- the plan with a time column
 module _ (photos : Bool) (s : List ℕ) (t : SrcGroup) (m : ℕ) (p : Plan) where

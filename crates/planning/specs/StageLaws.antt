@@ -1,16 +1,16 @@
 -- Laws of the data stage: what is left of the columns gives what all of them give.
-use Rattle.std.specs.Prelude.{ℕ, ◌+◌, ◌*◌, ◌≤◌, ◌<◌, List, [], ◌∷◌, true, false, ◌≡◌, refl, length, get_or, ltb}
+use Rattle.std.specs.Prelude.{ℕ, ◌+◌, ◌*◌, ◌≤◌, ◌<◌, List, [], ◌∷◌, true, false, ◌≡◌, refl, length, get_or, ltb, Ok, Err, ⊤}
 use Rattle.std.proofs.Common.{sym, ◌∙◌, add-zero, arith}
 use borrow.Author.Tests.{eq-eqb, ne_eqb, lt-ltb, le-ltb}
 use Rattle.base.specs.Choice.{pick}
 use Rattle.base.specs.ChoiceLaws.{lt_yes, lt_no}
 use Rattle.base.specs.Checked.{refused}
-use Rattle.fields.specs.declared.Check.TheVariants.{Fine, Refused}
 use Rattle.plan.specs.Channel.{width}
 use Rattle.plan.specs.Columns.{Column, size_of_signal}
 use Rattle.work_words.specs.PlanWords.{column_words, columns_words}
 use Rattle.plan.specs.Geometry.{block_count}
 use Rattle.plan.specs.Data.{is_nonempty, any_nonempty, blocks_in}
+use Rattle.fields.specs.declared.refusal.Refusal.TheVariants.{OverLimit}
 use Rattle.planning.specs.Stage.{Stand, nonempty_in, BlocksStage}
 use Rattle.planning.specs.TimeWordLaws.{stand-rest}
 
@@ -114,7 +114,7 @@ unfolding blocks_in
 blocks-few s size c cs h = lt_no _ _ _ _ h refl
 
 module _ (s : List ℕ) (size : ℕ) {w : List ℕ} {nc k : ℕ} (t : LeftIn (blocks_in s size) w nc k) where
-  pub blocks_end_lem : nc ≤ k → BlocksStage s w nc size Fine
+  pub blocks_end_lem : {u : ⊤} → nc ≤ k → BlocksStage s w nc size (Ok u)
   unfolding blocks_in
   blocks_end_lem h = record { is = left_end t h }
 
@@ -123,7 +123,7 @@ module _ (s : List ℕ) (size : ℕ) {w : List ℕ} {nc k : ℕ} (t : LeftIn (bl
     number : (a : Column) → Reads w k a → m ≡ block_count size (width s a.group.at a.channel) a.group.records
     number a z = v ∙ rw (u, i, j, l, z.channel, z.group, z.records)
 
-    pub blocks_stop : 4294967295 < m → BlocksStage s w nc size (Refused 19 c)
+    pub blocks_stop : 4294967295 < m → BlocksStage s w nc size (Err (OverLimit c))
     blocks_stop q =
         record {
           is = left_stop t h (refused 19 c) (λ a cs z.

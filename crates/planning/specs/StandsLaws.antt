@@ -1,5 +1,5 @@
 -- The words of those that stand for others: zeros past the groups change neither a plan nor their number.
-use Rattle.std.specs.Prelude.{ℕ, zero, suc, ◌+◌, ◌-◌, ◌≤◌, ◌<◌, Bool, true, false, ◌≡◌, length, get_or, drop, replicate}
+use Rattle.std.specs.Prelude.{ℕ, zero, suc, ◌+◌, ◌-◌, ◌≤◌, ◌<◌, Bool, true, false, ◌≡◌, length, get_or, drop, replicate, Result}
 use mathlib.Core.List.{List, [], ◌∷◌, ◌++◌}
 use Rattle.std.proofs.Math.Option.{Option, none, some}
 use Rattle.std.proofs.Math.Path.{refl}
@@ -19,6 +19,7 @@ use Rattle.result.specs.Result.{shared_groups}
 use Rattle.plan_laws.specs.Answers.{ok_same, with_ok, or_not}
 use Rattle.plan_laws.specs.StandLaws.{stand-more}
 use Rattle.planning.specs.declared.column.Progress.{Progress}
+use Rattle.fields.specs.declared.refusal.Refusal.{Refusal}
 use Rattle.planning.specs.Items.{groups_in}
 use Rattle.planning.specs.Planned.{GroupsPlan}
 use Rattle.planning.specs.Planning.{Gives}
@@ -73,7 +74,7 @@ unfolding plan
 plan-words rs s n all bys l = groups_same s all (stand_words bys) bys (λ a. stand-more a all bys (replicate (512 - length bys) 0) l) rs all _
 
 -- the same of the groups that the words hold
-pub groups_alike : {rs : Rules} {s src v w : List ℕ} {n nf : ℕ} {c f : List ℕ} {r : Progress} {c' f' : List ℕ} → StandAlike w v → GroupsPlan rs s src v n nf c f r c' f'
+pub groups_alike : {rs : Rules} {s src v w : List ℕ} {n nf : ℕ} {c f : List ℕ} {r : Result Progress Refusal} {c' f' : List ℕ} → StandAlike w v → GroupsPlan rs s src v n nf c f r c' f'
     → GroupsPlan rs s src w n nf c f r c' f'
 groups_alike {rs} {s} {src} {v} {w} {n} {r = r} {c'} {f'} h g =
     record {

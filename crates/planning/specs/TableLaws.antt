@@ -3,15 +3,16 @@ use Prim.Native.Nat.{ℕ, ◌+◌, ◌*◌, ◌-◌, ◌≤◌, ◌<◌, min}
 use mathlib.Core.List.{List, [], ◌∷◌, ◌++◌}
 use Rattle.std.specs.Prelude.{◌≡◌, refl, get_or, drop}
 use Rattle.std.proofs.Math.Path.{sym, ap}
-use Rattle.std.proofs.Common.{◌∙◌, le_refl, drop_of_length-le}
+use Rattle.std.proofs.Common.{◌∙◌, le_refl}
 use Rattle.std.proofs.Math.Nat.{min-eq_left}
 use native.Mathlib.Omega.{arith}
 use Rattle.std.proofs.Math.ListN.{length, take, length-drop}
 use Rattle.std.proofs.Math.Seq.{take_all}
+use Rattle.std.proofs.lemmas.List.{take_min, drop_min}
 use Rattle.base.specs.ChoiceLaws.{lt_yes, lt_no}
 use Rattle.base.specs.Blit.{part, blit}
 use Rattle.base.specs.BlitLaws.{length-blit, blit-append}
-use Rattle.mdf.specs.Walk.{Item, dg}
+use Rattle.mdf.specs.Walk.{Item}
 use Rattle.mdf.specs.Group.{groups_of, up_to}
 use Rattle.plan.specs.Columns.{own_master}
 use Rattle.planning.specs.declared.table.Owner.{Owner}
@@ -24,17 +25,12 @@ use Rattle.planning.specs.Table.{entry_words, table_words, entry_at, entries_at,
 
 -- ---- words from a on
 module _ (w : List ℕ) (a n : ℕ) where
-  pub words-past : length w < a → [] ≡ part a n w
+  pub words-from : {b m : ℕ} → b ≡ min a (length w) → m ≡ min n (length (take (length w - b) (drop b w))) → take m (take (length w - b) (drop b w)) ≡ part a n w
   unfolding part
-  words-past h = sym (ap (λ (l : List ℕ). take n l) (drop_of_length-le w {i = a} (omega arith)) ∙ take_all n [] (omega arith))
-
-  pub words-rest : length w - a < n → take (length w - a) (drop a w) ≡ part a n w
-  unfolding part
-  words-rest h = take_all (length w - a) (drop a w) (simp length-drop (le_refl _)) ∙ sym (take_all n (drop a w) (simp length-drop (omega arith)))
-
-  pub words-within : take (a + n - a) (drop a w) ≡ part a n w
-  unfolding part
-  words-within = let e : a + n - a ≡ n = omega arith in ap (λ (m : ℕ). take m (drop a w)) e
+  words-from {b} {m} e f =
+      let l : take (length w - b) (drop b w) ≡ drop b w = take_all (length w - b) (drop b w) (simp length-drop (le_refl _)) in
+      let h : m ≡ min n (length (drop b w)) = f ∙ ap (λ (k : List ℕ). min n (length k)) l in
+      ap (take m) l ∙ ap (λ (k : ℕ). take k (drop b w)) h ∙ take_min n (drop b w) ∙ ap (take n) (ap (λ (k : ℕ). drop k w) e ∙ drop_min a w)
 
 -- ---- a DG
 same_owner : (d g : ℕ) {a a' b b' c c' : ℕ} → a ≡ a' → b ≡ b' → c ≡ c'

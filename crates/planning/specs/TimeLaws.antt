@@ -1,6 +1,7 @@
 -- Laws of masters and times, one for each way of the code.
 use Prim.Native.Nat.{ℕ, ◌+◌, ◌/◌, ◌%◌, ◌≤◌, ◌<◌}
-use Rattle.std.specs.Prelude.{List, [], ◌∷◌, Bool, true, false, ◌≡◌, get_or}
+use Rattle.std.specs.Prelude.{List, [], ◌∷◌, Bool, true, false, ◌≡◌, get_or, Some, None}
+use Rattle.std.specs.Prelude as code
 use Rattle.std.proofs.Math.Option.{Option, none, some}
 use Rattle.std.proofs.Math.Path.{refl}
 use Rattle.std.proofs.Common.{sym, ap, ◌∙◌, subst}
@@ -14,20 +15,9 @@ use Rattle.result.specs.Guarantee.{In}
 use Rattle.plan_laws.specs.Answers.{eq_cases}
 use Rattle.plan_laws.specs.DecideLaws.{group_at_lem, time≢untimed, time≢differs, time_same}
 use Rattle.planning.specs.declared.groups.Sought.{Sought}
-use Rattle.planning.specs.declared.groups.Sought.TheVariants.{Nothing, Group}
-use Rattle.planning.specs.declared.masters.Master.{Master}
-use Rattle.planning.specs.declared.masters.Master.TheVariants.{Without, Channel}
 use Rattle.planning.specs.Items.{group_of, groups_in, channels_in, sought_in, word_of, FoundGroup}
 use Rattle.planning.specs.ItemLaws.{channels_end, channels_next, channels_over}
 use Rattle.planning.specs.Times.{master_from, master_in, time_words, remote_in}
-
--- ---- a master's type and fit
-module _ (s : List ℕ) (g c : ℕ) {b : Bool} (e : b ≡ is_master_type s c) where
-  pub master_fits : b ≡ true → {f : Bool} → f ≡ fits s g c → f ≡ both (is_master_type s c) (fits s g c)
-  master_fits h q = rw (← e, h) q
-
-  pub master_other : b ≡ false → false ≡ both (is_master_type s c) (fits s g c)
-  master_other h = rw (← e, h)
 
 -- ---- the first master: what is left of the search gives what the whole search gives
 pub record Mastering (s w : List ℕ) (n i g k : ℕ) : Type 0 where
@@ -93,27 +83,27 @@ unfolding master_of master_in
 master_group s w n i g d r = refl
 
 -- ---- the word of a group
-module _ (w bys : List ℕ) (n a : ℕ) {o : Sought} (e : FoundGroup w n a o) where
-  pub stand_unfound : o ≡ Nothing → 0 ≡ stand_in a (groups_in w n) bys
+module _ (w bys : List ℕ) (n a : ℕ) {o : code.Option Sought} (e : FoundGroup w n a o) where
+  pub stand_unfound : o ≡ None → 0 ≡ stand_in a (groups_in w n) bys
   unfolding word_of
   stand_unfound q = rw q at (e.stands bys)
 
-  pub stand-found : {i r d j x : ℕ} → o ≡ Group i r d j → x ≡ get_or bys j 0 → x ≡ stand_in a (groups_in w n) bys
+  pub stand-found : {y : Sought} {x : ℕ} → o ≡ Some y → x ≡ get_or bys y.number 0 → x ≡ stand_in a (groups_in w n) bys
   unfolding word_of
   stand-found q h = h ∙ (rw q at (e.stands bys))
 
 -- ---- a group that was found
-module _ (s w : List ℕ) (n a : ℕ) {o : Sought} (e : FoundGroup w n a o) where
-  pub unfound : o ≡ Nothing → group_at a (groups_in w n) ≡ none
+module _ (s w : List ℕ) (n a : ℕ) {o : code.Option Sought} (e : FoundGroup w n a o) where
+  pub unfound : o ≡ None → group_at a (groups_in w n) ≡ none
   unfolding sought_in
   unfound q = rw q at (sym e.group)
 
-  pub found : {i there d j : ℕ} → o ≡ Group i there d j → group_at a (groups_in w n) ≡ some (group_of d a (channels_in w n i) there)
+  pub found : {x : Sought} → o ≡ Some x → group_at a (groups_in w n) ≡ some (group_of x.dg a (channels_in w n x.item) x.records)
   unfolding sought_in
   found q = rw q at (sym e.group)
 
-  found_master : (i there d : ℕ) (m : Master) → master_from m ≡ master_in s w n i a → master_of s (group_of d a (channels_in w n i) there) ≡ master_from m
-  found_master i there d m f = master_group s w n i a d there ∙ sym f
+  found_master : (x : Sought) (m : code.Option ℕ) → master_from m ≡ master_in s w n x.item a → master_of s (group_of x.dg a (channels_in w n x.item) x.records) ≡ master_from m
+  found_master x m f = master_group s w n x.item a x.dg x.records ∙ sym f
 
 -- ---- the master that stands for a group's own
 module _ (s w bys : List ℕ) (n c g d records : ℕ) (cs : List ℕ) {by : ℕ} (b : by ≡ stand_in g (groups_in w n) bys) where
@@ -121,49 +111,49 @@ module _ (s w bys : List ℕ) (n c g d records : ℕ) (cs : List ℕ) {by : ℕ}
   unfolding standing
   stand-own h = eq_yes _ _ _ _ (sym b ∙ h) refl
 
-  module _ (z : by ≡ 0 → ⊥) {o : Sought} (e : FoundGroup w n by o) where
-    pub stand_lost : o ≡ Nothing → untimed ≡ standing s (groups_in w n) bys (group_of d g cs records) c
+  module _ (z : by ≡ 0 → ⊥) {o : code.Option Sought} (e : FoundGroup w n by o) where
+    pub stand_lost : o ≡ None → untimed ≡ standing s (groups_in w n) bys (group_of d g cs records) c
     unfolding standing
     stand_lost q = rw (← b, unfound s w n by e q) (eq_no _ _ _ _ z refl)
 
-    module _ {i there d' j : ℕ} (q : o ≡ Group i there d' j) (m : Master) (f : master_from m ≡ master_in s w n i by) where
-      pub stand-bare : m ≡ Without → untimed ≡ standing s (groups_in w n) bys (group_of d g cs records) c
+    module _ {x : Sought} (q : o ≡ Some x) (m : code.Option ℕ) (f : master_from m ≡ master_in s w n x.item by) where
+      pub stand-bare : m ≡ None → untimed ≡ standing s (groups_in w n) bys (group_of d g cs records) c
       unfolding standing
-      stand-bare h = rw (← b, found s w n by e q, found_master s w n by e i there d' m f, h) (eq_no _ _ _ _ z refl)
+      stand-bare h = rw (← b, found s w n by e q, found_master s w n by e x m f, h) (eq_no _ _ _ _ z refl)
 
-      pub stand-other : {k : ℕ} → m ≡ Channel k
-          → time (group_of d' by (channels_in w n i) there) k ≡ standing s (groups_in w n) bys (group_of d g cs records) c
+      pub stand-other : {k : ℕ} → m ≡ Some k
+          → time (group_of x.dg by (channels_in w n x.item) x.records) k ≡ standing s (groups_in w n) bys (group_of d g cs records) c
       unfolding standing
-      stand-other h = rw (← b, found s w n by e q, found_master s w n by e i there d' m f, h) (eq_no _ _ _ _ z refl)
+      stand-other h = rw (← b, found s w n by e q, found_master s w n by e x m f, h) (eq_no _ _ _ _ z refl)
 
 -- ---- the remote group's time
-module _ (s w bys : List ℕ) (n g records : ℕ) {link : ℕ} (l : link ≡ remote_link s g) {o : Sought} (e : FoundGroup w n link o) where
-  pub remote-none : o ≡ Nothing → untimed ≡ remote_in s w bys n g records
+module _ (s w bys : List ℕ) (n g records : ℕ) {link : ℕ} (l : link ≡ remote_link s g) {o : code.Option Sought} (e : FoundGroup w n link o) where
+  pub remote-none : o ≡ None → untimed ≡ remote_in s w bys n g records
   unfolding remote_in
   remote-none q = rw (← l, unfound s w n link e q)
 
-  module _ {i there d j : ℕ} (q : o ≡ Group i there d j) (m : Master) (f : master_from m ≡ master_in s w n i link) where
-    pub remote-bare : m ≡ Without → untimed ≡ remote_in s w bys n g records
+  module _ {x : Sought} (q : o ≡ Some x) (m : code.Option ℕ) (f : master_from m ≡ master_in s w n x.item link) where
+    pub remote-bare : m ≡ None → untimed ≡ remote_in s w bys n g records
     unfolding remote_in
-    remote-bare h = rw (← l, found s w n link e q, found_master s w n link e i there d m f, h)
+    remote-bare h = rw (← l, found s w n link e q, found_master s w n link e x m f, h)
 
-    pub remote-same : {c : ℕ} → m ≡ Channel c → there ≡ records
-        → standing s (groups_in w n) bys (group_of d link (channels_in w n i) there) c ≡ remote_in s w bys n g records
+    pub remote-same : {c : ℕ} → m ≡ Some c → x.records ≡ records
+        → standing s (groups_in w n) bys (group_of x.dg link (channels_in w n x.item) x.records) c ≡ remote_in s w bys n g records
     unfolding remote_in
-    remote-same h k = rw (← l, found s w n link e q, found_master s w n link e i there d m f, h) (eq_yes _ _ _ _ k refl)
+    remote-same h k = rw (← l, found s w n link e q, found_master s w n link e x m f, h) (eq_yes _ _ _ _ k refl)
 
-    pub remote-differs : {c : ℕ} → m ≡ Channel c → (there ≡ records → ⊥) → differs ≡ remote_in s w bys n g records
+    pub remote-differs : {c : ℕ} → m ≡ Some c → (x.records ≡ records → ⊥) → differs ≡ remote_in s w bys n g records
     unfolding remote_in
-    remote-differs h k = rw (← l, found s w n link e q, found_master s w n link e i there d m f, h) (eq_no _ _ _ _ k refl)
+    remote-differs h k = rw (← l, found s w n link e q, found_master s w n link e x m f, h) (eq_no _ _ _ _ k refl)
 
 -- ---- the time of a group
-module _ (s w bys : List ℕ) (n i g d records : ℕ) (m : Master) (f : master_from m ≡ master_in s w n i g) where
-  pub time_own : {c : ℕ} → m ≡ Channel c
+module _ (s w bys : List ℕ) (n i g d records : ℕ) (m : code.Option ℕ) (f : master_from m ≡ master_in s w n i g) where
+  pub time_own : {c : ℕ} → m ≡ Some c
       → standing s (groups_in w n) bys (group_of d g (channels_in w n i) records) c ≡ time_of s (groups_in w n) bys (group_of d g (channels_in w n i) records)
   unfolding time_of
   time_own h = rw (master_group s w n i g d records, ← f, h)
 
-  pub time_remote : m ≡ Without → remote_in s w bys n g records ≡ time_of s (groups_in w n) bys (group_of d g (channels_in w n i) records)
+  pub time_remote : m ≡ None → remote_in s w bys n g records ≡ time_of s (groups_in w n) bys (group_of d g (channels_in w n i) records)
   unfolding time_of remote_time remote_in
   time_remote h = rw (master_group s w n i g d records, ← f, h)
 

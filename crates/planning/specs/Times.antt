@@ -1,18 +1,17 @@
 -- Masters and times, as the code answers them.
-use Rattle.std.specs.Prelude.{ℕ, List, ◌≡◌}
+use Rattle.std.specs.Prelude.{ℕ, List, ◌≡◌, Some, None}
+use Rattle.std.specs.Prelude as code
 use Rattle.std.proofs.Math.Option.{Option, none, some}
 use Rattle.base.specs.Choice.{pick, if_eq}
 use Rattle.mdf.specs.Group.{is_storage}
 use Rattle.plan.specs.Columns.{first_master, master_of, remote_link, group_at, standing, TimeOf, time, untimed, differs, on_master, on_group}
-use Rattle.planning.specs.declared.masters.Master.{Master}
-use Rattle.planning.specs.declared.masters.Master.TheVariants.{Without, Channel}
 use Rattle.planning.specs.declared.masters.Time.{Time}
 use Rattle.planning.specs.declared.masters.Time.TheVariants.{Untimed, Differs, At}
 use Rattle.planning.specs.Items.{group_of, groups_in, channels_in}
 
-abbrev pub master_from : Master → Option ℕ
-master_from Without = none
-master_from (Channel c) = some c
+abbrev pub master_from : code.Option ℕ → Option ℕ
+master_from None = none
+master_from (Some c) = some c
 
 -- the master of the group at g with its channels from item i on
 unfoldable pub master_in : List ℕ → List ℕ → ℕ → ℕ → ℕ → Option ℕ

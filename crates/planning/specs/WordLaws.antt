@@ -1,36 +1,30 @@
 -- Laws of the words of columns and omissions.
-use Rattle.std.specs.Prelude.{ℕ, zero, suc, ◌+◌, ◌*◌, ◌-◌, ◌≤◌, ◌<◌, List, [], ◌∷◌, ◌≡◌, Bool, true, false, length, get_or, set, eqb}
-use Rattle.std.proofs.Common.{sym, ◌∙◌, sub-one}
+use Rattle.std.specs.Prelude.{ℕ, zero, suc, ◌+◌, ◌*◌, ◌-◌, ◌≤◌, ◌<◌, List, [], ◌∷◌, ◌≡◌, refl, Bool, true, false, length, take, get_or, set, eqb}
+use Rattle.std.proofs.Common.{sym, ap, ◌∙◌, add-one, sub-one}
+use Rattle.std.proofs.Math.Seq.{take-suc, take_all}
+use Rattle.std.proofs.lemmas.List.{length-take-le}
 use native.Mathlib.Omega.{arith}
 use borrow.Author.Tests.{eq-eqb, ne_eqb}
-use Rattle.std.proofs.Math.ListN.{get_or-eq_default}
 use Rattle.base.specs.Choice.{pick}
 use Rattle.base.specs.Blit.{blit}
-use Rattle.base.specs.BlitLaws.{blit-append}
+use Rattle.base.specs.BlitLaws.{blit-one, blit-append}
 use Rattle.planning.specs.TimeIn.{is_time_in, time_in}
 
-pub past_end : (w : List ℕ) (i : ℕ) → length w ≤ i → 0 ≡ get_or w i 0
-past_end w i h = sym (get_or-eq_default w 0 h)
-
--- ---- stores one after the other
-pub put_two : (i a b : ℕ) (w : List ℕ) {w1 w2 : List ℕ} → w1 ≡ set w i a → w2 ≡ set w1 (i + 1) b → w2 ≡ blit i (a ∷ b ∷ []) w
+-- ---- a list of words, stored one by one
+pub put_none : (i : ℕ) (ws w : List ℕ) → w ≡ blit i (take 0 ws) w
 unfolding blit
-put_two i a b w e f =
-    let i1 : i + 1 ≡ suc i = omega arith in
-    rw (f, e, i1)
+put_none i ws w = refl
 
-pub put_four : (i a b c d : ℕ) (w : List ℕ) {w1 w2 w3 w4 : List ℕ} → w1 ≡ set w i a → w2 ≡ set w1 (i + 1) b → w3 ≡ set w2 (i + 2) c
-    → w4 ≡ set w3 (i + 3) d → w4 ≡ blit i (a ∷ b ∷ c ∷ d ∷ []) w
-unfolding blit
-put_four i a b c d w e f g h =
-    let i1 : i + 1 ≡ suc i = omega arith in
-    let i2 : i + 2 ≡ suc (suc i) = omega arith in
-    let i3 : i + 3 ≡ suc (suc (suc i)) = omega arith in
-    rw (h, g, f, e, i1, i2, i3)
+pub put_next : (i k : ℕ) (ws w : List ℕ) {w1 w2 : List ℕ} → w1 ≡ blit i (take k ws) w → k < length ws → w2 ≡ set w1 (i + k) (get_or ws k 0) → w2 ≡ blit i (take (k + 1) ws) w
+put_next i k ws w e h f =
+    let n : length (take k ws) ≡ k = length-take-le k ws (omega arith) in
+    f ∙ ap (λ (l : List ℕ). set l (i + k) (get_or ws k 0)) e ∙ sym (blit-one (i + k) (get_or ws k 0) (blit i (take k ws) w))
+    ∙ ap (λ (j : ℕ). blit (i + j) (get_or ws k 0 ∷ []) (blit i (take k ws) w)) (sym n)
+    ∙ sym (blit-append (take k ws) i (get_or ws k 0 ∷ []) w)
+    ∙ ap (λ (l : List ℕ). blit i l w) (sym (rw add-one (take-suc ws k 0 h)))
 
-pub put_eight : (i a b c d e f g h : ℕ) (w : List ℕ) {w1 w2 : List ℕ} → w1 ≡ blit i (a ∷ b ∷ c ∷ d ∷ []) w
-    → w2 ≡ blit (i + 4) (e ∷ f ∷ g ∷ h ∷ []) w1 → w2 ≡ blit i (a ∷ b ∷ c ∷ d ∷ e ∷ f ∷ g ∷ h ∷ []) w
-put_eight i a b c d e f g h w p q = q ∙ rw p (sym (blit-append (a ∷ b ∷ c ∷ d ∷ []) i (e ∷ f ∷ g ∷ h ∷ []) w))
+pub put_all : (i k : ℕ) (ws w : List ℕ) {w1 : List ℕ} → w1 ≡ blit i (take k ws) w → length ws ≤ k → w1 ≡ blit i ws w
+put_all i k ws w e h = e ∙ ap (λ (l : List ℕ). blit i l w) (take_all k ws h)
 
 -- ---- the time column
 module _ (w : List ℕ) (k g : ℕ) {x : ℕ} (e : x ≡ get_or w (8 * k + 4) 0) where

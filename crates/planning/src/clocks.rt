@@ -3,30 +3,19 @@ ghost use Rattle.std.specs.Prelude.{◌≡◌, ◌≤◌, length};
 ghost use Rattle.planning.specs.Clocks.{clock_of, SameTimes, StandsSame, FirstSame, StandsIn, AllStand, ShareTimes};
 
 use crate::compared::{shares_key, streams_in, units_in};
-use crate::span::least;
 use crate::table::{Entry, entry_of, fill_table, words_from};
 use crate::words::{put, word};
 use comparing::times::{Clock, times_same};
-use fields::Check;
+use fields::refusal::Refusal;
 
 // The clock of the group with entry e and number j.
 fn clock_of(e: Entry, j: u64) -> Clock
     requires { j ≤ 512 }
     ensures { result ≡ clock_of j e }
 {
-    let at = 3072 + j;
-    if at < e.groups {
-        return Clock {
-            dg: e.dg,
-            number: 0,
-            at: e.at,
-            master: e.master,
-            records: e.records,
-        };
-    }
     Clock {
         dg: e.dg,
-        number: at - e.groups,
+        number: (3072 + j).saturating_sub(e.groups),
         at: e.at,
         master: e.master,
         records: e.records,
@@ -72,10 +61,7 @@ fn stands_same(
     requires { (j ≤ 512) × (i ≤ 512) }
     ensures { StandsSame image.now source.now fragments.now e j f i stands.now result }
 {
-    if word(stands, i) != 0 {
-        return false;
-    }
-    same_times(image, source, fragments, e, j, f, i)
+    word(stands, i) == 0 && same_times(image, source, fragments, e, j, f, i)
 }
 
 // The CG of the first group before number j whose master equals that of the group with entry e, 0 for none.
@@ -91,13 +77,11 @@ fn first_same(
     requires { j ≤ 512 }
     ensures { FirstSame image.now source.now fragments.now table.now stands.now j e result }
 {
-    let mut i: u64 = 0;
-    while i < j {
+    for i in 0..j {
         let f = entry_of(table, i);
         if stands_same(image, source, fragments, e, j, f, i, stands) {
             return f.at;
         }
-        i += 1;
     }
     0
 }
@@ -133,11 +117,9 @@ fn all_stand(
     requires { (n ≤ 512) × (512 ≤ length stands.old) }
     ensures { AllStand image.now source.now fragments.now table.now n stands.old stands.new }
 {
-    let mut j: u64 = 0;
-    while j < n {
+    for j in 0..n {
         let by = stands_in(image, source, fragments, table, stands, j);
         put(stands, j, by);
-        j += 1;
     }
 }
 
@@ -149,21 +131,15 @@ pub(crate) fn share_times(
     n: u64,
     nf: u64,
     stands: &mut [u64; 512],
-) -> Check
+) -> Result<(), Refusal>
     requires { (n ≤ 1536) × (nf ≤ 1024) × (3072 ≤ length fragments.now) }
     ensures { ShareTimes image.now source.now fragments.now n nf result stands.old stands.new }
 {
     let mut table = [0u64; 4096];
     let met = fill_table(image, source, &mut table, n, nf);
-    let groups = least(met, 512);
-    let units = units_in(image, &table, groups);
-    if let Check::Refused { number, place } = units {
-        return Check::Refused { number, place };
-    }
-    let streams = streams_in(image, fragments, &table, groups);
-    if let Check::Refused { number, place } = streams {
-        return Check::Refused { number, place };
-    }
+    let groups = met.min(512);
+    units_in(image, &table, groups)?;
+    streams_in(image, fragments, &table, groups)?;
     all_stand(image, source, fragments, &table, groups, stands);
-    Check::Fine
+    Ok(())
 }

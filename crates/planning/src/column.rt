@@ -3,22 +3,18 @@ ghost use Rattle.std.specs.Prelude.{◌≡◌, ◌≤◌};
 ghost use Rattle.choices.specs.Chosen.{rules};
 ghost use Rattle.planning.specs.Planning.{signal_if, ChannelPlan, ChannelsPlan};
 
+use crate::groups::Group;
 use crate::words::{put_column, put_omission, word};
 use choices::Choices;
 use deciding::{Decision, decide};
+use fields::refusal::Refusal;
 
-// A refusal, or the numbers of columns, omissions and fragments so far.
-#[derive(Drop)]
-pub enum Progress {
-    Refused {
-        number: u64,
-        place: u64,
-    },
-    Done {
-        columns: u64,
-        omissions: u64,
-        fragments: u64,
-    },
+// The numbers of columns, omissions and fragments so far.
+#[derive(Clone, Copy)]
+pub struct Progress {
+    pub columns: u64,
+    pub omissions: u64,
+    pub fragments: u64,
 }
 
 // The seventh word of a column: n fragments are kept before its own.
@@ -32,51 +28,58 @@ fn signal_word(signal: bool, n: u64) -> u64
     0
 }
 
-// The CN at c of the group at g: of the DG at d, with so many records, and the column of its master, 0 for none.
+// The CN at c of a group, whose master has that column, 0 for none.
 pub(crate) fn plan_channel(
     image: &[u8],
     choices: Choices,
     table: &[u8],
     fragments: &mut [u64],
     columns: &mut [u64],
-    g: u64,
-    d: u64,
-    records: u64,
+    group: Group,
     master: u64,
     c: u64,
-    nc: u64,
-    no: u64,
-    nf: u64,
-) -> Progress
-    requires { (nc ≤ 4194304) × (no ≤ 4194304) × (nf ≤ 1024) }
-    ensures { ChannelPlan (rules choices table.now) image.now g d records master c nc no nf columns.old fragments.old
-        result columns.new fragments.new }
+    so_far: Progress,
+) -> Result<Progress, Refusal>
+    requires { (so_far.columns ≤ 4194304) × (so_far.omissions ≤ 4194304) × (so_far.fragments ≤ 1024) }
+    ensures { ChannelPlan (rules choices table.now) image.now group.at group.dg group.records master c
+        so_far.columns so_far.omissions so_far.fragments columns.old fragments.old result columns.new fragments.new }
 {
-    let photos = choices.photos;
-    let decision = decide(image, photos, table, fragments, nf, g, c);
+    let decision = decide(
+        image,
+        choices.photos,
+        table,
+        fragments,
+        so_far.fragments,
+        group.at,
+        c,
+    )?;
     match decision {
-        Decision::Refused { number, place } => Progress::Refused { number, place },
         Decision::Omitted { reason } => {
-            put_omission(columns, no, c, reason);
-            Progress::Done {
-                columns: nc,
-                omissions: no + 1,
-                fragments: nf,
-            }
+            put_omission(columns, so_far.omissions, c, u64::from(reason));
+            Ok(Progress {
+                columns: so_far.columns,
+                omissions: so_far.omissions + 1,
+                fragments: so_far.fragments,
+            })
         }
         Decision::Kept { signal, count } => {
-            let word = signal_word(signal, nf);
-            put_column(columns, nc, c, g, d, records, 0, master, word, count - nf);
-            Progress::Done {
-                columns: nc + 1,
-                omissions: no,
+            let word = signal_word(signal, so_far.fragments);
+            let own = count - so_far.fragments;
+            put_column(
+                columns,
+                so_far.columns,
+                [c, group.at, group.dg, group.records, 0, master, word, own],
+            );
+            Ok(Progress {
+                columns: so_far.columns + 1,
+                omissions: so_far.omissions,
                 fragments: count,
-            }
+            })
         }
     }
 }
 
-// The CN from item i on but own, with the same for each.
+// The CN of a group but own, with the same for each.
 pub(crate) fn plan_channels(
     image: &[u8],
     choices: Choices,
@@ -85,69 +88,26 @@ pub(crate) fn plan_channels(
     fragments: &mut [u64],
     columns: &mut [u64],
     n: u64,
-    i: u64,
-    g: u64,
-    d: u64,
-    records: u64,
+    group: Group,
     own: u64,
     master: u64,
-    nc: u64,
-    no: u64,
-    nf: u64,
-) -> Progress
-    requires { (n ≤ 1536) × (i ≤ n) × (nc ≤ 4190208) × (no ≤ 4190208) × (nf ≤ 1024) }
-    ensures { ChannelsPlan (rules choices table.now) image.now source.now n i g d records own master nc no nf columns.old fragments.old
-        result columns.new fragments.new }
+    so_far: Progress,
+) -> Result<Progress, Refusal>
+    requires { (n ≤ 1536) × (group.item ≤ n) × (so_far.columns ≤ 4190208) × (so_far.omissions ≤ 4190208) × (so_far.fragments ≤ 1024) }
+    ensures { ChannelsPlan (rules choices table.now) image.now source.now n group.item group.at group.dg group.records own master
+        so_far.columns so_far.omissions so_far.fragments columns.old fragments.old result columns.new fragments.new }
 {
-    let mut k = i;
-    let mut columns_now = nc;
-    let mut omissions_now = no;
-    let mut fragments_now = nf;
-    while k < n {
+    let mut planned = so_far;
+    for k in group.item..n {
         if word(source, 1536 + k) != 0 {
-            return Progress::Done {
-                columns: columns_now,
-                omissions: omissions_now,
-                fragments: fragments_now,
-            };
+            return Ok(planned);
         }
         let c = word(source, k);
-        k += 1;
         if c != own {
-            let planned = plan_channel(
-                image,
-                choices,
-                table,
-                fragments,
-                columns,
-                g,
-                d,
-                records,
-                master,
-                c,
-                columns_now,
-                omissions_now,
-                fragments_now,
-            );
-            match planned {
-                Progress::Refused { number, place } => {
-                    return Progress::Refused { number, place };
-                }
-                Progress::Done {
-                    columns: more,
-                    omissions: others,
-                    fragments: found,
-                } => {
-                    columns_now = more;
-                    omissions_now = others;
-                    fragments_now = found;
-                }
-            }
+            planned = plan_channel(
+                image, choices, table, fragments, columns, group, master, c, planned,
+            )?;
         }
     }
-    Progress::Done {
-        columns: columns_now,
-        omissions: omissions_now,
-        fragments: fragments_now,
-    }
+    Ok(planned)
 }

@@ -7,56 +7,45 @@ ghost use Rattle.planning.specs.Table.{entries_at};
 ghost use Rattle.planning.specs.Compared.{each_over, unit_over, shares_key, compared_over, any_over, stream_over};
 
 use crate::table::{Entry, entry_of, words_from};
-use fields::Check;
+use fields::refusal::Refusal;
 use sharing::key::key_same;
 use sharing::stream::stream_in;
 use sharing::text::unit_in;
 
 // The unit of a group's master, if it has one.
-fn unit_of(image: &[u8], e: Entry) -> Check
+fn unit_of(image: &[u8], e: Entry) -> Result<(), Refusal>
     ensures { verdict_of result ≡ unit_over image.now e }
 {
     if e.master == 0 {
-        return Check::Fine;
+        return Ok(());
     }
     unit_in(image, e.master)
 }
 
 // Those of n groups, in file order.
-pub(crate) fn units_in(image: &[u8], table: &[u64], n: u64) -> Check
+pub(crate) fn units_in(image: &[u8], table: &[u64], n: u64) -> Result<(), Refusal>
     requires { n ≤ 1536 }
     ensures { verdict_of result ≡ each_over (unit_over image.now) (entries_at table.now 0 n) }
 {
-    let mut j: u64 = 0;
-    while j < n {
+    for j in 0..n {
         let e = entry_of(table, j);
-        let found = unit_of(image, e);
-        if let Check::Refused { number, place } = found {
-            return Check::Refused { number, place };
-        }
-        j += 1;
+        unit_of(image, e)?;
     }
-    Check::Fine
+    Ok(())
 }
 
 // The group f has a master, and the key of e's.
 pub(crate) fn shares_key(image: &[u8], e: Entry, f: Entry) -> bool
     ensures { result ≡ shares_key image.now e f }
 {
-    if f.master == 0 {
-        return false;
-    }
-    key_same(image, e.at, e.master, e.records, f.at, f.master, f.records)
+    f.master != 0 && key_same(image, e.at, e.master, e.records, f.at, f.master, f.records)
 }
 
 // The same as a number.
 fn with_key(image: &[u8], e: Entry, f: Entry) -> u64
     ensures { (result ≡ pick (shares_key image.now e f) 1 0) × (result ≤ 1) }
 {
-    if shares_key(image, e, f) {
-        return 1;
-    }
-    0
+    shares_key(image, e, f) as u64
 }
 
 // The group e, one of n, has a master, and another one's master has its key.
@@ -67,15 +56,13 @@ fn is_compared(image: &[u8], table: &[u64], n: u64, e: Entry) -> bool
     if e.master == 0 {
         return false;
     }
-    let mut j: u64 = 0;
     let mut many: u64 = 0;
-    while j < n {
+    for j in 0..n {
         let f = entry_of(table, j);
         many += with_key(image, e, f);
         if 1 < many {
             return true;
         }
-        j += 1;
     }
     false
 }
@@ -85,10 +72,7 @@ fn is_compared_in(image: &[u8], table: &[u64], n: u64, d: u64, e: Entry) -> bool
     requires { n ≤ 1536 }
     ensures { result ≡ both (eqb e.dg d) (compared_over image.now (entries_at table.now 0 n) e) }
 {
-    if e.dg != d {
-        return false;
-    }
-    is_compared(image, table, n, e)
+    e.dg == d && is_compared(image, table, n, e)
 }
 
 // One of the n groups is.
@@ -96,46 +80,50 @@ fn any_compared(image: &[u8], table: &[u64], n: u64, d: u64) -> bool
     requires { n ≤ 1536 }
     ensures { result ≡ any_over image.now (entries_at table.now 0 n) d (entries_at table.now 0 n) }
 {
-    let mut j: u64 = 0;
-    while j < n {
+    for j in 0..n {
         let e = entry_of(table, j);
         if is_compared_in(image, table, n, d, e) {
             return true;
         }
-        j += 1;
     }
     false
 }
 
 // The data of the group e, if it is alone in its DG and compared; of several groups it was read to count them.
-fn stream_of(image: &[u8], fragments: &[u64], table: &[u64], n: u64, e: Entry) -> Check
+fn stream_of(
+    image: &[u8],
+    fragments: &[u64],
+    table: &[u64],
+    n: u64,
+    e: Entry,
+) -> Result<(), Refusal>
     requires { n ≤ 1536 }
     ensures { verdict_of result ≡ stream_over image.now fragments.now (entries_at table.now 0 n) e }
 {
     if e.count != 1 {
-        return Check::Fine;
+        return Ok(());
     }
     if any_compared(image, table, n, e.dg) {
         let own = words_from(fragments, e.fragments, e.words);
         return stream_in(image, e.dg, e.at, own);
     }
-    Check::Fine
+    Ok(())
 }
 
 // That of all n groups.
-pub(crate) fn streams_in(image: &[u8], fragments: &[u64], table: &[u64], n: u64) -> Check
+pub(crate) fn streams_in(
+    image: &[u8],
+    fragments: &[u64],
+    table: &[u64],
+    n: u64,
+) -> Result<(), Refusal>
     requires { n ≤ 1536 }
     ensures { verdict_of result
         ≡ each_over (stream_over image.now fragments.now (entries_at table.now 0 n)) (entries_at table.now 0 n) }
 {
-    let mut j: u64 = 0;
-    while j < n {
+    for j in 0..n {
         let e = entry_of(table, j);
-        let found = stream_of(image, fragments, table, n, e);
-        if let Check::Refused { number, place } = found {
-            return Check::Refused { number, place };
-        }
-        j += 1;
+        stream_of(image, fragments, table, n, e)?;
     }
-    Check::Fine
+    Ok(())
 }

@@ -7,23 +7,20 @@ ghost use Rattle.mdf.specs.Records.{sorted_in};
 ghost use Rattle.planning.specs.Items.{items_from};
 ghost use Rattle.planning.specs.DataWords.{ranges_over, signal_over, signals_over, records_over, data_over, all_data_over};
 
-use crate::span::{end_of, first_group, least, own_groups};
+use crate::span::{end_of, first_group, own_groups};
 use crate::stage::any_nonempty;
 use crate::words::word;
-use fields::Check;
+use fields::refusal::Refusal;
 use records::fragment::ranges_in;
 use records::sorted::sorted_in;
 
 // 4: the ranges of m fragments from number i on.
-fn ranges_of(image: &[u8], fragments: &[u64], i: u64, m: u64) -> Check
+fn ranges_of(image: &[u8], fragments: &[u64], i: u64, m: u64) -> Result<(), Refusal>
     requires { 3072 ≤ length fragments.now }
     ensures { verdict_of result ≡ ranges_over image.now fragments.now i m }
 {
-    if 1024 < i {
-        return Check::Fine;
-    }
-    if 1024 - i < m {
-        return Check::Fine;
+    if 1024 < i || 1024 - i < m {
+        return Ok(());
     }
     let from = 3 * i as usize;
     let to = from + 3 * m as usize;
@@ -31,46 +28,57 @@ fn ranges_of(image: &[u8], fragments: &[u64], i: u64, m: u64) -> Check
 }
 
 // The signal data of column k, if it is from the DG at d.
-fn signal_in(image: &[u8], fragments: &[u64], columns: &[u64], k: u64, d: u64) -> Check
+fn signal_in(
+    image: &[u8],
+    fragments: &[u64],
+    columns: &[u64],
+    k: u64,
+    d: u64,
+) -> Result<(), Refusal>
     requires { (k ≤ 4194304) × (3072 ≤ length fragments.now) }
     ensures { verdict_of result ≡ signal_over image.now columns.now fragments.now d k }
 {
     if word(columns, 8 * k + 2) != d {
-        return Check::Fine;
+        return Ok(());
     }
     let signal = word(columns, 8 * k + 6);
     if signal == 0 {
-        return Check::Fine;
+        return Ok(());
     }
     let m = word(columns, 8 * k + 7);
     ranges_of(image, fragments, signal - 1, m)
 }
 
 // The signal data of all n columns.
-fn signals_in(image: &[u8], fragments: &[u64], columns: &[u64], n: u64, d: u64) -> Check
+fn signals_in(
+    image: &[u8],
+    fragments: &[u64],
+    columns: &[u64],
+    n: u64,
+    d: u64,
+) -> Result<(), Refusal>
     requires { (n ≤ 4194304) × (3072 ≤ length fragments.now) }
     ensures { verdict_of result ≡ signals_over image.now columns.now fragments.now d 0 n }
 {
-    let mut k: u64 = 0;
-    while k < n {
-        let found = signal_in(image, fragments, columns, k, d);
-        if let Check::Refused { number, place } = found {
-            return Check::Refused { number, place };
-        }
-        k += 1;
+    for k in 0..n {
+        signal_in(image, fragments, columns, k, d)?;
     }
-    Check::Fine
+    Ok(())
 }
 
 // The records of the group at g, alone in the DG at d, in the fragments from number i on up to end.
-fn sorted_of(image: &[u8], fragments: &[u64], d: u64, g: u64, i: u64, end: u64) -> Check
+fn sorted_of(
+    image: &[u8],
+    fragments: &[u64],
+    d: u64,
+    g: u64,
+    i: u64,
+    end: u64,
+) -> Result<(), Refusal>
     requires { (end ≤ 1024) × (3072 ≤ length fragments.now) }
     ensures { verdict_of result ≡ sorted_in image.now d g (fragments_of (part (3 * i) (3 * (end - i)) fragments.now)) }
 {
-    if end <= i {
-        return sorted_in(image, d, g, &fragments[0..0]);
-    }
-    let from = 3 * i as usize;
+    let from = 3 * i.min(end) as usize;
     let to = 3 * end as usize;
     sorted_in(image, d, g, &fragments[from..to])
 }
@@ -85,16 +93,15 @@ fn records_of(
     i: u64,
     d: u64,
     m: u64,
-) -> Check
+) -> Result<(), Refusal>
     requires { (n ≤ 1536) × (nf ≤ 1024) × (3072 ≤ length fragments.now) }
     ensures { verdict_of result ≡ records_over image.now fragments.now nf d m (items_from source.now i (n - i)) }
 {
     if own_groups(source, n, i) != 1 {
-        return Check::Fine;
+        return Ok(());
     }
     let g = first_group(source, n, i);
-    let all = end_of(source, n, i, nf);
-    let end = least(all, nf);
+    let end = end_of(source, n, i, nf).min(nf);
     sorted_of(image, fragments, d, g, m, end)
 }
 
@@ -110,17 +117,13 @@ fn data_in(
     i: u64,
     d: u64,
     m: u64,
-) -> Check
+) -> Result<(), Refusal>
     requires { (n ≤ 1536) × (nf ≤ 1024) × (nc ≤ 4194304) × (3072 ≤ length fragments.now) }
     ensures { verdict_of result
         ≡ data_over image.now columns.now fragments.now nf nc d m (items_from source.now i (n - i)) }
 {
     if any_nonempty(image, columns, nc, d) {
-        let found = records_of(image, source, fragments, n, nf, i, d, m);
-        if let Check::Refused { number, place } = found {
-            return Check::Refused { number, place };
-        }
-        return signals_in(image, fragments, columns, nc, d);
+        records_of(image, source, fragments, n, nf, i, d, m)?;
     }
     signals_in(image, fragments, columns, nc, d)
 }
@@ -134,22 +137,28 @@ pub(crate) fn all_data_in(
     n: u64,
     nf: u64,
     nc: u64,
-) -> Check
+) -> Result<(), Refusal>
     requires { (n ≤ 1536) × (nf ≤ 1024) × (nc ≤ 4194304) × (3072 ≤ length fragments.now) }
     ensures { verdict_of result
         ≡ all_data_over image.now columns.now fragments.now nf nc (items_from source.now 0 n) }
 {
-    let mut i: u64 = 0;
-    while i < n {
+    for i in 0..n {
         let mark = word(source, 1536 + i);
         let d = word(source, i);
-        i += 1;
         if 1 < mark {
-            let found = data_in(image, source, fragments, columns, n, nf, nc, i, d, mark - 2);
-            if let Check::Refused { number, place } = found {
-                return Check::Refused { number, place };
-            }
+            data_in(
+                image,
+                source,
+                fragments,
+                columns,
+                n,
+                nf,
+                nc,
+                i + 1,
+                d,
+                mark - 2,
+            )?;
         }
     }
-    Check::Fine
+    Ok(())
 }

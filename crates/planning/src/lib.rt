@@ -1,4 +1,6 @@
 // Which columns and omissions a recording gets, kept in lent words.
+#![tactic(auto)]
+
 pub mod clocks;
 pub mod column;
 pub mod compared;

@@ -1,141 +1,113 @@
 // The groups in the order of the walk.
 ghost use Rattle.std.specs.Prelude.{◌≤◌, length};
 ghost use Rattle.choices.specs.Chosen.{rules};
-ghost use Rattle.planning.specs.Noted.{Noted};
 ghost use Rattle.planning.specs.Planned.{GroupPlan, GroupsPlan};
 
 use crate::column::{Progress, plan_channels};
-use crate::groups::note_items;
+use crate::groups::{Group, Notes, note_items};
 use crate::timing::{own_of, settle, time_in};
 use crate::words::word;
 use channels::is_storage;
 use choices::Choices;
-use fields::Check;
+use fields::refusal::Refusal;
 
-// The group with its CG at g, its channels from item i on, of the DG at d, with so many records.
+// A group, where so many columns, omissions and fragments are kept.
 pub(crate) fn plan_group(
     image: &[u8],
     choices: Choices,
     table: &[u8],
-    source: &[u64],
-    before: &[u64],
-    index: &[u16; 4096],
-    stands: &[u64],
+    notes: Notes,
     fragments: &mut [u64],
     columns: &mut [u64],
-    n: u64,
-    i: u64,
-    g: u64,
-    d: u64,
-    records: u64,
-    nc: u64,
-    no: u64,
-    nf: u64,
-) -> Progress
-    requires { (n ≤ 1536) × (i ≤ n) × (nc ≤ 4190000) × (no ≤ 4190000) × (nf ≤ 1024) × (4096 ≤ length columns.old)
-        × Noted source.now n before.now index.now }
-    ensures { GroupPlan (rules choices table.now) image.now source.now stands.now n i g d records nc no nf
+    group: Group,
+    so_far: Progress,
+) -> Result<Progress, Refusal>
+    requires { (group.item ≤ notes.items) × (so_far.columns ≤ 4190000) × (so_far.omissions ≤ 4190000) × (so_far.fragments ≤ 1024)
+        × (4096 ≤ length columns.old) }
+    ensures { GroupPlan (rules choices table.now) image.now notes.entry.source.now notes.entry.stands.now notes.entry.items
+        group.item group.at group.dg group.records so_far.columns so_far.omissions so_far.fragments
         columns.old fragments.old result columns.new fragments.new }
 {
-    if is_storage(image, g) {
-        return Progress::Done {
-            columns: nc,
-            omissions: no,
-            fragments: nf,
-        };
+    if is_storage(image, group.at) {
+        return Ok(so_far);
     }
-    let own = own_of(image, source, n, i, g);
+    let own = own_of(image, notes.source, notes.items, group.item, group.at);
     let settled = settle(
-        image, source, before, index, stands, columns, n, i, g, d, records, nc, no,
+        image,
+        notes,
+        columns,
+        group,
+        so_far.columns,
+        so_far.omissions,
     );
-    let master = settled.master;
-    let more = settled.columns;
-    let others = settled.omissions;
-    let photos = choices.photos;
-    let tested = time_in(image, photos, columns, nc, more);
-    if let Check::Refused { number, place } = tested {
-        return Progress::Refused { number, place };
-    }
+    time_in(
+        image,
+        choices.photos,
+        columns,
+        so_far.columns,
+        settled.columns,
+    )?;
+    let next = Progress {
+        columns: settled.columns,
+        omissions: settled.omissions,
+        fragments: so_far.fragments,
+    };
     plan_channels(
-        image, choices, table, source, fragments, columns, n, i, g, d, records, own, master, more,
-        others, nf,
+        image,
+        choices,
+        table,
+        notes.source,
+        fragments,
+        columns,
+        notes.items,
+        group,
+        own,
+        settled.master,
+        next,
     )
 }
 
-// All groups of n items, by what is noted of these.
+// All groups, by what is noted of the items; nf fragments are kept.
 fn plan_noted(
     image: &[u8],
     choices: Choices,
     table: &[u8],
-    source: &[u64],
-    before: &[u64],
-    index: &[u16; 4096],
-    stands: &[u64],
+    notes: Notes,
     fragments: &mut [u64],
     columns: &mut [u64],
-    n: u64,
     nf: u64,
-) -> Progress
-    requires { (n ≤ 1536) × (nf ≤ 1024) × (4096 ≤ length columns.old)
-        × Noted source.now n before.now index.now }
-    ensures { GroupsPlan (rules choices table.now) image.now source.now stands.now n nf
+) -> Result<Progress, Refusal>
+    requires { (nf ≤ 1024) × (4096 ≤ length columns.old) }
+    ensures { GroupsPlan (rules choices table.now) image.now notes.entry.source.now notes.entry.stands.now notes.entry.items nf
         columns.old fragments.old result columns.new fragments.new }
 {
-    let mut i: u64 = 0;
     let mut g: u64 = 0;
     let mut d: u64 = 0;
-    let mut columns_now: u64 = 0;
-    let mut omissions_now: u64 = 0;
-    let mut fragments_now = nf;
-    while i < n {
-        let mark = word(source, 1536 + i);
-        let at = word(source, i);
-        i += 1;
+    let mut so_far = Progress {
+        columns: 0,
+        omissions: 0,
+        fragments: nf,
+    };
+    for i in 0..notes.items {
+        let mark = word(notes.source, 1536 + i);
+        let at = word(notes.source, i);
         if mark == 1 {
-            let records = word(source, 3584 + g);
+            let records = word(notes.source, 3584 + g);
             g += 1;
-            let planned = plan_group(
-                image,
-                choices,
-                table,
-                source,
-                before,
-                index,
-                stands,
-                fragments,
-                columns,
-                n,
-                i,
+            let group = Group {
+                item: i + 1,
                 at,
-                d,
+                dg: d,
                 records,
-                columns_now,
-                omissions_now,
-                fragments_now,
-            );
-            match planned {
-                Progress::Refused { number, place } => {
-                    return Progress::Refused { number, place };
-                }
-                Progress::Done {
-                    columns: more,
-                    omissions: others,
-                    fragments: found,
-                } => {
-                    columns_now = more;
-                    omissions_now = others;
-                    fragments_now = found;
-                }
-            }
+            };
+            so_far = plan_group(
+                image, choices, table, notes, fragments, columns, group, so_far,
+            )?;
         } else if mark != 0 {
             d = at;
         }
     }
-    Progress::Done {
-        columns: columns_now,
-        omissions: omissions_now,
-        fragments: fragments_now,
-    }
+    Ok(so_far)
 }
 
 // All groups of n items.
@@ -149,7 +121,7 @@ pub(crate) fn plan_groups(
     columns: &mut [u64],
     n: u64,
     nf: u64,
-) -> Progress
+) -> Result<Progress, Refusal>
     requires { (n ≤ 1536) × (nf ≤ 1024) × (4096 ≤ length columns.old) }
     ensures { GroupsPlan (rules choices table.now) image.now source.now stands.now n nf
         columns.old fragments.old result columns.new fragments.new }
@@ -157,7 +129,12 @@ pub(crate) fn plan_groups(
     let mut before = [0u64; 3072];
     let mut index = [0u16; 4096];
     note_items(source, &mut before, &mut index, n);
-    plan_noted(
-        image, choices, table, source, &before, &index, stands, fragments, columns, n, nf,
-    )
+    let notes = Notes {
+        source,
+        before: &before,
+        index: &index,
+        items: n,
+        stands,
+    };
+    plan_noted(image, choices, table, notes, fragments, columns, nf)
 }

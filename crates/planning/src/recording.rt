@@ -1,35 +1,26 @@
 // A recording is read and planned: identification, the walk, the counts, the attachments, which masters stand for others, the plan, the data stage.
 ghost use Rattle.std.specs.Prelude.{◌≡◌, ◌≤◌, length, replicate};
 ghost use Rattle.choices.specs.Chosen.{rules};
-ghost use Rattle.planning.specs.Answer.{StageOver, StandsRead, StandAlike, PlanStood, PlanShared, PlanRead, given, plan_over, PlanLeft, plan_into};
+ghost use Rattle.planning.specs.Answer.{StageOver, StandsRead, StandAlike, PlanStood, PlanShared, PlanRead, given, plan_over, plan_left, plan_into};
 
 use crate::clocks::share_times;
-use crate::column::Progress;
 use crate::data::all_data_in;
 use crate::groups::shared_groups;
 use crate::planned::plan_groups;
 use crate::stage::blocks_in;
 use choices::Choices;
-use fields::Check;
+use fields::refusal::Refusal;
 use photos::photos_first;
-use reading::answer::Read;
 use reading::recording::{clear, read};
 
-// Document 01's refusal with number and place; or the number of blocks met, of the walk's fragments, of columns, of omissions, and of groups
-// that another stands for.
-#[derive(Drop)]
-pub enum Planned {
-    Refused {
-        number: u64,
-        place: u64,
-    },
-    Done {
-        items: u64,
-        fragments: u64,
-        columns: u64,
-        omissions: u64,
-        shared: u64,
-    },
+// The number of blocks met, of the walk's fragments, of columns, of omissions, and of groups that another stands for.
+#[derive(Clone, Copy)]
+pub struct Planned {
+    pub items: u64,
+    pub fragments: u64,
+    pub columns: u64,
+    pub omissions: u64,
+    pub shared: u64,
 }
 
 // The data stage of nc columns, then their numbers of blocks.
@@ -42,14 +33,11 @@ fn stage_in(
     n: u64,
     nf: u64,
     nc: u64,
-) -> Check
+) -> Result<(), Refusal>
     requires { (n ≤ 1536) × (nf ≤ 1024) × (nc ≤ 4194304) × (3072 ≤ length fragments.now) }
     ensures { StageOver image.now size source.now fragments.now columns.now n nf nc result }
 {
-    let found = all_data_in(image, source, fragments, columns, n, nf, nc);
-    if let Check::Refused { number, place } = found {
-        return Check::Refused { number, place };
-    }
+    all_data_in(image, source, fragments, columns, n, nf, nc)?;
     blocks_in(image, columns, nc, size)
 }
 
@@ -62,14 +50,14 @@ fn shared_in(
     n: u64,
     nf: u64,
     stands: &mut [u64; 512],
-) -> Check
+) -> Result<(), Refusal>
     requires { (n ≤ 1536) × (nf ≤ 1024) × (3072 ≤ length fragments.now) × (stands.old ≡ replicate 512 0) }
     ensures { StandsRead share image.now source.now fragments.now n nf result stands.new }
 {
     if share {
         return share_times(image, source, fragments, n, nf, stands);
     }
-    Check::Fine
+    Ok(())
 }
 
 // The words of those that stand for others; none where no group does, so that none is sought.
@@ -77,7 +65,7 @@ fn some_stands(stands: &[u64]) -> &[u64]
     ensures { StandAlike stands.now result.now }
 {
     if shared_groups(stands) == 0 {
-        return &stands[0..0];
+        return &[];
     }
     stands
 }
@@ -94,7 +82,7 @@ fn plan_stood(
     columns: &mut [u64],
     n: u64,
     nf: u64,
-) -> Planned
+) -> Result<Planned, Refusal>
     requires { (n ≤ 1536) × (nf ≤ 1024) × (3072 ≤ length fragments.old) × (6144 ≤ length columns.old) }
     ensures { PlanStood (rules choices table.now) image.now size source.now stands.now fragments.old
         columns.old n nf result fragments.new columns.new }
@@ -102,27 +90,24 @@ fn plan_stood(
     let some = some_stands(stands);
     let planned = plan_groups(
         image, choices, table, source, some, fragments, columns, n, nf,
-    );
-    match planned {
-        Progress::Refused { number, place } => Planned::Refused { number, place },
-        Progress::Done {
-            columns: nc,
-            omissions: no,
-            fragments: all,
-        } => {
-            let checked = stage_in(image, size, source, fragments, columns, n, nf, nc);
-            match checked {
-                Check::Refused { number, place } => Planned::Refused { number, place },
-                Check::Fine => Planned::Done {
-                    items: n,
-                    fragments: nf,
-                    columns: nc,
-                    omissions: no,
-                    shared: shared_groups(stands),
-                },
-            }
-        }
-    }
+    )?;
+    stage_in(
+        image,
+        size,
+        source,
+        fragments,
+        columns,
+        n,
+        nf,
+        planned.columns,
+    )?;
+    Ok(Planned {
+        items: n,
+        fragments: nf,
+        columns: planned.columns,
+        omissions: planned.omissions,
+        shared: shared_groups(stands),
+    })
 }
 
 // The same, with those that stand for others found first.
@@ -136,17 +121,13 @@ fn plan_shared(
     columns: &mut [u64],
     n: u64,
     nf: u64,
-) -> Planned
+) -> Result<Planned, Refusal>
     requires { (n ≤ 1536) × (nf ≤ 1024) × (3072 ≤ length fragments.old) × (6144 ≤ length columns.old) }
     ensures { PlanShared (rules choices table.now) image.now size source.now fragments.old columns.old n nf
         result fragments.new columns.new }
 {
     let mut stands = [0u64; 512];
-    let share = choices.share;
-    let known = shared_in(image, share, source, fragments, n, nf, &mut stands);
-    if let Check::Refused { number, place } = known {
-        return Planned::Refused { number, place };
-    }
+    shared_in(image, choices.share, source, fragments, n, nf, &mut stands)?;
     plan_stood(
         image, size, choices, table, source, &stands, fragments, columns, n, nf,
     )
@@ -163,16 +144,12 @@ fn plan_read(
     columns: &mut [u64],
     n: u64,
     nf: u64,
-) -> Planned
+) -> Result<Planned, Refusal>
     requires { (n ≤ 1536) × (nf ≤ 1024) × (3072 ≤ length fragments.old) × (6144 ≤ length columns.old) }
     ensures { PlanRead (rules choices table.now) image.now size source.now fragments.old columns.old n nf
         result fragments.new columns.new }
 {
-    let photos = choices.photos;
-    let followed = photos_first(photos, image);
-    if let Check::Refused { number, place } = followed {
-        return Planned::Refused { number, place };
-    }
+    photos_first(choices.photos, image)?;
     plan_shared(
         image, size, choices, table, source, fragments, columns, n, nf,
     )
@@ -187,22 +164,23 @@ fn plan_all(
     source: &mut [u64],
     fragments: &mut [u64],
     columns: &mut [u64],
-) -> Planned
+) -> Result<Planned, Refusal>
     requires { (4096 ≤ length source.old) × (3072 ≤ length fragments.old) × (6144 ≤ length columns.old) }
     ensures { length image.now ≤ 4294967296 → given result source.new fragments.new columns.new
         ≡ plan_over (rules choices table.now) image.now size source.old fragments.old columns.old }
 {
-    let met = read(image, source, fragments);
-    match met {
-        Read::Refused { number, place } => Planned::Refused { number, place },
-        Read::Done {
-            items,
-            groups,
-            fragments: nf,
-        } => plan_read(
-            image, size, choices, table, source, fragments, columns, items, nf,
-        ),
-    }
+    let met = read(image, source, fragments)?;
+    plan_read(
+        image,
+        size,
+        choices,
+        table,
+        source,
+        fragments,
+        columns,
+        met.items,
+        met.fragments,
+    )
 }
 
 // A recording of at most 4 GiB is planned into lent words: 4,096 for its blocks, groups and counts, 3,072 for its fragments, 6,144 for columns and omissions.
@@ -214,34 +192,18 @@ pub fn plan(
     source: &mut [u64],
     fragments: &mut [u64],
     columns: &mut [u64],
-) -> Planned
-    ensures { length image.now ≤ 4294967296 → PlanLeft.plan_left result source.new fragments.new columns.new
+) -> Result<Planned, Refusal>
+    ensures { length image.now ≤ 4294967296 → plan_left result source.new fragments.new columns.new
         ≡ plan_into (rules choices table.now) image.now size source.old fragments.old columns.old }
 {
-    if source.len() < 4096 {
-        return Planned::Refused {
-            number: 1,
-            place: 0,
-        };
-    }
-    if fragments.len() < 3072 {
-        return Planned::Refused {
-            number: 1,
-            place: 0,
-        };
-    }
-    if columns.len() < 6144 {
-        return Planned::Refused {
-            number: 1,
-            place: 0,
-        };
+    if source.len() < 4096 || fragments.len() < 3072 || columns.len() < 6144 {
+        return Err(Refusal::Arguments);
     }
     let answer = plan_all(image, size, choices, table, source, fragments, columns);
-    if let Planned::Refused { number, place } = answer {
+    if answer.is_err() {
         clear(source);
         clear(fragments);
         clear(columns);
-        return Planned::Refused { number, place };
     }
     answer
 }

@@ -1,5 +1,5 @@
 // The groups and fragments of a DG, among the items past it. Items past the 1,536th do not count.
-ghost use Rattle.std.specs.Prelude.{◌≡◌, ◌≤◌, ◌-◌, min, length, get_or};
+ghost use Rattle.std.specs.Prelude.{◌≡◌, ◌-◌, min, length, get_or};
 ghost use Rattle.mdf.specs.Walk.{level_cg, tally};
 ghost use Rattle.mdf.specs.Group.{addresses, groups_of, up_to};
 ghost use Rattle.planning.specs.Items.{items_from};
@@ -7,30 +7,18 @@ ghost use Rattle.planning.specs.Span.{past_dg};
 
 use crate::words::word;
 
-// The lesser of two numbers.
-pub fn least(a: u64, b: u64) -> u64
-    ensures { (result ≡ min a b) × (result ≤ a) × (result ≤ b) }
-{
-    if a < b {
-        return a;
-    }
-    b
-}
-
 // The number of groups from item i on up to the next DG, of n items.
 pub fn own_groups(source: &[u64], n: u64, i: u64) -> u64
     ensures { result ≡ length (groups_of (items_from source.now i (min n 1536 - i))) }
 {
-    let m = least(n, 1536);
-    let mut k = i;
+    let m = n.min(1536);
     let mut groups: u64 = 0;
-    while k < m {
+    for k in i..m {
         let mark = word(source, 1536 + k);
         if 1 < mark {
             return groups;
         }
         groups += mark;
-        k += 1;
     }
     groups
 }
@@ -39,9 +27,8 @@ pub fn own_groups(source: &[u64], n: u64, i: u64) -> u64
 pub fn first_group(source: &[u64], n: u64, i: u64) -> u64
     ensures { result ≡ get_or (addresses (groups_of (items_from source.now i (min n 1536 - i)))) 0 0 }
 {
-    let m = least(n, 1536);
-    let mut k = i;
-    while k < m {
+    let m = n.min(1536);
+    for k in i..m {
         let mark = word(source, 1536 + k);
         if 1 < mark {
             return 0;
@@ -49,7 +36,6 @@ pub fn first_group(source: &[u64], n: u64, i: u64) -> u64
         if mark == 1 {
             return word(source, k);
         }
-        k += 1;
     }
     0
 }
@@ -58,14 +44,12 @@ pub fn first_group(source: &[u64], n: u64, i: u64) -> u64
 pub fn end_of(source: &[u64], n: u64, i: u64, all: u64) -> u64
     ensures { result ≡ up_to all (items_from source.now i (min n 1536 - i)) }
 {
-    let m = least(n, 1536);
-    let mut k = i;
-    while k < m {
+    let m = n.min(1536);
+    for k in i..m {
         let mark = word(source, 1536 + k);
         if 1 < mark {
             return mark - 2;
         }
-        k += 1;
     }
     all
 }
@@ -82,16 +66,16 @@ pub fn past_dg(source: &[u64], n: u64, d: u64) -> Past
     ensures { (result.item ≡ past_dg d 0 (items_from source.now 0 (min n 1536)))
         × (result.groups ≡ tally level_cg.own (items_from source.now 0 (min result.item (min n 1536)))) }
 {
-    let m = least(n, 1536);
-    let mut k: u64 = 0;
+    let m = n.min(1536);
     let mut groups: u64 = 0;
-    while k < m {
+    for k in 0..m {
         let mark = word(source, 1536 + k);
-        let a = word(source, k);
-        k += 1;
         if 1 < mark {
-            if a == d {
-                return Past { item: k, groups };
+            if word(source, k) == d {
+                return Past {
+                    item: k + 1,
+                    groups,
+                };
             }
         } else {
             groups += mark;
@@ -112,10 +96,9 @@ pub fn rest_of(source: &[u64], n: u64, i: u64, all: u64) -> Rest
     ensures { (result.groups ≡ length (groups_of (items_from source.now i (min n 1536 - i))))
         × (result.end ≡ up_to all (items_from source.now i (min n 1536 - i))) }
 {
-    let m = least(n, 1536);
-    let mut k = i;
+    let m = n.min(1536);
     let mut groups: u64 = 0;
-    while k < m {
+    for k in i..m {
         let mark = word(source, 1536 + k);
         if 1 < mark {
             return Rest {
@@ -124,7 +107,6 @@ pub fn rest_of(source: &[u64], n: u64, i: u64, all: u64) -> Rest
             };
         }
         groups += mark;
-        k += 1;
     }
     Rest { groups, end: all }
 }

@@ -5,7 +5,7 @@ ghost use Rattle.planning.specs.DataWords.{nonempty_over};
 
 use crate::words::word;
 use channels::{block_count, width_of};
-use fields::Check;
+use fields::refusal::Refusal;
 
 // Column k is from the DG at d and has bytes.
 fn is_nonempty(image: &[u8], columns: &[u64], k: u64, d: u64) -> bool
@@ -17,10 +17,7 @@ fn is_nonempty(image: &[u8], columns: &[u64], k: u64, d: u64) -> bool
     }
     let c = word(columns, 8 * k);
     let g = word(columns, 8 * k + 1);
-    if 0 < width_of(image, g, c) {
-        return 0 < word(columns, 8 * k + 3);
-    }
-    false
+    0 < width_of(image, g, c) && 0 < word(columns, 8 * k + 3)
 }
 
 // Some of the n columns is.
@@ -28,34 +25,27 @@ pub(crate) fn any_nonempty(image: &[u8], columns: &[u64], n: u64, d: u64) -> boo
     requires { n ≤ 4194304 }
     ensures { result ≡ nonempty_over image.now columns.now d 0 n }
 {
-    let mut k: u64 = 0;
-    while k < n {
+    for k in 0..n {
         if is_nonempty(image, columns, k, d) {
             return true;
         }
-        k += 1;
     }
     false
 }
 
 // 19: a column has too many blocks.
-pub(crate) fn blocks_in(image: &[u8], columns: &[u64], n: u64, size: u64) -> Check
+pub(crate) fn blocks_in(image: &[u8], columns: &[u64], n: u64, size: u64) -> Result<(), Refusal>
     requires { n ≤ 4194304 }
     ensures { BlocksStage image.now columns.now n size result }
 {
-    let mut k: u64 = 0;
-    while k < n {
+    for k in 0..n {
         let c = word(columns, 8 * k);
         let g = word(columns, 8 * k + 1);
         let records = word(columns, 8 * k + 3);
         let width = width_of(image, g, c);
         if 4294967295 < block_count(size, width, records) {
-            return Check::Refused {
-                number: 19,
-                place: c,
-            };
+            return Err(Refusal::OverLimit(c));
         }
-        k += 1;
     }
-    Check::Fine
+    Ok(())
 }

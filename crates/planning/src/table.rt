@@ -4,7 +4,7 @@ ghost use Rattle.base.specs.Blit.{part, blit};
 ghost use Rattle.planning.specs.Items.{items_from};
 ghost use Rattle.planning.specs.Table.{entry_words, table_words, entry_at, owner_of, nobody, entry_in, entries};
 
-use crate::span::{end_of, least, own_groups};
+use crate::span::{end_of, own_groups};
 use crate::timing::own_of;
 use crate::words::{put_column, word};
 
@@ -55,8 +55,7 @@ fn owner_of(source: &[u64], n: u64, nf: u64, i: u64, d: u64, m: u64, j: u64) -> 
     ensures { result ≡ owner_of nf d m j (items_from source.now i (n - i)) }
 {
     let count = own_groups(source, n, i);
-    let all = end_of(source, n, i, nf);
-    let end = least(all, nf);
+    let end = end_of(source, n, i, nf).min(nf);
     if m < end {
         return Owner {
             dg: d,
@@ -95,14 +94,16 @@ fn put_entry(
     put_column(
         table,
         j,
-        g,
-        master,
-        records,
-        owner.dg,
-        owner.groups,
-        owner.count,
-        owner.fragments,
-        owner.words,
+        [
+            g,
+            master,
+            records,
+            owner.dg,
+            owner.groups,
+            owner.count,
+            owner.fragments,
+            owner.words,
+        ],
     );
 }
 
@@ -113,7 +114,6 @@ pub(crate) fn fill_table(image: &[u8], source: &[u64], table: &mut [u64], n: u64
         × (table.new
         ≡ blit 0 (table_words (entries image.now source.now nf nobody 0 (items_from source.now 0 n))) table.old) }
 {
-    let mut i: u64 = 0;
     let mut j: u64 = 0;
     let mut owner = Owner {
         dg: 0,
@@ -122,15 +122,14 @@ pub(crate) fn fill_table(image: &[u8], source: &[u64], table: &mut [u64], n: u64
         fragments: 0,
         words: 0,
     };
-    while i < n {
+    for i in 0..n {
         let mark = word(source, 1536 + i);
         let at = word(source, i);
-        i += 1;
         if mark == 1 {
-            put_entry(image, source, table, n, i, at, j, owner);
+            put_entry(image, source, table, n, i + 1, at, j, owner);
             j += 1;
         } else if mark != 0 {
-            owner = owner_of(source, n, nf, i, at, mark - 2, j);
+            owner = owner_of(source, n, nf, i + 1, at, mark - 2, j);
         }
     }
     j
@@ -140,14 +139,6 @@ pub(crate) fn fill_table(image: &[u8], source: &[u64], table: &mut [u64], n: u64
 pub(crate) fn words_from(w: &[u64], a: u64, n: u64) -> &[u64]
     ensures { result.now ≡ part a n w.now }
 {
-    let all = w.len() as u64;
-    if all < a {
-        return &w[0..0];
-    }
-    let from = a as usize;
-    if all - a < n {
-        return &w[from..];
-    }
-    let to = from + n as usize;
-    &w[from..to]
+    let rest = &w[a.min(w.len() as u64) as usize..];
+    &rest[..n.min(rest.len() as u64) as usize]
 }

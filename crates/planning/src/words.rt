@@ -7,11 +7,7 @@ ghost use Rattle.planning.specs.TimeIn.{is_time_in, time_in};
 pub fn word(w: &[u64], i: u64) -> u64
     ensures { result ≡ get_or w.now i 0 }
 {
-    let k = i as usize;
-    if k < w.len() {
-        return w[k];
-    }
-    0
+    w.get(i as usize).copied().unwrap_or(0)
 }
 
 // Word i set to x; one past the end is lost.
@@ -24,37 +20,22 @@ pub fn put(w: &mut [u64], i: u64, x: u64)
     }
 }
 
-// The first four words of a column: CN, CG, DG, records.
-fn put_source(w: &mut [u64], i: u64, channel: u64, group: u64, dg: u64, records: u64)
+// Words from word i on; those past the end are lost.
+pub fn put_words(w: &mut [u64], i: u64, words: &[u64])
     requires { i < 4294967296 }
-    ensures { w.new ≡ blit i (channel ∷ group ∷ dg ∷ records ∷ []) w.old }
+    ensures { w.new ≡ blit i words.now w.old }
 {
-    put(w, i, channel);
-    put(w, i + 1, group);
-    put(w, i + 2, dg);
-    put(w, i + 3, records);
+    for k in 0..words.len() {
+        put(w, i + k as u64, words[k]);
+    }
 }
 
-// Column k.
-pub(crate) fn put_column(
-    w: &mut [u64],
-    k: u64,
-    channel: u64,
-    group: u64,
-    dg: u64,
-    records: u64,
-    time: u64,
-    master: u64,
-    signal: u64,
-    count: u64,
-)
+// The eight words of column k.
+pub(crate) fn put_column(w: &mut [u64], k: u64, column: [u64; 8])
     requires { k < 16777216 }
-    ensures { w.new
-        ≡ blit (8 * k) (channel ∷ group ∷ dg ∷ records ∷ time ∷ master ∷ signal ∷ count ∷ []) w.old }
+    ensures { w.new ≡ blit (8 * k) column w.old }
 {
-    let i = 8 * k;
-    put_source(w, i, channel, group, dg, records);
-    put_source(w, i + 4, time, master, signal, count);
+    put_words(w, 8 * k, &column);
 }
 
 // Omission k.
@@ -62,9 +43,7 @@ pub(crate) fn put_omission(w: &mut [u64], k: u64, a: u64, reason: u64)
     requires { k < 16777216 }
     ensures { w.new ≡ blit (4096 + 2 * k) (a ∷ reason ∷ []) w.old }
 {
-    let i = 4096 + 2 * k;
-    put(w, i, a);
-    put(w, i + 1, reason);
+    put_words(w, 4096 + 2 * k, &[a, reason]);
 }
 
 // Column k is the time column of the group at g.
@@ -72,10 +51,7 @@ fn is_time(w: &[u64], k: u64, g: u64) -> bool
     requires { k < 16777216 }
     ensures { result ≡ is_time_in w.now k g }
 {
-    if word(w, 8 * k + 4) == 1 {
-        return word(w, 8 * k + 1) == g;
-    }
-    false
+    word(w, 8 * k + 4) == 1 && word(w, 8 * k + 1) == g
 }
 
 // The time column of the group at g among the first n, and 1; 0 for none.
@@ -83,12 +59,10 @@ pub(crate) fn time_column(w: &[u64], n: u64, g: u64) -> u64
     requires { n < 16777216 }
     ensures { result ≡ time_in w.now g 0 n }
 {
-    let mut k: u64 = 0;
-    while k < n {
+    for k in 0..n {
         if is_time(w, k, g) {
             return k + 1;
         }
-        k += 1;
     }
     0
 }

@@ -1,22 +1,27 @@
 -- Names in fours are the names of the definition.
-use Prim.Native.Nat.{ℕ, zero, suc, ◌+◌, ◌-◌, ◌≤◌, ◌<◌, min}
-use Rattle.std.specs.Prelude.{List, [], ◌∷◌, ◌≡◌, length, set}
-use Rattle.std.proofs.Math.Logic.{⊎_elim}
+use Prim.Native.Nat.{ℕ, zero, suc, ◌+◌, ◌≤◌, ◌<◌, min, max}
+use Rattle.std.specs.Prelude.{List, ◌≡◌, length, set, take, eqb, Bool, true, false, Option, Some, None}
 use Rattle.std.proofs.Math.Option.{none, some}
+use Rattle.std.specs.List.{position, position_or_len}
+use Rattle.std.specs.Option.{unwrap_or}
+use Rattle.std.proofs.Math.Logic.{⊎_elim}
 use Rattle.std.proofs.Math.Path.{refl, sym}
-use Rattle.std.proofs.Common.{ap, subst, ◌∙◌}
+use Rattle.std.proofs.Common.{ap, ◌∙◌}
 use native.Mathlib.Omega.{arith}
 use Rattle.std.proofs.Math.ListN.{get_or}
 use Rattle.std.proofs.Math.Seq.{get_or-set_same, get_or-set_other}
-use Rattle.base.specs.ChoiceLaws.{le_yes, le_no, lt_yes, lt_no, eq_yes, eq_no}
-use Rattle.base.specs.Checked.{Checked, ok, refused}
+use Rattle.std.proofs.lemmas.Bool.{eqb-true, eqb-false, lt-ltb}
+use Rattle.std.proofs.lemmas.Option.{none-some}
+use Rattle.std.proofs.lemmas.List.{get_or-take, length-take-le}
+use Rattle.std.proofs.lemmas.List.Quantifiers.{position-Some}
+use Rattle.std.proofs.lemmas.List.Sums.{fails_before_first}
+use Rattle.base.specs.ChoiceLaws.{eq_yes, eq_no}
+use Rattle.base.specs.Checked.{ok, refused}
 use Rattle.stores.specs.Cases.{lt_or_le}
 use Rattle.stores.proofs.RunLaws.{named_late, named_fifth, named-fine, recalled_late, recalled_none, recalled_fine}
-use Rattle.stores.specs.Stores.{Named, named, State, given, sought, naming, recalling}
-use Rattle.positions.specs.declared.Four.{Four}
+use Rattle.stores.specs.Stores.{given, sought, naming, recalling}
 use Rattle.positions.specs.declared.Positions.{Positions}
-use Rattle.positions.specs.declared.Moved.{Moved}
-use Rattle.positions.specs.Held.{held_from, list_of, state_of, FirstAt, MovedAs}
+use Rattle.positions.specs.Held.{held_from, state_of, FirstAt}
 
 -- ---- the first of the names, past the first m of them
 module _ (ns ps : List ℕ) (n : ℕ) where
@@ -88,86 +93,94 @@ module _ (ns ps : List ℕ) (n x : ℕ) where
   given_new zero m i e p q b = let z : i ≡ m = omega arith in rw z (given-alone m (omega arith) (omega arith))
   given_new (suc k) m i e p q b = given-later k (suc k) m i (omega arith) (b m (omega arith)) (given_new k (suc m) i (omega arith) p q b)
 
+-- ---- the index of a name
+abbrev pub index : List ℕ → ℕ → ℕ → Option ℕ
+index ns h n = position (λ k. eqb k n) (take h ns)
+
+-- none is first: each is before the first
+missed : (p : ℕ → Bool) (l : List ℕ) (j : ℕ) → j < length l → position p l ≡ None → j < position_or_len p l
+missed p l j h e =
+    let q : ℕ = position_or_len p l in
+    ⊎_elim (λ a. absurd (none-some q (sym (rw (lt-ltb q (length l) a) at e)))) (λ a. omega (arith, h, a)) (lt_or_le q (length l))
+
+module _ (ns : List ℕ) (h n : ℕ) (l : h ≤ length ns) where
+  pub index-some : (i : ℕ) → index ns h n ≡ Some i → FirstAt ns h n i × (i < h)
+  index-some i e =
+      let s : (i < length (take h ns)) × (eqb (get_or (take h ns) i 0) n ≡ true) × ((k : ℕ) → k < i → eqb (get_or (take h ns) k 0) n ≡ false) =
+      position-Some (λ k. eqb k n) (take h ns) i 0 e in
+      let m : i < h = omega (arith, s.0, length-take-le h ns l) in (
+        record {
+          few = omega arith;
+          before = λ j b q. eqb-false _ _ (s.2 j b) (get_or-take h ns j 0 (omega arith) ∙ q);
+          is = λ b. sym (get_or-take h ns i 0 m) ∙ eqb-true _ _ s.1;
+        },
+        m,
+      )
+
+  pub index-none : index ns h n ≡ None → FirstAt ns h n h
+  index-none e =
+      record {
+        few = omega arith;
+        before = λ j b q. eqb-false _ _ (fails_before_first (λ k. eqb k n) (take h ns) j 0 (missed (λ k. eqb k n) (take h ns) j (omega (arith, length-take-le h ns l)) e)) (get_or-take h ns j 0 b ∙ q);
+        is = λ b. absurd (omega arith);
+      }
+
 -- ---- what a call answers
 length-held : (ns ps : List ℕ) (m k : ℕ) → length (held_from ns ps m k) ≡ k
 unfolding held_from
 length-held ns ps m zero = refl
 length-held ns ps m (suc k) = ap suc (length-held ns ps (suc m) k)
 
--- the same answer, said of another call
-answer : {x y : Checked State} (p : Positions) (r : Moved) → x ≡ y → MovedAs y p r → MovedAs x p r
-answer p r e m = subst (λ (z : Checked State). MovedAs z p r) (sym e) m
-
 module _ (p : Positions) (steps n : ℕ) where
   abbrev held : ℕ
   held = min p.count 4
 
-  pub name_late : steps ≤ p.next → MovedAs (naming steps n (state_of p)) p (record { number = 30; positions = p })
-  name_late h = answer p _ (named_late steps n (state_of p) h) (refl, refl)
+  pub name_late : steps ≤ p.next → refused 30 0 ≡ naming steps n (state_of p)
+  name_late h = sym (named_late steps n (state_of p) h)
 
-  pub name_fifth : (i : ℕ) → FirstAt (list_of p.names) held n i → 3 < i → MovedAs (naming steps n (state_of p)) p (record { number = 30; positions = p })
-  name_fifth i f l =
-      let e : i ≡ held = omega (arith, f.few) in
-      let four : length (state_of p).held ≡ 4 = length-held (list_of p.names) (list_of p.places) 0 held ∙ omega (arith, f.few) in
-      answer p _ (named_fifth steps n (state_of p) four (sought-none (list_of p.names) (list_of p.places) n held i f e)) (refl, refl)
+  pub recall_late : steps ≤ p.next → refused 30 0 ≡ recalling steps n (state_of p)
+  recall_late h = sym (recalled_late steps n (state_of p) h)
 
-  -- a name given again, or a new one
-  pub name_again : (i c : ℕ) (u v : Four) → list_of u ≡ set (list_of p.names) i n → list_of v ≡ set (list_of p.places) i p.next → p.next < steps → FirstAt (list_of p.names) held n i → i < held → c ≡ held
-      → MovedAs (naming steps n (state_of p)) p
-      (record { number = 0; positions = record { next = p.next; count = c; names = u; places = v } })
-  name_again i c u v x y a f l z =
-      let g : given n p.next (held_from (list_of p.names) (list_of p.places) 0 held) ≡ held_from (set (list_of p.names) i n) (set (list_of p.places) i p.next) 0 held =
-      given-found (list_of p.names) (list_of p.places) n p.next held 0 i (omega arith) (omega arith) (omega arith) (omega arith) f.before (f.is l) in
-      let few : length (given n p.next (state_of p).held) ≤ 4 = rw (g, length-held) (omega arith) in
-      let m : min c 4 ≡ held = omega arith in
-      answer p _ (named-fine steps n (state_of p) a few) (refl, rw (x, y, m, ← g) refl)
+  module _ (names : length p.names ≡ 4) (places : length p.places ≡ 4) (a : p.next < steps) where
+    answered : (i c : ℕ) → i < 4 → c ≤ 4 → given n p.next (held_from p.names p.places 0 held) ≡ held_from (set p.names i n) (set p.places i p.next) 0 c
+        → ok (state_of (record { next = p.next; count = c; names = set p.names i n; places = set p.places i p.next })) ≡ naming steps n (state_of p)
+    answered i c l m g =
+        let few : length (given n p.next (state_of p).held) ≤ 4 = rw (g, length-held) m in
+        let z : min c 4 ≡ c = omega arith in
+        sym (named-fine steps n (state_of p) a few ∙ rw (z, ← g) refl)
 
-  pub name_new : (i c : ℕ) (u v : Four) → list_of u ≡ set (list_of p.names) i n → list_of v ≡ set (list_of p.places) i p.next → p.next < steps → FirstAt (list_of p.names) held n i → i ≡ held → i < 4 → c ≡ held + 1
-      → MovedAs (naming steps n (state_of p)) p
-      (record { number = 0; positions = record { next = p.next; count = c; names = u; places = v } })
-  name_new i c u v x y a f e l z =
-      let g : given n p.next (held_from (list_of p.names) (list_of p.places) 0 held) ≡ held_from (set (list_of p.names) i n) (set (list_of p.places) i p.next) 0 (suc held) =
-      given_new (list_of p.names) (list_of p.places) n p.next held 0 i (omega arith) (omega arith) (omega arith) f.before in
-      let few : length (given n p.next (state_of p).held) ≤ 4 = rw (g, length-held) (omega arith) in
-      let m : min c 4 ≡ suc held = omega arith in
-      answer p _ (named-fine steps n (state_of p) a few) (refl, rw (x, y, m, ← g) refl)
+    module _ (h : ℕ) (eh : h ≡ held) where
+      pub name_fifth : (o : Option ℕ) (i : ℕ) → o ≡ index p.names h n → i ≡ unwrap_or o h → 3 < i → refused 30 0 ≡ naming steps n (state_of p)
+      name_fifth (Some j) i e u l = let f : j < h = (index-some p.names h n (omega arith) j (sym e)).1 in absurd (omega (arith, f))
+      name_fifth None i e u l =
+          sym
+          (named_fifth steps n (state_of p) (length-held p.names p.places 0 held ∙ omega arith)
+          (rw (← eh) (sought-none p.names p.places n h h (index-none p.names h n (omega arith) (sym e)) refl)))
 
-  pub recall_late : steps ≤ p.next → MovedAs (recalling steps n (state_of p)) p (record { number = 30; positions = p })
-  recall_late h = answer p _ (recalled_late steps n (state_of p) h) (refl, refl)
+      -- a name given again, or a new one
+      pub name_fine : (o : Option ℕ) (i c : ℕ) → o ≡ index p.names h n → i ≡ unwrap_or o h → i ≤ 3 → c ≡ max h (i + 1)
+          → ok (state_of (record { next = p.next; count = c; names = set p.names i n; places = set p.places i p.next })) ≡ naming steps n (state_of p)
+      name_fine (Some j) i c e u l m =
+          let f : FirstAt p.names h n j × (j < h) = index-some p.names h n (omega arith) j (sym e) in
+          answered i c (omega arith) (omega (arith, f.1))
+          (rw (u, ← eh)
+          (let z : c ≡ h = omega (arith, f.1) in
+          rw z (given-found p.names p.places n p.next h 0 j (omega arith) (omega (arith, f.1)) (omega arith) (omega arith) f.0.before (f.0.is f.1))))
+      name_fine None i c e u l m =
+          let f : FirstAt p.names h n h = index-none p.names h n (omega arith) (sym e) in
+          answered i c (omega arith) (omega arith)
+          (rw (u, ← eh)
+          (let z : c ≡ suc h = omega arith in
+          rw z (given_new p.names p.places n p.next h 0 h (omega arith) (omega arith) (omega arith) f.before)))
 
-  pub recall_none : (i : ℕ) → p.next < steps → FirstAt (list_of p.names) held n i → i ≡ held
-      → MovedAs (recalling steps n (state_of p)) p (record { number = 29; positions = p })
-  recall_none i a f e = answer p _ (recalled_none steps n (state_of p) a (sought-none (list_of p.names) (list_of p.places) n held i f e)) (refl, refl)
+      pub recall_none : (o : Option ℕ) → o ≡ index p.names h n → o ≡ None → refused 29 0 ≡ recalling steps n (state_of p)
+      recall_none o e m =
+          sym
+          (recalled_none steps n (state_of p) a
+          (rw (← eh) (sought-none p.names p.places n h h (index-none p.names h n (omega arith) (sym e ∙ m)) refl)))
 
-  pub recall_fine : (i k : ℕ) → k ≡ get_or (list_of p.places) i 0 → p.next < steps → FirstAt (list_of p.names) held n i → (i ≡ held → ⊥)
-      → MovedAs (recalling steps n (state_of p)) p
-      (record { number = 0; positions = record { next = k; count = p.count; names = p.names; places = p.places } })
-  recall_fine i k x a f e =
-      let l : i < held = ⊎_elim (λ h. h) (λ h. absurd (e (omega (arith, f.few)))) (lt_or_le i held) in
-      answer p _ (recalled_fine steps n (state_of p) k a (sought-some (list_of p.names) (list_of p.places) n held i f l ∙ rw (← x) refl)) (refl, refl)
-
--- ---- the search
-pub record Seeking (ns : List ℕ) (h n i : ℕ) : Type 0 where
-  pub few : i ≤ h
-  pub before : (j : ℕ) → j < i → get_or ns j 0 ≡ n → ⊥
-
-pub seek_begin : (ns : List ℕ) (h n : ℕ) → Seeking ns h n 0
-seek_begin ns h n = record { few = omega arith; before = λ j l. absurd (omega arith) }
-
-pub seek_turn : {ns : List ℕ} {h n i : ℕ} → Seeking ns h n i → i < h → (get_or ns i 0 ≡ n → ⊥) → Seeking ns h n (i + 1)
-seek_turn {ns} {h} {n} {i} v l e = record {
-  few = omega arith;
-  before = λ j m. ⊎_elim (λ k. v.before j k) (λ k. let z : j ≡ i = omega arith in rw z e) (lt_or_le j i);
-}
-
-pub seek_hit : {ns : List ℕ} {h n i : ℕ} → Seeking ns h n i → get_or ns i 0 ≡ n → FirstAt ns h n i
-seek_hit v e = record { few = v.few; before = v.before; is = λ l. e }
-
-pub seek_end : {ns : List ℕ} {h n i : ℕ} → Seeking ns h n i → h ≤ i → FirstAt ns h n h
-seek_end {ns} {h} {n} {i} v l = record { few = omega arith; before = λ j m. v.before j (omega (arith, v.few)); is = λ m. absurd (omega arith) }
-
--- past the end there is none
-pub none_there : (l : List ℕ) (i : ℕ) → length l ≤ i → 0 ≡ get_or l i 0
-none_there [] i h = refl
-none_there (x ∷ l) zero h = absurd (omega arith)
-none_there (x ∷ l) (suc i) h = none_there l i (omega arith)
+      pub recall_fine : (o : Option ℕ) (i : ℕ) → o ≡ index p.names h n → o ≡ Some i
+          → ok (state_of (record { next = get_or p.places i 0; count = p.count; names = p.names; places = p.places })) ≡ recalling steps n (state_of p)
+      recall_fine o i e m =
+          let f : FirstAt p.names h n i × (i < h) = index-some p.names h n (omega arith) i (sym e ∙ m) in
+          sym (recalled_fine steps n (state_of p) (get_or p.places i 0) a (rw (← eh) (sought-some p.names p.places n h i f.0 f.1)))

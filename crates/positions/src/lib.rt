@@ -1,15 +1,30 @@
 // Positions of a conversion in steps, named and returned to (document 02, request 11).
-ghost use Rattle.std.specs.Prelude.{◌≡◌, min, get_or, set};
-ghost use Rattle.stores.specs.Stores.{naming, recalling};
-ghost use Rattle.positions.specs.Held.{list_of, state_of, at_first, FirstAt, MovedAs};
+#![tactic(auto)]
 
-// Four numbers.
-#[derive(Clone, Copy)]
-pub struct Four {
-    pub a: u64,
-    pub b: u64,
-    pub c: u64,
-    pub d: u64,
+ghost use Rattle.std.specs.Prelude.{◌≡◌, eqb, min, take};
+ghost use Rattle.std.specs.List.{position};
+ghost use Rattle.stores.specs.Stores.{naming, recalling};
+ghost use Rattle.positions.specs.Held.{state_of, at_first, moved_of, number_of};
+
+// Why a call changes nothing.
+#[derive(Clone, Copy, Debug, PartialEq, Eq)]
+pub enum Refusal {
+    // No position has this name.
+    NeverNamed,
+    // The last store is past, or the name would be the fifth.
+    PastLimit,
+}
+
+impl Refusal {
+    // Its number at the C interface.
+    pub fn number(self) -> u64
+        ensures { result ≡ number_of self }
+    {
+        match self {
+            Refusal::NeverNamed => 29,
+            Refusal::PastLimit => 30,
+        }
+    }
 }
 
 // The number of the next store; the names that are held, so many, and the position of each.
@@ -17,178 +32,61 @@ pub struct Four {
 pub struct Positions {
     pub next: u64,
     pub count: u64,
-    pub names: Four,
-    pub places: Four,
-}
-
-// Positions after a call; a refusal's number, 0 where there is none.
-#[derive(Drop)]
-pub struct Moved {
-    pub number: u64,
-    pub positions: Positions,
+    pub names: [u64; 4],
+    pub places: [u64; 4],
 }
 
 // Before the first store, with no name.
 pub fn begin() -> Positions
     ensures { state_of result ≡ at_first }
 {
-    let none = Four {
-        a: 0,
-        b: 0,
-        c: 0,
-        d: 0,
-    };
     Positions {
         next: 0,
         count: 0,
-        names: none,
-        places: none,
+        names: [0; 4],
+        places: [0; 4],
     }
 }
 
-// Number i of four, from 0; 0 past them.
-fn number(f: Four, i: u64) -> u64
-    ensures { result ≡ get_or (list_of f) i 0 }
+// The index of the first of these names that is n.
+fn index_of(names: &[u64], n: u64) -> Option<usize>
+    ensures { result ≡ position (λ k. eqb k n) names.now }
 {
-    if i == 0 {
-        return f.a;
-    }
-    if i == 1 {
-        return f.b;
-    }
-    if i == 2 {
-        return f.c;
-    }
-    if i == 3 {
-        return f.d;
-    }
-    0
-}
-
-// The four with x for number i.
-fn with(f: Four, i: u64, x: u64) -> Four
-    ensures { list_of result ≡ set (list_of f) i x }
-{
-    if i == 0 {
-        return Four {
-            a: x,
-            b: f.b,
-            c: f.c,
-            d: f.d,
-        };
-    }
-    if i == 1 {
-        return Four {
-            a: f.a,
-            b: x,
-            c: f.c,
-            d: f.d,
-        };
-    }
-    if i == 2 {
-        return Four {
-            a: f.a,
-            b: f.b,
-            c: x,
-            d: f.d,
-        };
-    }
-    if i == 3 {
-        return Four {
-            a: f.a,
-            b: f.b,
-            c: f.c,
-            d: x,
-        };
-    }
-    f
-}
-
-// How many names are held, at most four.
-fn held_in(count: u64) -> u64
-    ensures { result ≡ min count 4 }
-{
-    if 4 < count {
-        return 4;
-    }
-    count
-}
-
-// The number of the first of h names that is n, or h.
-fn index_of(names: Four, h: u64, n: u64) -> u64
-    ensures { FirstAt (list_of names) h n result }
-{
-    let mut i = 0;
-    while i < h {
-        if number(names, i) == n {
-            return i;
-        }
-        i += 1;
-    }
-    h
+    names.iter().position(|&name| name == n)
 }
 
 // The present position gets the name n, of a conversion of so many steps.
-pub fn name(p: Positions, steps: u64, n: u64) -> Moved
-    ensures { MovedAs (naming steps n (state_of p)) p result }
+pub fn name(p: Positions, steps: u64, n: u64) -> Result<Positions, Refusal>
+    ensures { moved_of result ≡ naming steps n (state_of p) }
 {
-    let late = Moved {
-        number: 30,
-        positions: p,
-    };
     if steps <= p.next {
-        return late;
+        return Err(Refusal::PastLimit);
     }
-    let h = held_in(p.count);
-    let i = index_of(p.names, h, n);
+    let held = p.count.min(4) as usize;
+    let i = index_of(&p.names[..held], n).unwrap_or(held);
     if 3 < i {
-        return late;
+        return Err(Refusal::PastLimit);
     }
-    let names = with(p.names, i, n);
-    let places = with(p.places, i, p.next);
-    let mut count = h;
-    if i == h {
-        count = h + 1;
-    }
-    Moved {
-        number: 0,
-        positions: Positions {
-            next: p.next,
-            count,
-            names,
-            places,
-        },
-    }
+    let mut named = p;
+    named.names[i] = n;
+    named.places[i] = p.next;
+    named.count = held.max(i + 1) as u64;
+    Ok(named)
 }
 
 // Back to the position that is called n.
-pub fn recall(p: Positions, steps: u64, n: u64) -> Moved
-    ensures { MovedAs (recalling steps n (state_of p)) p result }
+pub fn recall(p: Positions, steps: u64, n: u64) -> Result<Positions, Refusal>
+    ensures { moved_of result ≡ recalling steps n (state_of p) }
 {
     if steps <= p.next {
-        return Moved {
-            number: 30,
-            positions: p,
-        };
+        return Err(Refusal::PastLimit);
     }
-    let h = held_in(p.count);
-    let i = index_of(p.names, h, n);
-    if i == h {
-        return Moved {
-            number: 29,
-            positions: p,
-        };
-    }
-    let names = p.names;
-    let places = p.places;
-    let next = number(places, i);
-    Moved {
-        number: 0,
-        positions: Positions {
-            next,
-            count: p.count,
-            names,
-            places,
-        },
-    }
+    let held = p.count.min(4) as usize;
+    let Some(i) = index_of(&p.names[..held], n) else {
+        return Err(Refusal::NeverNamed);
+    };
+    Ok(Positions {
+        next: p.places[i],
+        ..p
+    })
 }

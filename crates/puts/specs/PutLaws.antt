@@ -1,13 +1,16 @@
 -- Stores past the end of a list are lost; the turns of the loops that store bytes; a field holds a number's low bytes only.
 use Rattle.std.specs.Prelude.{ℕ, zero, suc, ◌+◌, ◌-◌, ◌*◌, ◌/◌, ◌%◌, ◌^◌, ◌≤◌, ◌<◌, min, List, [], ◌∷◌, ◌++◌, ◌≡◌, refl, length, take, drop, get_or, set, replicate}
-use Rattle.std.proofs.Common.{sym, ap, ◌∙◌, add-zero, add_comm, mul_assoc, pow-suc, le_refl, div-add-mod', add-one, sub-one, arith, length-set, length-append, length-drop, take-suc, take_all, get_or-drop, length-take-le}
+use Rattle.std.proofs.Common.{append_assoc, sym, ap, ◌∙◌, add-zero, add_comm, mul_assoc, pow-suc, le_refl, div-add-mod', add-one, arith, length-set, length-append, length-drop, take-suc, take_all, get_or-drop, length-take-le}
 use Rattle.std.proofs.Math.Nat.{zero-min, min-zero, suc-min-suc, min_comm, add-mul-div_right, add-mul-mod_self_right}
 use Rattle.std.proofs.Math.Seq.{set_out, take-nil}
+use Rattle.std.proofs.Math.Nat.{div-one, pow-zero, div-div-eq-div-mul}
+use Rattle.std.proofs.lemmas.List.{drop-drop}
+use Rattle.std.specs.Int.{w64, byte_at, bytes_low_first, to_le_bytes}
 use borrow.Rule.Slice.PartMut.{put_mid, mid_of}
 use Rattle.base.specs.Field.{le}
 use Rattle.base.specs.FieldLaws.{length-le}
 use Rattle.base.specs.Blit.{part, blit}
-use Rattle.base.specs.BlitLaws.{blit-append, blit-one, blit-lent}
+use Rattle.base.specs.BlitLaws.{blit-append, blit-one, blit-lent, blit_is}
 use Rattle.result.specs.Fill.{header}
 
 -- ---- past the end
@@ -27,11 +30,35 @@ blit-take (suc k) (b ∷ bs) i l h = blit-take k bs (suc i) (set l i b) (simp le
 pub lent_is : (a : ℕ) (bs l ys : List ℕ) → ys ≡ blit 0 bs (mid_of a (length l - a) l) → put_mid a (length l - a) l ys ≡ blit a bs l
 lent_is a bs l ys e = ap (put_mid a (length l - a) l) e ∙ blit-lent a 0 bs l ∙ rw add-zero
 
--- ---- a field byte by byte
-pub le_turn : (n p y : ℕ) (d g : List ℕ) → 0 < n → blit p (le n y) d ≡ g → blit (p + 1) (le (n - 1) (y / 256)) (set d p (y % 256)) ≡ g
-unfolding blit le
-le_turn zero p y d g h i = absurd (omega arith)
-le_turn (suc n) p y d g h i = rw (add-one, sub-one) i
+-- what stands in a part of the slice that was written whole
+pub laid_at : (a k e : ℕ) (ys l : List ℕ) → e ≡ k → length ys ≡ k → a + k ≤ length l → put_mid a e l ys ≡ blit a ys l
+laid_at a k e ys l h i j =
+    let past : drop k (drop a l) ≡ drop (a + k) l = drop-drop k a l in
+    let there : blit a ys l ≡ take a l ++ ys ++ drop (a + length ys) l = blit_is a ys l (omega arith) in
+    rw (h, past, there, i) (sym (append_assoc (take a l) ys (drop (a + k) l)))
+
+-- ---- the low bytes of a number
+low_byte : (i x : ℕ) → byte_at i x ≡ x / 256 ^ i % 256
+low_byte zero x = rw (pow-zero, div-one)
+low_byte (suc i) x = refl
+
+low_bytes : (n i x : ℕ) → bytes_low_first i n x ≡ le n (x / 256 ^ i)
+unfolding le
+low_bytes zero i x = refl
+low_bytes (suc n) i x =
+    let next : x / 256 ^ i / 256 ≡ x / 256 ^ suc i = div-div-eq-div-mul x (256 ^ i) 256 ∙ rw pow-suc in
+    rw (low_byte i x, low_bytes n (suc i) x, next)
+
+take-le : (n k x : ℕ) → n ≤ k → take n (le k x) ≡ le n x
+unfolding le
+take-le zero k x h = refl
+take-le (suc n) zero x h = absurd (omega arith)
+take-le (suc n) (suc k) x h = ap (λ (bs : List ℕ). x % 256 ∷ bs) (take-le n k (x / 256) (omega arith))
+
+pub le_front : (n x : ℕ) → n ≤ 8 → take n (to_le_bytes w64 x) ≡ le n x
+le_front n x h =
+    let all : to_le_bytes w64 x ≡ le 8 x = low_bytes 8 0 x ∙ rw (pow-zero, div-one) in
+    rw all (take-le n 8 x h)
 
 -- ---- a copy
 pub length_part : (i n : ℕ) (l : List ℕ) → i + n ≤ length l → length (part i n l) ≡ n
@@ -79,11 +106,6 @@ copy_clip at from n have k s d e f =
     rw clipped (blit-take (length d - at) (take n (drop from s)) at d (omega arith))
 
 -- ---- zeros
-pub zero_turn : (n p : ℕ) (d g : List ℕ) → 0 < n → blit p (replicate n 0) d ≡ g → blit (p + 1) (replicate (n - 1) 0) (set d p 0) ≡ g
-unfolding blit
-zero_turn zero p d g h i = absurd (omega arith)
-zero_turn (suc n) p d g h i = rw (add-one, sub-one) i
-
 pub take-replicate : (k n a : ℕ) → take k (replicate n a) ≡ replicate (min k n) a
 take-replicate zero n a = rw zero-min
 take-replicate (suc k) zero a = rw min-zero

@@ -12,8 +12,10 @@ use Rattle.file.specs.Opened.{opened}
 use Rattle.file.specs.Range.{asked, Copied}
 use Rattle.file.specs.Plot.{Entry, single, stopped, entry_then, plot_from, plotted}
 use Rattle.file_laws.specs.PlotLaws.{single_refused, from_open, plot_many, plot_few}
-use Rattle.fields.specs.declared.Check.{Check}
-use Rattle.fields.specs.declared.Check.TheVariants.{Fine, Refused}
+use Rattle.std.specs.Prelude.{Result, Ok, Err, ⊤}
+use Rattle.fields.specs.declared.refusal.Refusal.{Refusal}
+use Rattle.fields.specs.Answer.{number_of, place_of}
+use Rattle.reading.specs.Steps.{refused_as}
 use Rattle.ranges.specs.Read.{copied_as}
 use Rattle.ranges.specs.Open.{Holds, opening}
 use Rattle.ranges.specs.declared.plot.Request.{Request}
@@ -44,12 +46,12 @@ module _ (s : List ℕ) (i : ℕ) (r : Request) (x : Laid) where
   turn_reads q = ap (λ (b : Bool). pick b (after_entry i x.state (single s (entry_of r) x.bytes)) x) (sym q)
 
   -- by what the entry's read answers
-  module _ (d : List ℕ) (g : Check) (q : x.state.accepted ≡ true) (e : copied_as g d ≡ single s (entry_of r) x.bytes) where
-    pub turn_fine : g ≡ Fine → laid x.state d ≡ turn_of s i r x
-    turn_fine z = ap (λ (v : Check). after_entry i x.state (copied_as v d)) (sym z) ∙ ap (after_entry i x.state) e ∙ turn_reads q
+  module _ (d : List ℕ) (g : Result ⊤ Refusal) (q : x.state.accepted ≡ true) (e : copied_as g d ≡ single s (entry_of r) x.bytes) where
+    pub turn_fine : {u : ⊤} → g ≡ Ok u → laid x.state d ≡ turn_of s i r x
+    turn_fine z = ap (λ (v : Result ⊤ Refusal). after_entry i x.state (copied_as v d)) (sym z) ∙ ap (after_entry i x.state) e ∙ turn_reads q
 
-    pub turn_ends : {number place : ℕ} → g ≡ Refused number place → laid (ended number place i) d ≡ turn_of s i r x
-    turn_ends z = ap (λ (v : Check). after_entry i x.state (copied_as v d)) (sym z) ∙ ap (after_entry i x.state) e ∙ turn_reads q
+    pub turn_ends : {y : Refusal} → g ≡ Err y → laid (ended (number_of y) (place_of y) i) d ≡ turn_of s i r x
+    turn_ends z = ap (λ (v : Result ⊤ Refusal). after_entry i x.state (copied_as v d)) (sym z) ∙ ap (after_entry i x.state) e ∙ turn_reads q
 
   -- where none is refused after it, none was before it
   pub turn_keeps : (turn_of s i r x).state.accepted ≡ true → x.state.accepted ≡ true
@@ -176,14 +178,14 @@ module _ (s : List ℕ) (d : List ℕ) where
           ∙ ap answered (sym (plot_many s (entries_of ts) d (rw (entries-length ts) h)))
 
 -- ---- the file is opened
-module _ (s w : List ℕ) (n : ℕ) (h : n ≤ 256) (g : 0 < n) {v : Check} (e : opening s w v) where
-  pub start_refused : {number place : ℕ} → v ≡ Refused number place → ended number place 0 ≡ start_of s n
-  start_refused {number} {place} q =
-      let f : refused number place ≡ opened s = rw q at e in
+module _ (s w : List ℕ) (n : ℕ) (h : n ≤ 256) (g : 0 < n) {v : Result ⊤ Refusal} (e : opening s w v) where
+  pub start_refused : {y : Refusal} → v ≡ Err y → ended (number_of y) (place_of y) 0 ≡ start_of s n
+  start_refused {y} q =
+      let f : refused_as y ≡ opened s = rw q at e in
       ap open_state f ∙ start_opens s n h g
 
-  pub start_fine : v ≡ Fine → clear ≡ start_of s n
+  pub start_fine : {u : ⊤} → v ≡ Ok u → clear ≡ start_of s n
   start_fine q = let f : Holds s w = rw q at e in ap open_state f.columns ∙ start_opens s n h g
 
-  pub start-holds : v ≡ Fine → Holds s w
+  pub start-holds : {u : ⊤} → v ≡ Ok u → Holds s w
   start-holds q = rw q at e

@@ -4,7 +4,9 @@ use mathlib.Core.List.{List, [], ◌∷◌}
 use Rattle.std.specs.Prelude.{Bool, not, ◌≡◌, eqb}
 use Rattle.std.proofs.Math.Bool.{true, false}
 use Rattle.std.proofs.Math.Path.{refl, sym, ap}
-use Rattle.std.proofs.Common.{◌∙◌, sub-one, eq-eqb, ne_eqb}
+use Rattle.std.proofs.Common.{◌∙◌, sub-one, eq-eqb, ne_eqb, eqb-true}
+use Rattle.std.proofs.lemmas.Bool.{eqb-false}
+use mathlib.Core.Bool.{beq}
 use native.Mathlib.Omega.{arith}
 use Rattle.base.specs.Choice.{pick, if_eq}
 use Rattle.base.specs.ChoiceLaws.{eq_yes, eq_no}
@@ -122,6 +124,22 @@ module _ (s : List ℕ) (x : ℕ) (v : Bool) where
 
   pub other-dv : (kind_at s x ≡ kind_dt → ⊥) → not v ≡ differs (is_dv (block_in s x).kind) v
   other-dv e = rw (block-dv s x e)
+
+  -- by the kind that was read
+  pub other-kind : {k : ℕ} → k ≡ kind_at s x → beq (eqb k kind_dt) v ≡ differs (is_dv (block_in s x).kind) v
+  other-kind {k} q = go (eqb k kind_dt) refl
+    where
+      with_true : (v : Bool) → beq true v ≡ v
+      with_true true = refl
+      with_true false = refl
+
+      with_false : (v : Bool) → beq false v ≡ not v
+      with_false true = refl
+      with_false false = refl
+
+      go : (t : Bool) → eqb k kind_dt ≡ t → beq t v ≡ differs (is_dv (block_in s x).kind) v
+      go true e = with_true v ∙ other-dt (sym q ∙ eqb-true k kind_dt e)
+      go false e = with_false v ∙ other-dv (λ z. eqb-false k kind_dt e (q ∙ z))
 
 kinds_open : (v : Bool) (f : Fragment) (fs : List Fragment) (t : Bool) → is_dv f.kind ≡ t → differs t v ≡ true → all_of v (f ∷ fs) ≡ false
 unfolding all_dt all_dv

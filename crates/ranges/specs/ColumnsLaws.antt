@@ -1,5 +1,5 @@
 -- The columns of the walk's data groups are those that its words give.
-use Prim.{Unit, tt}
+use Prim.{Unit}
 use Rattle.std.specs.Prelude.{ℕ, suc, ◌+◌, ◌*◌, ◌-◌, ◌≤◌, ◌<◌, Bool, length, get_or, ltb}
 use mathlib.Core.List.{List, [], ◌∷◌, ◌++◌, append_assoc}
 use Rattle.std.proofs.Math.Bool.{true, false}

@@ -10,8 +10,11 @@ use Rattle.std.proofs.Math.ListN.{length}
 use Rattle.base.specs.Blit.{part, blit}
 use Rattle.base.specs.BlitLaws.{blit_is, length_part}
 use Rattle.base.specs.Checked.{ok, refused}
-use Rattle.fields.specs.declared.Check.{Check}
-use Rattle.fields.specs.declared.Check.TheVariants.{Fine}
+use Rattle.std.specs.Prelude.{Result, Ok, Err, ⊤}
+use Rattle.fields.specs.declared.refusal.Refusal.{Refusal}
+use Prim.{tt}
+use Rattle.fields.specs.Answer.{number_of, place_of}
+use Rattle.reading.specs.Steps.{refused_as}
 use Rattle.mdf.specs.Block.{link_at}
 use Rattle.mdf.specs.Records.{joined}
 use Rattle.file.specs.Form.{FileColumn, record_bytes}
@@ -20,7 +23,6 @@ use Rattle.file.specs.Plot.{Entry, read_at, laid_over, single}
 use Rattle.file_laws.specs.RangeLaws.{read_length}
 use Rattle.file_laws.specs.PlotLaws.{single_read, single_served, single_refused, single-past}
 use Rattle.ranges.specs.declared.read.Granted.{Granted}
-use Rattle.ranges.specs.declared.read.Granted.TheVariants.{Refused, Column}
 use Rattle.ranges.specs.Blocks.{blocks_of, column_of}
 use Rattle.ranges.specs.Read.{asked_as, copied_as, Fills}
 use Rattle.ranges.specs.ReadLaws.{read_fills, read_copied}
@@ -57,7 +59,7 @@ mid_blit a m d b h l =
     ∙ sym (blit_is a b d (omega (arith, l, h)))
 
 module _ (s : List ℕ) (e : Entry) (d : List ℕ) (c : FileColumn) (q : asked s e.column e.first e.count ≡ ok c) where
-  pub entry_read : (r : Check) (b : List ℕ) (m : ℕ) → m ≡ bytes_of s c e.count → e.place + m ≤ length d
+  pub entry_read : (r : Result ⊤ Refusal) (b : List ℕ) (m : ℕ) → m ≡ bytes_of s c e.count → e.place + m ≤ length d
       → copied_as r b ≡ read_into s e.column e.first e.count (mid_of e.place m d) → copied_as r (put_mid e.place m d b) ≡ single s e d
   unfolding part
   entry_read r b m z h v =
@@ -71,15 +73,15 @@ module _ (s : List ℕ) (e : Entry) (d : List ℕ) (c : FileColumn) (q : asked s
       ∙ sym (single_read s e d c q (rw (← z) h))
 
 -- ---- the entry, by what is answered for its column
-module _ (s : List ℕ) (e : Entry) (d : List ℕ) {g : Granted} (a : asked_as s g ≡ asked s e.column e.first e.count) where
-  pub entry_refused : {x p : ℕ} → g ≡ Refused x p → copied d (refused x p) ≡ single s e d
-  entry_refused {x} {p} q = sym (single_refused s e d x p (sym a ∙ rw q))
+module _ (s : List ℕ) (e : Entry) (d : List ℕ) {g : Result Granted Refusal} (a : asked_as s g ≡ asked s e.column e.first e.count) where
+  pub entry_refused : {y : Refusal} → g ≡ Err y → copied d (refused_as y) ≡ single s e d
+  entry_refused {y} q = sym (single_refused s e d (number_of y) (place_of y) (sym a ∙ rw q))
 
-  module _ {dg cg cn : ℕ} (q : g ≡ Column dg cg cn) {w : ℕ} (f : w ≡ record_bytes s cg) {t : Bool} (h : t ≡ leb (e.place + e.count * w) (length d)) where
-    column : asked s e.column e.first e.count ≡ ok (column_of s dg cg cn)
+  module _ {k : Granted} (q : g ≡ Ok k) {w : ℕ} (f : w ≡ record_bytes s k.cg) {t : Bool} (h : t ≡ leb (e.place + e.count * w) (length d)) where
+    column : asked s e.column e.first e.count ≡ ok (column_of s k.dg k.cg k.cn)
     column = sym a ∙ rw q
 
-    bytes_is : e.count * w ≡ bytes_of s (column_of s dg cg cn) e.count
+    bytes_is : e.count * w ≡ bytes_of s (column_of s k.dg k.cg k.cn) e.count
     unfolding bytes_of
     bytes_is = rw f
 
@@ -89,7 +91,7 @@ module _ (s : List ℕ) (e : Entry) (d : List ℕ) {g : Granted} (a : asked_as s
     pub entry_past : t ≡ false → copied d (refused 25 0) ≡ single s e d
     entry_past z =
         let l : length d < e.place + e.count * w = leb-false (e.place + e.count * w) (length d) (sym h ∙ z) in
-        sym (single-past s e d (column_of s dg cg cn) column (rw (← bytes_is) l))
+        sym (single-past s e d (column_of s k.dg k.cg k.cn) column (rw (← bytes_is) l))
 
     -- some bytes, which fill the part
     module _ (z : t ≡ true) where
@@ -106,21 +108,21 @@ module _ (s : List ℕ) (e : Entry) (d : List ℕ) {g : Granted} (a : asked_as s
       fits : true ≡ eqb (length (mid_of e.place m d)) (e.count * w)
       fits = sym (eq-eqb _ _ mid_length)
 
-      pub entry_fills : w < 8589934591 → e.place < e.place + e.count * w → Fills s dg e.first w (length (mid_of e.place m d))
+      pub entry_fills : w < 8589934591 → e.place < e.place + e.count * w → Fills s k.dg e.first w (length (mid_of e.place m d))
       entry_fills y x =
           read_fills s e.column e.first e.count (mid_of e.place m d) a q f fits refl y (let l = mid_length in omega arith)
 
       pub entry-filled : {b : List ℕ}
-          → b ≡ part (e.first * w) (length (mid_of e.place m d)) (joined s (blocks_of s (link_at s dg 2)))
+          → b ≡ part (e.first * w) (length (mid_of e.place m d)) (joined s (blocks_of s (link_at s k.dg 2)))
           → copied d (ok (put_mid e.place m d b)) ≡ single s e d
       entry-filled {b} y =
-          entry_read s e d (column_of s dg cg cn) column Fine b m (is_count ∙ bytes_is) (rw is_count (entry_lies z))
+          entry_read s e d (column_of s k.dg k.cg k.cn) column (Ok tt) b m (is_count ∙ bytes_is) (rw is_count (entry_lies z))
           (read_copied s e.column e.first e.count (mid_of e.place m d) a q f fits refl y)
 
       -- or none
       pub entry-none : e.place + e.count * w ≤ e.place → copied d (ok d) ≡ single s e d
       unfolding range_of part blit
       entry-none y =
-          let v : bytes_of s (column_of s dg cg cn) e.count ≡ 0 = sym bytes_is ∙ omega arith in
-          let x : range_of s e.first e.count (column_of s dg cg cn) ≡ [] = rw v in
-          sym (single_served s e d (column_of s dg cg cn) column (rw (← bytes_is) (entry_lies z)) ∙ rw x)
+          let v : bytes_of s (column_of s k.dg k.cg k.cn) e.count ≡ 0 = sym bytes_is ∙ omega arith in
+          let x : range_of s e.first e.count (column_of s k.dg k.cg k.cn) ≡ [] = rw v in
+          sym (single_served s e d (column_of s k.dg k.cg k.cn) column (rw (← bytes_is) (entry_lies z)) ∙ rw x)

@@ -5,12 +5,11 @@ use Rattle.base.specs.Choice.{pick, if_lt}
 use Rattle.base.specs.Checked.{Checked, ok, refused, and_then, Verdict, fine}
 use Rattle.mdf.specs.Block.{link_at}
 use Rattle.work_words.specs.Words.{marks_at}
-use Rattle.fields.specs.declared.Check.{Check}
-use Rattle.fields.specs.declared.Check.TheVariants as checks
+use Rattle.std.specs.Prelude.{Result, Ok, Err, ⊤}
+use Rattle.fields.specs.declared.refusal.Refusal.{Refusal}
+use Rattle.fields.specs.Answer.{number_of, place_of}
 use Rattle.file.specs.Form.{FileColumn, holds, formed}
 use Rattle.file.specs.Opened.{opened}
-use Rattle.ranges.specs.declared.open.Opened.{Opened}
-use Rattle.ranges.specs.declared.open.Opened.TheVariants.{Refused, Columns}
 use Rattle.ranges.specs.Blocks.{column_of}
 use Rattle.ranges.specs.Ranged.{chain_ranges}
 
@@ -46,19 +45,19 @@ columns_of s w zero j = []
 columns_of s w (suc k) j = column_at s w j ∷ columns_of s w k (j + 1)
 
 -- no more columns than DG
-abbrev pub few : Opened → Type 0
-few (Refused number place) = Unit {0}
-few (Columns count) = count ≤ 512
+abbrev pub few : Result ℕ Refusal → Type 0
+few (Ok count) = count ≤ 512
+few (Err e) = Unit {0}
 
 -- bookkeeping: there are as many words as before
-abbrev pub lasting : Opened → List ℕ → Type 0
-lasting (Refused number place) w = Unit {0}
-lasting (Columns count) w = length w ≡ 4096
+abbrev pub lasting : Result ℕ Refusal → List ℕ → Type 0
+lasting (Ok count) w = length w ≡ 4096
+lasting (Err e) w = Unit {0}
 
 -- the code's answer
-abbrev pub opened_as : List ℕ → List ℕ → Opened → Checked (List FileColumn)
-opened_as s w (Refused number place) = refused number place
-opened_as s w (Columns count) = ok (columns_of s w count 0)
+abbrev pub opened_as : List ℕ → List ℕ → Result ℕ Refusal → Checked (List FileColumn)
+opened_as s w (Ok count) = ok (columns_of s w count 0)
+opened_as s w (Err e) = refused (number_of e) (place_of e)
 
 -- bookkeeping: the words hold the columns of the opened file, their number at the last word
 pub record Holds (s w : List ℕ) : Type 0 where
@@ -66,6 +65,6 @@ pub record Holds (s w : List ℕ) : Type 0 where
   pub columns : ok (columns_of s w (get_or w 4095 0) 0) ≡ opened s
 
 -- bookkeeping: the code's answer where it leaves the columns in the words
-abbrev pub opening : List ℕ → List ℕ → Check → Type 0
-opening s w checks.Fine = Holds s w
-opening s w (checks.Refused number place) = refused number place ≡ opened s
+abbrev pub opening : List ℕ → List ℕ → Result ⊤ Refusal → Type 0
+opening s w (Ok x) = Holds s w
+opening s w (Err e) = refused (number_of e) (place_of e) ≡ opened s

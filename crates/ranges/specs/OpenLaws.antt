@@ -1,5 +1,5 @@
 -- The laws of opening: what the words give is what the definition gives.
-use Rattle.std.specs.Prelude.{ℕ, zero, suc, ◌+◌, ◌*◌, ◌-◌, ◌≤◌, ◌<◌, Bool, true, false, ◌≡◌, get_or}
+use Rattle.std.specs.Prelude.{ℕ, zero, suc, ◌+◌, ◌*◌, ◌-◌, ◌/◌, ◌%◌, ◌≤◌, ◌<◌, Bool, true, false, ◌≡◌, get_or}
 use mathlib.Core.List.{List, [], ◌∷◌, ◌++◌, append-nil, append_assoc}
 use Rattle.std.proofs.Math.Path.{refl}
 use Rattle.std.proofs.Common.{sym, ap, ◌∙◌, add-zero, zero-add, sub-one}
@@ -10,10 +10,9 @@ use Rattle.base.specs.ChoiceLaws.{lt_yes, lt_no}
 use Rattle.base.specs.Checked.{Checked, ok, refused, and_then, Verdict, fine}
 use Rattle.mdf.specs.Block.{link_at}
 use Rattle.work_words.specs.Words.{marks_at}
-use Rattle.fields.specs.declared.Check.{Check}
-use Rattle.fields.specs.declared.Check.TheVariants.{Fine}
-use Rattle.fields.specs.declared.Check.TheVariants as checks
-use Rattle.fields.specs.Answer.{verdict_of}
+use Rattle.std.specs.Prelude.{Result, Ok, Err, ⊤}
+use Rattle.fields.specs.declared.refusal.Refusal.{Refusal}
+use Rattle.fields.specs.Answer.{refused_by, verdict_of}
 use Rattle.blocks.specs.AnswerLaws.{so_fine, so_refused}
 use Rattle.file.specs.Form.{FileColumn, formed}
 use Rattle.ranges.specs.Blocks.{column_of}
@@ -47,11 +46,11 @@ module _ (s w : List ℕ) (n i : ℕ) {m : Verdict} (e : word_ranges s w (n - i)
       let k : n - i - 1 ≡ n - (i + 1) = omega arith in
       sym e ∙ word_open s w (n - i) i (omega arith) ∙ rw k
 
-  module _ (h : i < n) {o : Check} (f : verdict_of o ≡ item_range s (get_or w i 0) (get_or w (marks_at + i) 0)) where
-    pub word_stop : {x p : ℕ} → o ≡ checks.Refused x p → refused x p ≡ m
+  module _ (h : i < n) {o : Result ⊤ Refusal} (f : verdict_of o ≡ item_range s (get_or w i 0) (get_or w (marks_at + i) 0)) where
+    pub word_stop : {y : Refusal} → o ≡ Err y → refused_by y ≡ m
     word_stop g = sym (word_next h ∙ rw (so_refused f g))
 
-    pub word_on : o ≡ Fine → word_ranges s w (n - (i + 1)) (i + 1) ≡ m
+    pub word_on : {u : ⊤} → o ≡ Ok u → word_ranges s w (n - (i + 1)) (i + 1) ≡ m
     word_on g = sym (word_next h ∙ rw (so_fine f g))
 
 -- ---- the form of a column
@@ -110,38 +109,40 @@ form_few s w (suc zero) j g h = refl
 form_few s w (suc (suc zero)) j g h = refl
 form_few s w (suc (suc (suc n))) j g h = absurd (omega arith)
 
-pub record Forming (s w : List ℕ) (n left j : ℕ) : Type 0 where
-  pub count : left + 3 * j ≡ n
-  pub rest : and_then (form_from s w left j) (λ cs. ok (columns_of s w j 0 ++ cs)) ≡ form_from s w n 0
+-- columns 0 to j of n blocks are formed: what is left behind them gives what all give
+pub record Forming (s w : List ℕ) (n j : ℕ) : Type 0 where
+  pub rest : and_then (form_from s w (n - 3 * j) j) (λ cs. ok (columns_of s w j 0 ++ cs)) ≡ form_from s w n 0
 
-pub form_begin : (s w : List ℕ) (n : ℕ) → Forming s w n n 0
+pub form_begin : (s w : List ℕ) (n : ℕ) → Forming s w n 0
 unfolding columns_of
-form_begin s w n = record { count = omega arith; rest = then_all (form_from s w n 0) }
+form_begin s w n = let k : n - 3 * 0 ≡ n = omega arith in record { rest = rw k (then_all (form_from s w n 0)) }
 
-module _ {s w : List ℕ} {n left j : ℕ} (t : Forming s w n left j) where
-  pub form_short : 0 < left → left < 3 → refused 24 0 ≡ form_from s w n 0
-  form_short g h = rw (form_few s w left j g h) at t.rest
+module _ {s w : List ℕ} {n j : ℕ} (t : Forming s w n j) where
+  pub form_short : n / 3 ≤ j → j ≤ n / 3 → (n % 3 ≡ 0 → ⊥) → refused 24 0 ≡ form_from s w n 0
+  form_short g h z = rw (form_few s w (n - 3 * j) j (omega (arith, z)) (omega arith)) at t.rest
 
-  pub form_end : left ≤ 0 → ok (columns_of s w j 0) ≡ form_from s w n 0
+  pub form_end : n / 3 ≤ j → j ≤ n / 3 → n % 3 ≡ 0 → ok (columns_of s w (n / 3) 0) ≡ form_from s w n 0
   unfolding form_from
-  form_end h = (let k : left ≡ 0 = omega arith in go (rw k at t.rest))
+  form_end g h z = (let k : n - 3 * j ≡ 0 = omega arith in let m : j ≡ n / 3 = omega arith in go (rw (k, m) at t.rest))
     where
-      go : and_then (form_from s w 0 j) (λ cs. ok (columns_of s w j 0 ++ cs)) ≡ form_from s w n 0 → ok (columns_of s w j 0) ≡ form_from s w n 0
-      go e = (rw append-nil at (first e))
-        where
-          first : and_then (form_from s w 0 j) (λ cs. ok (columns_of s w j 0 ++ cs)) ≡ form_from s w n 0 → ok (columns_of s w j 0 ++ []) ≡ form_from s w n 0
-          first q = q
+      go : and_then (form_from s w 0 (n / 3)) (λ cs. ok (columns_of s w (n / 3) 0 ++ cs)) ≡ form_from s w n 0 → ok (columns_of s w (n / 3) 0) ≡ form_from s w n 0
+      go e = rw append-nil at e
 
-  module _ (h : 3 ≤ left) {r : Bool} (q : r ≡ column_formed s w j) where
+  module _ (h : j < n / 3) {r : Bool} (q : r ≡ column_formed s w j) where
+    some : 3 ≤ n - 3 * j
+    some = omega arith
+
     pub form_no : r ≡ false → refused 24 0 ≡ form_from s w n 0
     form_no e =
-        let k : form_from s w left j ≡ refused 24 0 = form_open s w left j h ∙ rw (← q, e) in
+        let k : form_from s w (n - 3 * j) j ≡ refused 24 0 = form_open s w (n - 3 * j) j some ∙ rw (← q, e) in
         rw k at t.rest
 
-    pub form_on : r ≡ true → Forming s w n (left - 3) (j + 1)
+    pub form_on : r ≡ true → Forming s w n (j + 1)
     form_on e =
-        let k : form_from s w left j ≡ and_then (form_from s w (left - 3) (j + 1)) (λ cs. ok (column_at s w j ∷ cs)) = form_open s w left j h ∙ rw (← q, e) in
-        record { count = let c = t.count in omega arith; rest = go (form_from s w (left - 3) (j + 1)) ∙ (rw k at t.rest) }
+        let left : n - 3 * j - 3 ≡ n - 3 * (j + 1) = omega arith in
+        let k : form_from s w (n - 3 * j) j ≡ and_then (form_from s w (n - 3 * (j + 1)) (j + 1)) (λ cs. ok (column_at s w j ∷ cs)) =
+        form_open s w (n - 3 * j) j some ∙ rw (← q, e, left) in
+        record { rest = go (form_from s w (n - 3 * (j + 1)) (j + 1)) ∙ (rw k at t.rest) }
       where
         more : (cs : List FileColumn) → columns_of s w (j + 1) 0 ++ cs ≡ columns_of s w j 0 ++ (column_at s w j ∷ cs)
         more cs = let z : 0 + j ≡ j = zero-add j in rw (columns_snoc s w j 0, z) (append_assoc (columns_of s w j 0) (column_at s w j ∷ []) cs)

@@ -12,14 +12,12 @@ use Rattle.mdf.specs.Walk.{Item, Source, walk_of}
 use Rattle.mdf.specs.Group.{data_groups_of, data_groups}
 use Rattle.mdf.specs.Records.{ranges_in}
 use Rattle.work_words.specs.Words.{laid_items, marks_at, address_words, mark_words}
-use Rattle.fields.specs.declared.Check.{Check}
-use Rattle.fields.specs.declared.Check.TheVariants.{Fine}
-use Rattle.fields.specs.declared.Check.TheVariants as checks
+use Rattle.std.specs.Prelude.{Result, Ok, Err, ⊤}
+use Rattle.fields.specs.declared.refusal.Refusal.{Refusal}
 use Rattle.fields.specs.Answer.{verdict_of}
 use Rattle.blocks.specs.AnswerLaws.{so_fine, so_refused}
 use Rattle.reading.specs.declared.answer.Read.{Read}
-use Rattle.reading.specs.declared.answer.Read.TheVariants.{Done}
-use Rattle.reading.specs.declared.answer.Read.TheVariants as reads
+use Rattle.reading.specs.Steps.{refused_as}
 use Rattle.reading.specs.Walked.{Kept, given, kept_of, walked}
 use Rattle.reading.specs.SoundLaws.{walk_of_sound}
 use Rattle.reading.specs.CountingLaws.{total}
@@ -30,9 +28,6 @@ use Rattle.file.specs.Form.{FileColumn}
 use Rattle.file.specs.Opened.{columns_in, opened}
 use Rattle.ranges.specs.Met.{Upto, upto}
 use Rattle.ranges.specs.MetLaws.{walk_met}
-use Rattle.ranges.specs.declared.open.Opened.{Opened}
-use Rattle.ranges.specs.declared.open.Opened.TheVariants.{Columns}
-use Rattle.ranges.specs.declared.open.Opened.TheVariants as opens
 use Rattle.ranges.specs.Open.{word_ranges, form_from, lasting}
 use Rattle.ranges.specs.ColumnsLaws.{met_ranges, AtDG, met_columns}
 
@@ -56,14 +51,14 @@ left-few s st e =
     let t = total st.items in
     omega arith
 
-left_met : (s w w' : List ℕ) {r : Read} {n g k : ℕ} → given r w' [] ≡ walked file_limits s w [] → r ≡ Done n g k → Left s w w' n
+left_met : (s w w' : List ℕ) {r : Result Read Refusal} {x : Read} → given r w' [] ≡ walked file_limits s w [] → r ≡ Ok x → Left s w w' x.items
 unfolding walked
-left_met s w w' {r} {n} {g} {k} e q = go (walk_of file_limits s) refl (sym (ap (λ (v : Read). given v w' []) q) ∙ e)
+left_met s w w' {r} {x} e q = go (walk_of file_limits s) refl (sym (ap (λ (v : Result Read Refusal). given v w' []) q) ∙ e)
   where
-    go : (v : Checked Source) → walk_of file_limits s ≡ v → ◌≡◌ {A = Checked Kept} (given (Done n g k) w' []) (and_then v (λ st. ok (kept_of st w []))) → Left s w w' n
+    go : (v : Checked Source) → walk_of file_limits s ≡ v → ◌≡◌ {A = Checked Kept} (given (Ok x) w' []) (and_then v (λ st. ok (kept_of st w []))) → Left s w w' x.items
     go (ok st) i z =
         let m = ok_same z in
-        let j : n ≡ length st.items = ap Kept.items m in
+        let j : x.items ≡ length st.items = ap Kept.items m in
         record { st = st; is = i; items = j; words = ap Kept.words m; few = rw j (left-few s st i) }
     go (refused y p) i z = done≢refused z
 
@@ -94,39 +89,39 @@ module _ {s w w' : List ℕ} {n : ℕ} (l : Left s w w' n) (long : length w ≡ 
           refl refl refl addresses marks))
 
 -- ---- opening, way by way
-module _ (s : List ℕ) {o : Check} (e : verdict_of o ≡ identified s) where
-  pub open_unknown : {x p : ℕ} → o ≡ checks.Refused x p → refused x p ≡ opened s
+module _ (s : List ℕ) {o : Result ⊤ Refusal} (e : verdict_of o ≡ identified s) where
+  pub open_unknown : {y : Refusal} → o ≡ Err y → refused_as y ≡ opened s
   unfolding opened
   open_unknown q = rw (so_refused e q)
 
-  module _ (q : o ≡ Fine) (w w' : List ℕ) {r : Read} (f : given r w' [] ≡ walked file_limits s w []) where
-    pub open_stopped : {x p : ℕ} → r ≡ reads.Refused x p → refused x p ≡ opened s
+  module _ {t : ⊤} (q : o ≡ Ok t) (w w' : List ℕ) {r : Result Read Refusal} (f : given r w' [] ≡ walked file_limits s w []) where
+    pub open_stopped : {y : Refusal} → r ≡ Err y → refused_as y ≡ opened s
     unfolding opened walked
-    open_stopped {x} {p} g = go (walk_of file_limits s) refl (sym (ap (λ (v : Read). given v w' []) g) ∙ f)
+    open_stopped {y} g = go (walk_of file_limits s) refl (sym (ap (λ (v : Result Read Refusal). given v w' []) g) ∙ f)
       where
-        go : (v : Checked Source) → walk_of file_limits s ≡ v → ◌≡◌ {A = Checked Kept} (refused x p) (and_then v (λ st. ok (kept_of st w []))) → refused x p ≡ opened s
+        go : (v : Checked Source) → walk_of file_limits s ≡ v → ◌≡◌ {A = Checked Kept} (refused_as y) (and_then v (λ st. ok (kept_of st w []))) → refused_as y ≡ opened s
         go (ok st) i z = done≢refused (sym z)
-        go (refused y t) i z = rw (so_fine e q, i) (cc)
+        go (refused n p) i z = rw (so_fine e q, i) (cc)
 
-    pub open_lasting : {n g k : ℕ} → r ≡ Done n g k → length w ≡ 4096 → (v : Opened) → lasting v w'
+    pub open_lasting : {x : Read} → r ≡ Ok x → length w ≡ 4096 → (v : Result ℕ Refusal) → lasting v w'
     open_lasting h long v = go v (let l = left_met s w w' f h in ap length l.words ∙ length-laid l.st.items w ∙ long)
       where
-        go : (v : Opened) → length w' ≡ 4096 → lasting v w'
-        go (opens.Refused x p) q = tt
-        go (Columns n) q = q
+        go : (v : Result ℕ Refusal) → length w' ≡ 4096 → lasting v w'
+        go (Err y) q = tt
+        go (Ok n) q = q
 
-    pub open_few : {n g k : ℕ} → r ≡ Done n g k → n ≤ 1536
+    pub open_few : {x : Read} → r ≡ Ok x → x.items ≤ 1536
     open_few h = (left_met s w w' f h).few
 
-    module _ (long : length w ≡ 4096) {n g k : ℕ} (h : r ≡ Done n g k) {v : Check} (i : verdict_of v ≡ word_ranges s w' n 0) where
-      pub open_ranges : {x p : ℕ} → v ≡ checks.Refused x p → refused x p ≡ opened s
+    module _ (long : length w ≡ 4096) {x : Read} (h : r ≡ Ok x) {v : Result ⊤ Refusal} (i : verdict_of v ≡ word_ranges s w' x.items 0) where
+      pub open_ranges : {y : Refusal} → v ≡ Err y → refused_as y ≡ opened s
       unfolding opened
       open_ranges j =
           let l = left_met s w w' f h in
           let b : ranges_in s l.st.fragments ≡ refused _ _ = sym (ranges_met l long) ∙ so_refused i j in
           rw (so_fine e q, l.is, b)
 
-      pub open_form : {u : Checked (List FileColumn)} → v ≡ Fine → u ≡ form_from s w' n 0 → u ≡ opened s
+      pub open_form : {u : Checked (List FileColumn)} {t : ⊤} → v ≡ Ok t → u ≡ form_from s w' x.items 0 → u ≡ opened s
       unfolding opened
       open_form j t =
           let l = left_met s w w' f h in

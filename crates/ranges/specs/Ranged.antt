@@ -6,7 +6,9 @@ use Rattle.base.specs.Checked.{Checked, ok, refused, and_then, Verdict, fine}
 use Rattle.mdf.specs.Block.{links_at, first_link}
 use Rattle.mdf.specs.Chain.{records}
 use Rattle.mdf.specs.Records.{ranges_in}
-use Rattle.fields.specs.Answer.{verdict_of}
+use Rattle.std.specs.Prelude.{Result, Ok, Err}
+use Rattle.fields.specs.declared.refusal.Refusal.{Refusal}
+use Rattle.fields.specs.Answer.{refused_by}
 use Rattle.chains.specs.Node.{Standing, data_block, data_list, list-header, node_at}
 use Rattle.ranges.specs.declared.range.Passed.{Passed}
 use Rattle.ranges.specs.declared.range.Passed.TheVariants.{Over, On}
@@ -57,6 +59,7 @@ chain_ranges s zero a = fine
 chain_ranges s (suc turns) a = let rest = chain_ranges s turns (first_link s a) in if_eq a 0 fine (on_pass (pass_at s a) rest)
 
 -- the code's answer
-abbrev pub pass_of : Passed → Pass
-pass_of (Over c) = over (verdict_of c)
-pass_of On = on
+abbrev pub pass_of : Result Passed Refusal → Pass
+pass_of (Ok Over) = over fine
+pass_of (Ok On) = on
+pass_of (Err e) = over (refused_by e)

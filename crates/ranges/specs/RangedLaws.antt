@@ -10,13 +10,12 @@ use Rattle.base.specs.Checked.{refused, and_then, Verdict, fine}
 use Rattle.mdf.specs.Block.{links_at, link_at, first_link}
 use Rattle.mdf.specs.Chain.{Kind, records}
 use Rattle.mdf.specs.Records.{ranges_in}
-use Rattle.fields.specs.declared.Check.{Check}
-use Rattle.fields.specs.declared.Check.TheVariants.{Fine}
-use Rattle.fields.specs.declared.Check.TheVariants as checks
-use Rattle.fields.specs.Answer.{verdict_of}
+use Rattle.std.specs.Prelude.{Result, Ok, Err, ⊤}
+use Rattle.fields.specs.declared.refusal.Refusal.{Refusal}
+use Rattle.fields.specs.Answer.{refused_by, verdict_of}
 use Rattle.blocks.specs.AnswerLaws.{so_fine, so_refused}
 use Rattle.chains.specs.declared.node.Node.{Node}
-use Rattle.chains.specs.declared.node.Node.TheVariants.{Refused, Fragment, Dl, Hl}
+use Rattle.chains.specs.declared.node.Node.TheVariants.{Fragment, Dl, Hl}
 use Rattle.chains.specs.declared.node.SrcBlock.{SrcBlock}
 use Rattle.chains.specs.Node.{fragment_of, node_at, node_of}
 use Rattle.ranges.specs.declared.range.Passed.{Passed}
@@ -38,20 +37,20 @@ pub entry_zero : (s : List ℕ) (x : ℕ) → x ≡ 0 → fine ≡ entry_range s
 unfolding entry_range
 entry_zero s x z = eq_yes _ _ _ _ z refl
 
-module _ (s : List ℕ) (x : ℕ) (z : x ≡ 0 → ⊥) {r : Node} (e : node_of r ≡ node_at records s x) where
-  pub entry_refused : {n p : ℕ} → r ≡ Refused n p → fine ≡ entry_range s x
+module _ (s : List ℕ) (x : ℕ) (z : x ≡ 0 → ⊥) {r : Result Node Refusal} (e : node_of r ≡ node_at records s x) where
+  pub entry_refused : {y : Refusal} → r ≡ Err y → fine ≡ entry_range s x
   unfolding entry_range
   entry_refused q = eq_no _ _ _ _ z (rw (← e, q))
 
-  pub entry-dl : r ≡ Dl → fine ≡ entry_range s x
+  pub entry-dl : r ≡ Ok Dl → fine ≡ entry_range s x
   unfolding entry_range
   entry-dl q = eq_no _ _ _ _ z (rw (← e, q))
 
-  pub entry_hl : r ≡ Hl → fine ≡ entry_range s x
+  pub entry_hl : r ≡ Ok Hl → fine ≡ entry_range s x
   unfolding entry_range
   entry_hl q = eq_no _ _ _ _ z (rw (← e, q))
 
-  pub entry-block : {b : SrcBlock} {v : Verdict} → r ≡ Fragment b → v ≡ ranges_in s (fragment_of b ∷ []) → v ≡ entry_range s x
+  pub entry-block : {b : SrcBlock} {v : Verdict} → r ≡ Ok (Fragment b) → v ≡ ranges_in s (fragment_of b ∷ []) → v ≡ entry_range s x
   unfolding entry_range
   entry-block q h = eq_no _ _ _ _ z (h ∙ rw (← e, q))
 
@@ -73,13 +72,13 @@ module _ (s : List ℕ) (a links i : ℕ) {m : Verdict} (e : ranges_from s a lin
   unfolding ranges_from list_ranges
   ranges_end h = let k : links - i ≡ 0 = omega arith in rw k at e
 
-  module _ (h : i < links) {x : ℕ} (q : x ≡ link_at s a i) {o : Check} (f : verdict_of o ≡ entry_range s x) where
-    pub ranges_stop : {n p : ℕ} → o ≡ checks.Refused n p → refused n p ≡ m
-    ranges_stop {n} {p} g =
-        let b : entry_range s (link_at s a i) ≡ refused n p = rw (← q) (so_refused f g) in
+  module _ (h : i < links) {x : ℕ} (q : x ≡ link_at s a i) {o : Result ⊤ Refusal} (f : verdict_of o ≡ entry_range s x) where
+    pub ranges_stop : {y : Refusal} → o ≡ Err y → refused_by y ≡ m
+    ranges_stop {y} g =
+        let b : entry_range s (link_at s a i) ≡ refused_by y = rw (← q) (so_refused f g) in
         sym (ranges_next h ∙ rw b)
 
-    pub ranges_on : o ≡ Fine → ranges_from s a links (i + 1) ≡ m
+    pub ranges_on : {u : ⊤} → o ≡ Ok u → ranges_from s a links (i + 1) ≡ m
     ranges_on g =
         let b : entry_range s (link_at s a i) ≡ fine = rw (← q) (so_fine f g) in
         sym (ranges_next h ∙ rw b)
@@ -88,25 +87,25 @@ pub ranges_begin : (s : List ℕ) (a : ℕ) {n : ℕ} → n ≡ links_at s a →
 ranges_begin s a q = rw q
 
 -- ---- a block of the chain: r is the node there
-module _ (s : List ℕ) (a : ℕ) {r : Node} (e : node_of r ≡ node_at records s a) where
-  pub pass_refused : {n p : ℕ} → r ≡ Refused n p → over fine ≡ pass_at s a
+module _ (s : List ℕ) (a : ℕ) {r : Result Node Refusal} (e : node_of r ≡ node_at records s a) where
+  pub pass_refused : {y : Refusal} → r ≡ Err y → over fine ≡ pass_at s a
   unfolding pass_at
   pass_refused q = rw (← e, q)
 
-  pub pass_block : {b : SrcBlock} {v : Verdict} → r ≡ Fragment b → v ≡ ranges_in s (fragment_of b ∷ []) → over v ≡ pass_at s a
+  pub pass_block : {b : SrcBlock} {v : Verdict} → r ≡ Ok (Fragment b) → v ≡ ranges_in s (fragment_of b ∷ []) → over v ≡ pass_at s a
   unfolding pass_at
   pass_block q h = rw (← e, q, h)
 
-  pub pass_hl : r ≡ Hl → on ≡ pass_at s a
+  pub pass_hl : r ≡ Ok Hl → on ≡ pass_at s a
   unfolding pass_at
   pass_hl q = rw (← e, q)
 
-  module _ (q : r ≡ Dl) {o : Check} (f : verdict_of o ≡ ranges_from s a (links_at s a) 1) where
-    pub pass_stop : {n p : ℕ} → o ≡ checks.Refused n p → over (refused n p) ≡ pass_at s a
+  module _ (q : r ≡ Ok Dl) {o : Result ⊤ Refusal} (f : verdict_of o ≡ ranges_from s a (links_at s a) 1) where
+    pub pass_stop : {y : Refusal} → o ≡ Err y → over (refused_by y) ≡ pass_at s a
     unfolding pass_at
     pass_stop g = rw (← e, q, so_refused f g)
 
-    pub pass_dl : o ≡ Fine → on ≡ pass_at s a
+    pub pass_dl : {u : ⊤} → o ≡ Ok u → on ≡ pass_at s a
     unfolding pass_at
     pass_dl g = rw (← e, q, so_fine f g)
 
@@ -126,13 +125,18 @@ module _ (s : List ℕ) (turns a : ℕ) {m : Verdict} (e : chain_ranges s turns 
     pub chain_end : a ≡ 0 → fine ≡ m
     chain_end z = eq_yes _ _ _ _ z refl ∙ sym (chain_turn s turns a h) ∙ e
 
-    module _ (z : a ≡ 0 → ⊥) {r : Passed} (f : pass_of r ≡ pass_at s a) where
-      pub chain-over : {o : Check} → r ≡ Over o → verdict_of o ≡ m
-      chain-over {o} q =
-          let b : pass_at s a ≡ over (verdict_of o) = sym f ∙ rw q in
+    module _ (z : a ≡ 0 → ⊥) {r : Result Passed Refusal} (f : pass_of r ≡ pass_at s a) where
+      pub chain-over : r ≡ Ok Over → fine ≡ m
+      chain-over q =
+          let b : pass_at s a ≡ over fine = sym f ∙ rw q in
           eq_no _ _ _ _ z (rw b) ∙ sym (chain_turn s turns a h) ∙ e
 
-      pub chain-on : {b : ℕ} → r ≡ On → b ≡ first_link s a → chain_ranges s (turns - 1) b ≡ m
+      pub chain_refused : {y : Refusal} → r ≡ Err y → refused_by y ≡ m
+      chain_refused {y} q =
+          let b : pass_at s a ≡ over (refused_by y) = sym f ∙ rw q in
+          eq_no _ _ _ _ z (rw b) ∙ sym (chain_turn s turns a h) ∙ e
+
+      pub chain-on : {b : ℕ} → r ≡ Ok On → b ≡ first_link s a → chain_ranges s (turns - 1) b ≡ m
       chain-on {b} q g =
           let p : pass_at s a ≡ on = sym f ∙ rw q in
           rw g (eq_no _ _ _ _ z (rw p)) ∙ sym (chain_turn s turns a h) ∙ e

@@ -1,11 +1,11 @@
 -- The laws of the two calls, way by way.
 use Prim.Native.Nat.{ℕ, zero, suc, ◌+◌, ◌*◌, ◌-◌, ◌/◌, ◌%◌, ◌≤◌, ◌<◌}
 use mathlib.Core.List.{List, [], ◌∷◌}
-use Rattle.std.specs.Prelude.{Bool, ◌≡◌, get_or, set, drop, eqb}
+use Rattle.std.specs.Prelude.{Bool, ◌≡◌, get_or, set, drop, eqb, leb, min}
 use Rattle.std.proofs.Math.Bool.{true, false}
 use Rattle.std.proofs.Math.Option.{none, some}
 use Rattle.std.proofs.Math.Path.{refl, sym, ap}
-use Rattle.std.proofs.Common.{subst, ◌∙◌, le_refl, add-zero, zero-add, zero-mul, mul-zero, mul-div_cancel, div-add-mod', div-lt_iff_lt-mul, le-div_iff_mul-le, drop_of_length-le, get_or-set_same, get_or-set_other}
+use Rattle.std.proofs.Common.{subst, leb-true, leb-false, ◌∙◌, add-zero, zero-add, zero-mul, mul-zero, mul-div_cancel, div-add-mod', div-lt_iff_lt-mul, le-div_iff_mul-le, drop_of_length-le, get_or-set_same, get_or-set_other}
 use Rattle.std.proofs.Math.Nat.{mul-pos}
 use native.Mathlib.Omega.{arith}
 use Rattle.std.proofs.Math.ListN.{length, take, length-drop}
@@ -20,27 +20,21 @@ use Rattle.base.specs.Checked.{Checked, ok, refused, fine}
 use Rattle.mdf.specs.Block.{size_at, link_at}
 use Rattle.mdf.specs.Chain.{Fragment}
 use Rattle.mdf.specs.Records.{ranges_in, joined, size_of}
-use Rattle.fields.specs.declared.Check.{Check}
-use Rattle.fields.specs.declared.Check.TheVariants as checks
+use Rattle.std.specs.Prelude.{Result, Ok, Err, ⊤}
+use Rattle.fields.specs.declared.refusal.Refusal.{Refusal}
+use Rattle.reading.specs.Steps.{refused_as}
 use Rattle.file.specs.Form.{cycles, record_bytes}
 use Rattle.file.specs.Opened.{opened}
-use Rattle.file.specs.Range.{Place, at, split, within, place_in, located, file_column_at, asked, start_of, bytes_of, range_of, copied, into_buffer, read_into, handed}
+use Rattle.file.specs.Range.{Place, at, split, within, place_in, located, file_column_at, asked, start_of, bytes_of, range_of, copied, into_buffer, read_into}
 use Rattle.file_laws.specs.JoinedLaws.{part_back, ranges_cons, length-joined}
 use Rattle.file_laws.specs.RangeLaws.{Asked, asked_back, range_inside, read_fits, read_other}
-use Rattle.ranges.specs.declared.open.Opened.{Opened}
-use Rattle.ranges.specs.declared.open.Opened.TheVariants.{Columns}
-use Rattle.ranges.specs.declared.open.Opened.TheVariants as opens
 use Rattle.ranges.specs.declared.read.Granted.{Granted}
-use Rattle.ranges.specs.declared.read.Granted.TheVariants.{Refused, Column}
 use Rattle.ranges.specs.declared.seek.Spot.{Spot}
 use Rattle.ranges.specs.Blocks.{block_in, listed_from, links_of, blocks_of, column_of}
 use Rattle.ranges.specs.BlocksLaws.{from_next, block_size_lem, block_offset}
 use Rattle.ranges.specs.Seek.{FirstIn, nowhere, here, seek_in, spotted}
 use Rattle.ranges.specs.Open.{column_at, columns_of, few, lasting, opened_as, Holds, opening}
-use Rattle.ranges.specs.declared.read.Location.{Location}
-use Rattle.ranges.specs.declared.read.Location.TheVariants.{Split, At}
-use Rattle.ranges.specs.declared.read.Location.TheVariants as places
-use Rattle.ranges.specs.Read.{asked_as, Fills, located_as, handing}
+use Rattle.ranges.specs.Read.{asked_as, Fills}
 
 -- ---- n bytes are so many records
 module _ (n count w : ℕ) where
@@ -92,24 +86,24 @@ columns-kept s w v (suc n) j h =
     let r : columns_of s (set w 4095 v) n (j + 1) ≡ columns_of s w n (j + 1) = columns-kept s w v n (j + 1) (omega arith) in
     rw (a, b, c, r)
 
-module _ (s w : List ℕ) {o : Opened} (e : opened_as s w o ≡ opened s) where
-  pub kept_refused : {x p : ℕ} → o ≡ opens.Refused x p → refused x p ≡ opened s
+module _ (s w : List ℕ) {o : Result ℕ Refusal} (e : opened_as s w o ≡ opened s) where
+  pub kept_refused : {y : Refusal} → o ≡ Err y → refused_as y ≡ opened s
   kept_refused q = rw q at e
 
-  pub kept-columns : {n : ℕ} → lasting o w → few o → o ≡ Columns n → Holds s (set w 4095 n)
+  pub kept-columns : {n : ℕ} → lasting o w → few o → o ≡ Ok n → Holds s (set w 4095 n)
   kept-columns {n} g f q =
-      let l : length w ≡ 4096 = subst (λ (v : Opened). lasting v w) q g in
+      let l : length w ≡ 4096 = subst (λ (v : Result ℕ Refusal). lasting v w) q g in
       let m : n ≤ 512 = subst few q f in
       let a : get_or (set w 4095 n) 4095 0 ≡ n = get_or-set_same w 4095 n 0 (omega arith) in
       let c : ok (columns_of s w n 0) ≡ opened s = rw q at e in
       record { most = rw a m; columns = rw (a, columns-kept s w n n 0 (omega arith)) c }
 
 -- the columns stand in the words
-pub ask_refused : (s w : List ℕ) (k first count : ℕ) {v : Check} {x p : ℕ} → opening s w v → v ≡ checks.Refused x p → refused x p ≡ asked s k first count
+pub ask_refused : (s w : List ℕ) (k first count : ℕ) {v : Result ⊤ Refusal} {y : Refusal} → opening s w v → v ≡ Err y → refused_as y ≡ asked s k first count
 unfolding asked
-ask_refused s w k first count {v} {x} {p} e q = let f : refused x p ≡ opened s = rw q at e in rw (← f)
+ask_refused s w k first count {v} {y} e q = let f : refused_as y ≡ opened s = rw q at e in rw (← f)
 
-pub ask_holds : (s w : List ℕ) {v : Check} → opening s w v → v ≡ checks.Fine → Holds s w
+pub ask_holds : (s w : List ℕ) {v : Result ⊤ Refusal} → opening s w v → {u : ⊤} → v ≡ Ok u → Holds s w
 ask_holds s w e q = rw q at e
 
 module _ (s w : List ℕ) (k first count : ℕ) (e : Holds s w) where
@@ -219,39 +213,39 @@ module _ (s : List ℕ) (d first w n : ℕ) (f : Fills s d first w n) {a links :
       g ∙ rw x (blit_whole _ b y)
 
 -- ---- reading into the buffer
-module _ (s : List ℕ) (k first count : ℕ) (b : List ℕ) {r : Granted} (e : asked_as s r ≡ asked s k first count) where
-  pub read_refused : {x p : ℕ} → r ≡ Refused x p → copied b (refused x p) ≡ read_into s k first count b
+module _ (s : List ℕ) (k first count : ℕ) (b : List ℕ) {r : Result Granted Refusal} (e : asked_as s r ≡ asked s k first count) where
+  pub read_refused : {y : Refusal} → r ≡ Err y → copied b (refused_as y) ≡ read_into s k first count b
   unfolding read_into into_buffer
   read_refused q = rw (← e, q)
 
-  module _ {d g c : ℕ} (q : r ≡ Column d g c) {w : ℕ} (f : w ≡ record_bytes s g) {t : Bool} (h : t ≡ eqb (length b) (count * w)) where
-    column : asked s k first count ≡ ok (column_of s d g c)
+  module _ {x : Granted} (q : r ≡ Ok x) {w : ℕ} (f : w ≡ record_bytes s x.cg) {t : Bool} (h : t ≡ eqb (length b) (count * w)) where
+    column : asked s k first count ≡ ok (column_of s x.dg x.cg x.cn)
     column = sym e ∙ rw q
 
-    known : Asked s k first count (column_of s d g c)
-    known = asked_back s k first count (column_of s d g c) column
+    known : Asked s k first count (column_of s x.dg x.cg x.cn)
+    known = asked_back s k first count (column_of s x.dg x.cg x.cn) column
 
-    bytes_is : bytes_of s (column_of s d g c) count ≡ count * w
+    bytes_is : bytes_of s (column_of s x.dg x.cg x.cn) count ≡ count * w
     unfolding bytes_of
     bytes_is = rw f
 
     pub read_short : t ≡ false → copied b (refused 24 0) ≡ read_into s k first count b
-    read_short z = sym (read_other s k first count b (column_of s d g c) column (λ y. eqb-false _ _ (sym h ∙ z) (y ∙ bytes_is)))
+    read_short z = sym (read_other s k first count b (column_of s x.dg x.cg x.cn) column (λ y. eqb-false _ _ (sym h ∙ z) (y ∙ bytes_is)))
 
     module _ (z : t ≡ true) where
-      fit : length b ≡ bytes_of s (column_of s d g c) count
+      fit : length b ≡ bytes_of s (column_of s x.dg x.cg x.cn) count
       fit = eqb-true _ _ (sym h ∙ z) ∙ sym bytes_is
 
-      pub read_fills : w < 8589934591 → 0 < length b → Fills s d first w (length b)
+      pub read_fills : w < 8589934591 → 0 < length b → Fills s x.dg first w (length b)
       unfolding start_of bytes_of
-      read_fills y x =
-          let i = range_inside s k first count (column_of s d g c) known in
+      read_fills y v =
+          let i = range_inside s k first count (column_of s x.dg x.cg x.cn) known in
           let j : length b ≡ count * w = eqb-true _ _ (sym h ∙ z) in
           record {
             some = positive w (λ o. let l : count * w ≡ 0 = rw (o, mul-zero) in omega arith);
             small = omega arith;
             ranges = known.column.ranges;
-            bytes = x;
+            bytes = v;
             inside = (rw (← f, ← j) at i);
           }
         where
@@ -259,19 +253,19 @@ module _ (s : List ℕ) (k first count : ℕ) (b : List ℕ) {r : Granted} (e : 
           positive zero o = absurd (o refl)
           positive (suc m) o = omega arith
 
-      pub read_copied : {b' : List ℕ} → b' ≡ part (first * w) (length b) (joined s (blocks_of s (link_at s d 2)))
+      pub read_copied : {b' : List ℕ} → b' ≡ part (first * w) (length b) (joined s (blocks_of s (link_at s x.dg 2)))
           → copied b (ok b') ≡ read_into s k first count b
       unfolding range_of start_of
       read_copied {b'} y =
-          let x : b' ≡ range_of s first count (column_of s d g c) = y ∙ rw (f, fit) in
-          rw x (sym (read_fits s k first count b (column_of s d g c) column fit))
+          let v : b' ≡ range_of s first count (column_of s x.dg x.cg x.cn) = y ∙ rw (f, fit) in
+          rw v (sym (read_fits s k first count b (column_of s x.dg x.cg x.cn) column fit))
 
       pub read_empty : length b ≤ 0 → copied b (ok b) ≡ read_into s k first count b
       unfolding range_of part
       read_empty y =
-          let v : bytes_of s (column_of s d g c) count ≡ 0 = omega (arith, fit) in
-          let x : b ≡ range_of s first count (column_of s d g c) = nothing b y ∙ rw v in
-          ap (λ (l : List ℕ). copied b (ok l)) x ∙ sym (read_fits s k first count b (column_of s d g c) column fit)
+          let v : bytes_of s (column_of s x.dg x.cg x.cn) count ≡ 0 = omega (arith, fit) in
+          let u : b ≡ range_of s first count (column_of s x.dg x.cg x.cn) = nothing b y ∙ rw v in
+          ap (λ (l : List ℕ). copied b (ok l)) u ∙ sym (read_fits s k first count b (column_of s x.dg x.cg x.cn) column fit)
         where
           nothing : (l : List ℕ) → length l ≤ 0 → l ≡ []
           nothing [] o = refl
@@ -340,21 +334,21 @@ pub not_many : (left w count : ℕ) → 0 < w → count ≤ left / w → count *
 not_many left w count h g = (le-div_iff_mul-le h).0 g
 
 -- ---- where a range lies
-module _ (s : List ℕ) (k first count : ℕ) {r : Granted} (e : asked_as s r ≡ asked s k first count) where
-  pub locate_refused : {x p : ℕ} → r ≡ Refused x p → refused x p ≡ located s k first count
+module _ (s : List ℕ) (k first count : ℕ) {r : Result Granted Refusal} (e : asked_as s r ≡ asked s k first count) where
+  pub locate_refused : {y : Refusal} → r ≡ Err y → refused_as y ≡ located s k first count
   unfolding located
   locate_refused q = rw (← e, q)
 
-  module _ {d g c : ℕ} (q : r ≡ Column d g c) {w : ℕ} (f : w ≡ record_bytes s g) where
+  module _ {x : Granted} (q : r ≡ Ok x) {w : ℕ} (f : w ≡ record_bytes s x.cg) where
     pub locate_none : count * w ≡ 0 → ok (at 0 0) ≡ located s k first count
     unfolding located place_in bytes_of
     locate_none z = rw (← e, q) (ap ok (eq_yes _ _ _ _ (rw (← f) z) refl))
 
-    pub locate_fills : w < 8589934591 → (count ≡ 0 → ⊥) → (w ≡ 0 → ⊥) → Fills s d first w (count * w)
+    pub locate_fills : w < 8589934591 → (count ≡ 0 → ⊥) → (w ≡ 0 → ⊥) → Fills s x.dg first w (count * w)
     unfolding start_of bytes_of
     locate_fills y u v =
-        let a = asked_back s k first count (column_of s d g c) (sym e ∙ rw q) in
-        let i = range_inside s k first count (column_of s d g c) a in
+        let a = asked_back s k first count (column_of s x.dg x.cg x.cn) (sym e ∙ rw q) in
+        let i = range_inside s k first count (column_of s x.dg x.cg x.cn) a in
         record {
           some = over v;
           small = omega arith;
@@ -366,7 +360,7 @@ module _ (s : List ℕ) (k first count : ℕ) {r : Granted} (e : asked_as s r �
         over : {m : ℕ} → (m ≡ 0 → ⊥) → 0 < m
         over h = omega (arith, h)
 
-    pub locate_some : {v : Checked Place} → (count ≡ 0 → ⊥) → (w ≡ 0 → ⊥) → v ≡ ok (within (blocks_of s (link_at s d 2)) (first * w) (count * w))
+    pub locate_some : {v : Checked Place} → (count ≡ 0 → ⊥) → (w ≡ 0 → ⊥) → v ≡ ok (within (blocks_of s (link_at s x.dg 2)) (first * w) (count * w))
         → v ≡ located s k first count
     unfolding located place_in start_of bytes_of
     locate_some u v h =
@@ -381,29 +375,27 @@ none_of count w z = rw (z, zero-mul) refl
 pub of_none : (count w : ℕ) → w ≡ 0 → count * w ≡ 0
 of_none count w z = rw (z, mul-zero) refl
 
--- ---- a part of the image
-module _ (a n : ℕ) (s : List ℕ) where
-  pub part-past : length s < a → [] ≡ part a n s
-  unfolding part
-  part-past h = sym (ap (λ (l : List ℕ). take n l) (drop_of_length-le s {i = a} (omega arith)) ∙ take_all n [] (omega arith))
+-- ---- a part of the image, as many bytes as there are
+pub part_clipped : (a n from to : ℕ) (s : List ℕ) → from ≡ min a (length s) → to ≡ from + min n (length s - from) → take (to - from) (drop from s) ≡ part a n s
+unfolding part
+part_clipped a n from to s h g = go (leb a (length s)) refl
+  where
+    more : (xs : List ℕ) (m : ℕ) → m ≡ min n (length xs) → take m xs ≡ take n xs
+    more xs m q = within (leb n (length xs)) refl
+      where
+        within : (t : Bool) → leb n (length xs) ≡ t → take m xs ≡ take n xs
+        within true e = let l = leb-true n (length xs) e in let k : m ≡ n = omega arith in rw k
+        within false e = let l = leb-false n (length xs) e in take_all m xs (omega arith) ∙ sym (take_all n xs (omega arith))
 
-  pub part-rest : length s - a < n → take (length s - a) (drop a s) ≡ part a n s
-  unfolding part
-  part-rest h = take_all (length s - a) (drop a s) (simp length-drop (le_refl _)) ∙ sym (take_all n (drop a s) (simp length-drop (omega arith)))
-
-  pub part-within : take (a + n - a) (drop a s) ≡ part a n s
-  unfolding part
-  part-within = let e : a + n - a ≡ n = omega arith in ap (λ (m : ℕ). take m (drop a s)) e
-
--- ---- the words and the part
-module _ (s : List ℕ) (k first count : ℕ) {r : Location} (e : located_as r ≡ located s k first count) where
-  pub hand_refused : {b : List ℕ} {x p : ℕ} → r ≡ places.Refused x p → b ≡ part 0 0 s → handing (2 ∷ x ∷ p ∷ []) b ≡ handed s (located s k first count)
-  unfolding part
-  hand_refused {b} {x} {p} q h = ap (λ (l : List ℕ). handing (2 ∷ x ∷ p ∷ []) l) h ∙ rw (← e, q)
-
-  pub hand_split : {b : List ℕ} → r ≡ Split → b ≡ part 0 0 s → handing (1 ∷ 0 ∷ 0 ∷ []) b ≡ handed s (located s k first count)
-  unfolding part
-  hand_split {b} q h = ap (λ (l : List ℕ). handing (1 ∷ 0 ∷ 0 ∷ []) l) h ∙ rw (← e, q)
-
-  pub hand_at : {b : List ℕ} {a n : ℕ} → r ≡ At a n → b ≡ part a n s → handing (0 ∷ a ∷ n ∷ []) b ≡ handed s (located s k first count)
-  hand_at {b} {a} {n} q h = ap (λ (l : List ℕ). handing (0 ∷ a ∷ n ∷ []) l) h ∙ rw (← e, q)
+    go : (t : Bool) → leb a (length s) ≡ t → take (to - from) (drop from s) ≡ take n (drop a s)
+    go true e =
+        let l = leb-true a (length s) e in
+        let k : from ≡ a = omega arith in
+        let m : to - from ≡ min n (length (drop a s)) = rw length-drop (omega arith) in
+        ap (λ (j : ℕ). take (to - from) (drop j s)) k ∙ more (drop a s) (to - from) m
+    go false e =
+        let l = leb-false a (length s) e in
+        let k : length s ≤ from = omega arith in
+        let z : drop a s ≡ [] = drop_of_length-le s {i = a} (omega arith) in
+        let y : drop from s ≡ [] = drop_of_length-le s {i = from} k in
+        rw (z, y) (take_all (to - from) [] (omega arith) ∙ sym (take_all n [] (omega arith)))

@@ -1,6 +1,6 @@
 -- A number of bytes as whole records and bytes past them, so that no product is made; and the block that holds a byte of the joined data.
 use Prim.{Unit}
-use Rattle.std.specs.Prelude.{ℕ, ◌+◌, ◌*◌, ◌-◌, ◌≤◌, ◌<◌, List, [], ◌∷◌, true, false, ◌≡◌}
+use Rattle.std.specs.Prelude.{ℕ, ◌+◌, ◌*◌, ◌-◌, ◌≤◌, ◌<◌, List, [], ◌∷◌, ◌≡◌, Option, Some, None}
 use Rattle.base.specs.Choice.{if_lt}
 use Rattle.mdf.specs.Chain.{Fragment}
 use Rattle.ranges.specs.declared.seek.Rest.{Rest}
@@ -13,9 +13,10 @@ pub record Less (left off z w : ℕ) (r : Rest) : Type 0 where
   pub is : r.left * w + r.off ≡ left * w + off - z
   pub small : r.off < w
 
-pub record TakenOff (left off z w : ℕ) (r : Rest) : Type 0 where
-  pub yes : r.inside ≡ true → left * w + off < z
-  pub no : r.inside ≡ false → Less left off z w r
+-- or none, where they lie inside
+pub record TakenOff (left off z w : ℕ) (r : Option Rest) : Type 0 where
+  pub yes : r ≡ None → left * w + off < z
+  pub no : {x : Rest} → r ≡ Some x → Less left off z w x
 
 -- byte p lies in the first block, or at its end
 abbrev pub FirstIn : List Fragment → ℕ → Type 0

@@ -1,5 +1,5 @@
 -- The laws of bytes counted in records.
-use Rattle.std.specs.Prelude.{ℕ, ◌+◌, ◌*◌, ◌-◌, ◌/◌, ◌%◌, ◌≤◌, ◌<◌, List, Bool, ◌≡◌}
+use Rattle.std.specs.Prelude.{ℕ, ◌+◌, ◌*◌, ◌-◌, ◌/◌, ◌%◌, ◌≤◌, ◌<◌, List, Bool, ◌≡◌, Option, Some, None}
 use Rattle.std.proofs.Math.Bool.{true, false}
 use Rattle.std.proofs.Math.Path.{refl, sym}
 use Rattle.std.proofs.Common.{ap, ◌∙◌, add-zero, zero-mul, one-mul, add-mul, mul-le-mul_right, mod-lt, div-add-mod', arith}
@@ -14,8 +14,11 @@ use Rattle.ranges.specs.Blocks.{block_in, listed_from}
 use Rattle.ranges.specs.BlocksLaws.{from_next, from_end, block_size_lem}
 use Rattle.ranges.specs.Seek.{TakenOff, seek_in, spotted}
 
-true≢false : {A : Type 0} → true ≡ false → A
-true≢false e = absurd (let z : ◌≡◌ {A = ℕ} 0 1 = cc in omega arith)
+none_some : {x : Rest} → ◌≡◌ {A = Option Rest} None (Some x) → ⊥
+none_some e = let z : ◌≡◌ {A = ℕ} 0 1 = cc in omega arith
+
+some_same : {x y : Rest} → ◌≡◌ {A = Option Rest} (Some x) (Some y) → x ≡ y
+some_same e = cc
 
 -- ---- z bytes less
 module _ (left off z w : ℕ) (some : off < w) where
@@ -25,34 +28,34 @@ module _ (left off z w : ℕ) (some : off < w) where
   below : z % w < w
   below = mod-lt z (omega arith)
 
-  pub off-few : left < z / w → TakenOff left off z w (record { inside = true; left = left; off = off })
+  pub off-few : left < z / w → TakenOff left off z w None
   off-few h =
       let a : (left + 1) * w ≤ z / w * w = mul-le-mul_right w (omega arith) in
       let b : (left + 1) * w ≡ left * w + w = add-mul left 1 w ∙ ap (λ (k : ℕ). left * w + k) (one-mul w) in
-      record { yes = λ _. omega (arith, whole); no = λ e. true≢false e }
+      record { yes = λ _. omega (arith, whole); no = λ e. absurd (none_some e) }
 
-  pub off_just : z / w ≤ left → off < z % w → left ≡ z / w → TakenOff left off z w (record { inside = true; left = left; off = off })
+  pub off_just : z / w ≤ left → off < z % w → left ≡ z / w → TakenOff left off z w None
   off_just h g e =
       let a : left * w ≡ z / w * w = ap (λ (k : ℕ). k * w) e in
-      record { yes = λ _. omega (arith, whole); no = λ e. true≢false e }
+      record { yes = λ _. omega (arith, whole); no = λ e. absurd (none_some e) }
 
-  pub off_whole : z / w ≤ left → z % w ≤ off → TakenOff left off z w (record { inside = false; left = left - z / w; off = off - z % w })
+  pub off_whole : z / w ≤ left → z % w ≤ off → TakenOff left off z w (Some (record { left = left - z / w; off = off - z % w }))
   off_whole h g =
       let d : left ≡ z / w + (left - z / w) = omega arith in
       let a : left * w ≡ z / w * w + (left - z / w) * w = ap (λ (k : ℕ). k * w) d ∙ add-mul (z / w) (left - z / w) w in
       record {
-        yes = λ e. true≢false (sym e);
-        no = λ _. record { enough = omega (arith, whole, a); is = omega (arith, whole, a); small = omega arith };
+        yes = λ e. absurd (none_some (sym e));
+        no = λ e. rw (← some_same e) (record { enough = omega (arith, whole, a); is = omega (arith, whole, a); small = omega arith });
       }
 
-  pub off_part : z / w < left → off < z % w → TakenOff left off z w (record { inside = false; left = left - z / w - 1; off = off + w - z % w })
+  pub off_part : z / w < left → off < z % w → TakenOff left off z w (Some (record { left = left - z / w - 1; off = off + w - z % w }))
   off_part h g =
       let d : left ≡ z / w + 1 + (left - z / w - 1) = omega arith in
       let b : (z / w + 1) * w ≡ z / w * w + w = add-mul (z / w) 1 w ∙ ap (λ (k : ℕ). z / w * w + k) (one-mul w) in
       let a : left * w ≡ (z / w + 1) * w + (left - z / w - 1) * w = ap (λ (k : ℕ). k * w) d ∙ add-mul (z / w + 1) (left - z / w - 1) w in
       record {
-        yes = λ e. true≢false (sym e);
-        no = λ _. record { enough = omega (arith, whole, a, b, below); is = omega (arith, whole, a, b, below); small = omega arith };
+        yes = λ e. absurd (none_some (sym e));
+        no = λ e. rw (← some_same e) (record { enough = omega (arith, whole, a, b, below); is = omega (arith, whole, a, b, below); small = omega arith });
       }
 
 -- ---- the sum of the blocks' bytes, where the loop stands: what is left gives what the whole gives
@@ -87,17 +90,17 @@ module _ {s : List ℕ} {a links records w left off i : ℕ} (t : Summing s a li
       let p = mul-pos {m = left} {n = w} (omega (arith, z)) (let b = t.small in omega arith) in
       sym (ne_eqb 0 (left * w + off) (λ e. omega arith)) ∙ (rw (from_end s a links i h) at t.rest)
 
-  module _ (h : i < links) {x z : ℕ} (q : x ≡ link_at s a i) (f : z ≡ size_at s x - 24) {r : Rest} (g : TakenOff left off z w r) where
+  module _ (h : i < links) {x z : ℕ} (q : x ≡ link_at s a i) (f : z ≡ size_at s x - 24) {r : Option Rest} (g : TakenOff left off z w r) where
     size_is : size_of (listed_from s a links i) ≡ z + size_of (listed_from s a links (i + 1))
     unfolding size_of
     size_is = rw (from_next s a links i h, block_size_lem s (link_at s a i), f, q)
 
-    pub sum_over : r.inside ≡ true → false ≡ eqb (size_of (listed_from s a links 1)) (records * w)
+    pub sum_over : r ≡ None → false ≡ eqb (size_of (listed_from s a links 1)) (records * w)
     sum_over y =
         let b = g.yes y in
         sym (ne_eqb (size_of (listed_from s a links i)) (left * w + off) (λ e. omega (arith, size_is, b))) ∙ t.rest
 
-    pub sum-on : r.inside ≡ false → Summing s a links records w r.left r.off (i + 1)
+    pub sum-on : {y : Rest} → r ≡ Some y → Summing s a links records w y.left y.off (i + 1)
     sum-on y =
         let b = g.no y in
         record {
@@ -119,18 +122,18 @@ module _ {s : List ℕ} {a links first w left off i : ℕ} (t : Seeking s a link
   unfolding spotted seek_in
   seek_end h = sym (lt_no _ _ _ _ (omega arith) refl) ∙ (rw (from_end s a links i h) at t.rest)
 
-  module _ (h : i < links) {x z : ℕ} (q : x ≡ link_at s a i) (f : z ≡ size_at s x - 24) {r : Rest} (g : TakenOff left off z w r) where
+  module _ (h : i < links) {x z : ℕ} (q : x ≡ link_at s a i) (f : z ≡ size_at s x - 24) {r : Option Rest} (g : TakenOff left off z w r) where
     size-here : (block_in s (link_at s a i)).size ≡ z
     size-here = rw (block_size_lem s (link_at s a i), f, q)
 
-    pub seek_here : r.inside ≡ true → spotted s a links (record { link = i; place = left * w + off }) ≡ seek_in (listed_from s a links 1) (first * w)
+    pub seek_here : r ≡ None → spotted s a links (record { link = i; place = left * w + off }) ≡ seek_in (listed_from s a links 1) (first * w)
     unfolding spotted seek_in
     seek_here y =
         let b : left * w + off < z = g.yes y in
         sym (lt_yes _ _ _ _ h refl) ∙ rw (from_next s a links i h) (lt_yes _ _ _ _ (rw size-here b) refl)
         ∙ (rw (from_next s a links i h) at t.rest)
 
-    pub seek_on : r.inside ≡ false → Seeking s a links first w r.left r.off (i + 1)
+    pub seek_on : {y : Rest} → r ≡ Some y → Seeking s a links first w y.left y.off (i + 1)
     unfolding seek_in
     seek_on y =
         let b = g.no y in

@@ -9,11 +9,7 @@ use blocks::block::{links_at, size_at};
 pub fn bytes_at(image: &[u8], x: u64) -> u64
     ensures { result ≡ size_at image.now x - 24 }
 {
-    let size = size_at(image, x);
-    if size < 24 {
-        return 0;
-    }
-    size - 24
+    size_at(image, x).saturating_sub(24)
 }
 
 // The links of the DL at a, none where a is 0.

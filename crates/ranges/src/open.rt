@@ -7,45 +7,29 @@ ghost use Rattle.ranges.specs.Open.{item_range, word_ranges, column_formed, form
 use crate::form::is_formed;
 use crate::range::chain_ranges;
 use blocks::block::link_at;
-use fields::Check;
+use fields::refusal::Refusal;
 use identification::identify;
-use reading::answer::Read;
 use reading::recording::walk_file;
 
-// A refusal, or the number of columns.
-#[derive(Drop)]
-pub enum Opened {
-    Refused { number: u64, place: u64 },
-    Columns { count: u64 },
-}
-
 // The ranges of a DG's chain, by the block's mark.
-fn item_range(image: &[u8], a: u64, mark: u64) -> Check
+fn item_range(image: &[u8], a: u64, mark: u64) -> Result<(), Refusal>
     ensures { verdict_of result ≡ item_range image.now a mark }
 {
-    if 1 < mark {
-        return chain_ranges(image, link_at(image, a, 2));
+    if mark < 2 {
+        return Ok(());
     }
-    Check::Fine
+    chain_ranges(image, link_at(image, a, 2))
 }
 
 // Of all DG, in the order of the walk.
-fn word_ranges(image: &[u8], source: &[u64; 4096], n: u64) -> Check
+fn word_ranges(image: &[u8], source: &[u64; 4096], n: u64) -> Result<(), Refusal>
     requires { n ≤ 1536 }
     ensures { verdict_of result ≡ word_ranges image.now source.now n 0 }
 {
-    let mut i: u64 = 0;
-    while i < n {
-        let k = i as usize;
-        let a = source[k];
-        let mark = source[1536 + k];
-        let check = item_range(image, a, mark);
-        if let Check::Refused { number, place } = check {
-            return Check::Refused { number, place };
-        }
-        i += 1;
+    for k in 0..n as usize {
+        item_range(image, source[k], source[1536 + k])?;
     }
-    Check::Fine
+    Ok(())
 }
 
 // Column j: a DG, a CG and a CN, in the form.
@@ -54,83 +38,45 @@ fn column_formed(image: &[u8], source: &[u64; 4096], j: u64) -> bool
     ensures { result ≡ column_formed image.now source.now j }
 {
     let k = 3 * j as usize;
-    if source[1536 + k] < 2 {
+    let mark = 1536 + k;
+    if source[mark] < 2 || source[mark + 1] != 1 || source[mark + 2] != 0 {
         return false;
     }
-    if source[1536 + k + 1] != 1 {
-        return false;
-    }
-    if source[1536 + k + 2] != 0 {
-        return false;
-    }
-    let d = source[k];
-    let g = source[k + 1];
-    is_formed(image, d, g)
+    is_formed(image, source[k], source[k + 1])
 }
 
-// The columns of n blocks.
-fn form_of(image: &[u8], source: &[u64; 4096], n: u64) -> Opened
+// The columns of n blocks, how many there are.
+fn form_of(image: &[u8], source: &[u64; 4096], n: u64) -> Result<u64, Refusal>
     requires { n ≤ 1536 }
     ensures { (opened_as image.now source.now result ≡ form_from image.now source.now n 0) × few result }
 {
-    let mut left = n;
-    let mut j: u64 = 0;
-    while 0 < left {
-        if left < 3 {
-            return Opened::Refused {
-                number: 24,
-                place: 0,
-            };
-        }
-        if column_formed(image, source, j) {
-            left -= 3;
-            j += 1;
-        } else {
-            return Opened::Refused {
-                number: 24,
-                place: 0,
-            };
+    for j in 0..n / 3 {
+        if !column_formed(image, source, j) {
+            return Err(Refusal::OtherForm);
         }
     }
-    Opened::Columns { count: j }
+    if n % 3 != 0 {
+        return Err(Refusal::OtherForm);
+    }
+    Ok(n / 3)
 }
 
-// The file's columns: DG, CG and CN of column k stand at words 3k, 3k + 1 and 3k + 2.
-pub fn open_file(image: &[u8], source: &mut [u64; 4096]) -> Opened
+// How many columns the file has: DG, CG and CN of column k stand at words 3k, 3k + 1 and 3k + 2.
+pub fn open_file(image: &[u8], source: &mut [u64; 4096]) -> Result<u64, Refusal>
     ensures { (length source.old ≡ 4096 → opened_as image.now source.new result ≡ opened image.now) × few result
         × (length source.old ≡ 4096 → lasting result source.new) }
 {
-    let known = identify(image);
-    if let Check::Refused { number, place } = known {
-        return Opened::Refused { number, place };
-    }
-    let met = walk_file(image, source);
-    match met {
-        Read::Refused { number, place } => Opened::Refused { number, place },
-        Read::Done {
-            items,
-            groups,
-            fragments,
-        } => {
-            let ranged = word_ranges(image, source, items);
-            match ranged {
-                Check::Refused { number, place } => Opened::Refused { number, place },
-                Check::Fine => form_of(image, source, items),
-            }
-        }
-    }
+    identify(image)?;
+    let found = walk_file(image, source)?;
+    word_ranges(image, source, found.items)?;
+    form_of(image, source, found.items)
 }
 
 // The same, and the number of columns stands at the last word.
-pub(crate) fn open_columns(image: &[u8], source: &mut [u64; 4096]) -> Check
+pub(crate) fn open_columns(image: &[u8], source: &mut [u64; 4096]) -> Result<(), Refusal>
     ensures { length source.old ≡ 4096 → opening image.now source.new result }
 {
-    let opened = open_file(image, source);
-    match opened {
-        Opened::Refused { number, place } => Check::Refused { number, place },
-        Opened::Columns { count } => {
-            source[4095] = count;
-            Check::Fine
-        }
-    }
+    let count = open_file(image, source)?;
+    source[4095] = count;
+    Ok(())
 }

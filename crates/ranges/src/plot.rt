@@ -1,14 +1,15 @@
 // Many ranges of a column file fetched in one call (document 02, request 2).
 ghost use Rattle.std.specs.Prelude.{◌≡◌, true, ◌+◌, ◌*◌, ◌<◌, leb, length};
+ghost use Rattle.fields.specs.Answer.{number_of, place_of};
 ghost use Rattle.file.specs.Plot.{single, plotted};
 ghost use Rattle.ranges.specs.Open.{Holds};
 ghost use Rattle.ranges.specs.Read.{copied_as};
-ghost use Rattle.ranges.specs.Turn.{entry_of, entries_of, laid, turn_of, turns_of, start_of, answered};
+ghost use Rattle.ranges.specs.Turn.{entry_of, entries_of, laid, ended, turn_of, turns_of, start_of, answered};
 
 use crate::form::record_bytes;
 use crate::open::open_columns;
-use crate::read::{Granted, ask_opened, fill};
-use fields::Check;
+use crate::read::{ask_opened, fill};
+use fields::refusal::Refusal;
 
 // An entry of the table: count records of a column, from record first on, go to a place in the destination.
 #[repr(C)]
@@ -37,40 +38,48 @@ fn lie(n: u64, place: u64, count: u64, w: u64) -> bool
     if n < place {
         return false;
     }
-    if w == 0 {
-        return true;
-    }
-    count <= (n - place) / w
+    w == 0 || count <= (n - place) / w
 }
 
 // One entry: the single read into its part of the destination.
-fn entry(image: &[u8], source: &[u64; 4096], request: Request, destination: &mut [u8]) -> Check
+fn entry(
+    image: &[u8],
+    source: &[u64; 4096],
+    request: Request,
+    destination: &mut [u8],
+) -> Result<(), Refusal>
     requires { Holds image.now source.now }
     ensures { copied_as result destination.new ≡ single image.now (entry_of request) destination.old }
 {
-    let column = request.column;
-    let first = request.first;
-    let count = request.count;
-    let place = request.place;
-    let granted = ask_opened(image, source, column, first, count);
-    match granted {
-        Granted::Refused { number, place: at } => Check::Refused { number, place: at },
-        Granted::Column { dg, cg, cn } => {
-            let w = record_bytes(image, cg);
-            let all = destination.len() as u64;
-            if lie(all, place, count, w) {
-                let from = place as usize;
-                let to = from + (count * w) as usize;
-                if from < to {
-                    fill(image, dg, first, w, &mut destination[from..to]);
-                }
-                return Check::Fine;
-            }
-            Check::Refused {
-                number: 25,
-                place: 0,
-            }
-        }
+    let granted = ask_opened(image, source, request.column, request.first, request.count)?;
+    let w = record_bytes(image, granted.cg);
+    let all = destination.len() as u64;
+    if !lie(all, request.place, request.count, w) {
+        return Err(Refusal::OutsideDestination);
+    }
+    let from = request.place as usize;
+    let to = from + (request.count * w) as usize;
+    if from < to {
+        fill(
+            image,
+            granted.dg,
+            request.first,
+            w,
+            &mut destination[from..to],
+        );
+    }
+    Ok(())
+}
+
+// The answer where an entry is refused.
+fn refused(refusal: Refusal, position: u64) -> Plotting
+    ensures { result ≡ ended (number_of refusal) (place_of refusal) position }
+{
+    Plotting {
+        accepted: false,
+        number: refusal.number(),
+        place: refusal.place(),
+        position,
     }
 }
 
@@ -87,14 +96,8 @@ fn turn(
     ensures { laid result destination.new ≡ turn_of image.now i request (laid state destination.old) }
 {
     if state.accepted {
-        let read = entry(image, source, request, destination);
-        if let Check::Refused { number, place } = read {
-            return Plotting {
-                accepted: false,
-                number,
-                place,
-                position: i as u64,
-            };
+        if let Err(refusal) = entry(image, source, request, destination) {
+            return refused(refusal, i as u64);
         }
     }
     state
@@ -113,22 +116,11 @@ fn begin(image: &[u8], source: &mut [u64; 4096], n: usize) -> Plotting
         × (0 < n → result.accepted ≡ true → Holds image.now source.new) }
 {
     if 256 < n {
-        return Plotting {
-            accepted: false,
-            number: 25,
-            place: 0,
-            position: 0,
-        };
+        return refused(Refusal::OutsideDestination, 0);
     }
     if 0 < n {
-        let opened = open_columns(image, source);
-        if let Check::Refused { number, place } = opened {
-            return Plotting {
-                accepted: false,
-                number,
-                place,
-                position: 0,
-            };
+        if let Err(refusal) = open_columns(image, source) {
+            return refused(refusal, 0);
         }
     }
     Plotting {
@@ -147,10 +139,8 @@ pub fn plot(image: &[u8], table: &[Request], destination: &mut [u8]) -> Plotting
     let mut source = [0u64; 4096];
     let n = turns(table.len());
     let mut state = begin(image, &mut source, table.len());
-    let mut i: usize = 0;
-    while i < n {
+    for i in 0..n {
         state = turn(state, image, &source, i, table[i], destination);
-        i += 1;
     }
     state
 }

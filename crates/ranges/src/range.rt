@@ -8,106 +8,87 @@ ghost use Rattle.ranges.specs.Ranged.{entry_range, ranges_from, pass_at, chain_r
 
 use blocks::block::{first_link, link_at, links_at};
 use chains::node::{Node, SrcBlock, node_at};
-use fields::Check;
+use fields::refusal::Refusal;
 
 // A block of a chain: the pass is over, or it goes on.
 #[derive(Drop)]
-pub enum Passed {
-    Over(Check),
+enum Passed {
+    Over,
     On,
 }
 
 // 4: the data of a block runs past the image.
-fn block_range(image: &[u8], b: SrcBlock) -> Check
+fn block_range(image: &[u8], b: SrcBlock) -> Result<(), Refusal>
     ensures { verdict_of result ≡ ranges_in image.now (fragment_of b ∷ []) }
 {
     let n = image.len() as u64;
-    let offset = b.offset;
-    let size = b.size;
-    if n < offset {
-        return Check::Refused {
-            number: 4,
-            place: offset,
-        };
+    if n < b.offset || n - b.offset < b.size {
+        return Err(Refusal::OutOfImage(b.offset));
     }
-    if n - offset < size {
-        return Check::Refused {
-            number: 4,
-            place: offset,
-        };
-    }
-    Check::Fine
+    Ok(())
 }
 
 // The block that a link of a DL leads to.
-fn entry_range(image: &[u8], link: u64) -> Check
+fn entry_range(image: &[u8], link: u64) -> Result<(), Refusal>
     ensures { verdict_of result ≡ entry_range image.now link }
 {
     if link == 0 {
-        return Check::Fine;
+        return Ok(());
     }
-    let node = node_at(false, image, link);
-    match node {
-        Node::Refused { number, place } => Check::Fine,
-        Node::Fragment(b) => block_range(image, b),
-        Node::Dl => Check::Fine,
-        Node::Hl => Check::Fine,
+    match node_at(false, image, link) {
+        Ok(Node::Fragment(b)) => block_range(image, b),
+        Ok(Node::Dl) => Ok(()),
+        Ok(Node::Hl) => Ok(()),
+        Err(_) => Ok(()),
     }
 }
 
 // The blocks that the DL at a lists.
-fn list_ranges(image: &[u8], a: u64) -> Check
+fn list_ranges(image: &[u8], a: u64) -> Result<(), Refusal>
     ensures { verdict_of result ≡ ranges_from image.now a (links_at image.now a) 1 }
 {
     let links = links_at(image, a);
-    let mut i: u64 = 1;
-    while i < links {
-        let entry = entry_range(image, link_at(image, a, i));
-        if let Check::Refused { number, place } = entry {
-            return Check::Refused { number, place };
-        }
-        i += 1;
+    for i in 1..links {
+        entry_range(image, link_at(image, a, i))?;
     }
-    Check::Fine
+    Ok(())
 }
 
 // The block at a: a data block ends the chain, a DL's blocks are passed.
-fn pass_at(image: &[u8], a: u64) -> Passed
+fn pass_at(image: &[u8], a: u64) -> Result<Passed, Refusal>
     ensures { pass_of result ≡ pass_at image.now a }
 {
-    let node = node_at(false, image, a);
-    match node {
-        Node::Refused { number, place } => Passed::Over(Check::Fine),
-        Node::Fragment(b) => Passed::Over(block_range(image, b)),
-        Node::Dl => {
-            let all = list_ranges(image, a);
-            match all {
-                Check::Refused { number, place } => {
-                    Passed::Over(Check::Refused { number, place })
-                }
-                Check::Fine => Passed::On,
-            }
+    match node_at(false, image, a) {
+        Ok(Node::Fragment(b)) => {
+            block_range(image, b)?;
+            Ok(Passed::Over)
         }
-        Node::Hl => Passed::On,
+        Ok(Node::Dl) => {
+            list_ranges(image, a)?;
+            Ok(Passed::On)
+        }
+        Ok(Node::Hl) => Ok(Passed::On),
+        Err(_) => Ok(Passed::Over),
     }
 }
 
 // The chain from a on.
-pub fn chain_ranges(image: &[u8], a: u64) -> Check
+pub fn chain_ranges(image: &[u8], a: u64) -> Result<(), Refusal>
     ensures { verdict_of result ≡ chain_ranges image.now 258 a }
 {
     let mut at = a;
-    let mut turns: u64 = 258;
-    while 0 < turns {
+    'turns: for _turn in 0..258u64 {
         if at == 0 {
-            return Check::Fine;
+            return Ok(());
         }
-        let passed = pass_at(image, at);
-        if let Passed::Over(check) = passed {
-            return check;
+        match pass_at(image, at)? {
+            Passed::Over => {
+                return Ok(());
+            }
+            Passed::On => {
+                at = first_link(image, at);
+            }
         }
-        at = first_link(image, at);
-        turns -= 1;
     }
-    Check::Fine
+    Ok(())
 }

@@ -8,56 +8,45 @@ ghost use Rattle.ranges.specs.Seek.{TakenOff, FirstIn, seek_in, spotted};
 
 use crate::block::bytes_at;
 use blocks::block::link_at;
-use puts::{copy, least};
+use puts::copy;
 
-// Whether the bytes lie inside a block; if not, what is left of them past it.
-#[derive(Drop)]
+// What is left of records and bytes past a block.
+#[derive(Clone, Copy)]
 pub struct Rest {
-    pub inside: bool,
     pub left: u64,
     pub off: u64,
 }
 
 // The link of the block that holds a byte, past all links for none, and the byte's place in the block.
-#[derive(Drop)]
+#[derive(Clone, Copy)]
 pub struct Spot {
     pub link: u64,
     pub place: u64,
 }
 
-// left records of w bytes and off bytes, less z bytes.
-fn take_off(left: u64, off: u64, z: u64, w: u64) -> Rest
+// left records of w bytes and off bytes, less the z bytes of a block; none where they lie inside it.
+fn take_off(left: u64, off: u64, z: u64, w: u64) -> Option<Rest>
     requires { (off < w) × (w ≤ 8589934590) }
     ensures { TakenOff left off z w result }
 {
     let q = z / w;
     let r = z % w;
     if left < q {
-        return Rest {
-            inside: true,
-            left,
-            off,
-        };
+        return None;
     }
     if r <= off {
-        return Rest {
-            inside: false,
+        return Some(Rest {
             left: left - q,
             off: off - r,
-        };
+        });
     }
     if left == q {
-        return Rest {
-            inside: true,
-            left,
-            off,
-        };
+        return None;
     }
-    Rest {
-        inside: false,
+    Some(Rest {
         left: left - q - 1,
         off: off + w - r,
-    }
+    })
 }
 
 // Whether the blocks of the DL at a hold exactly so many records of w bytes.
@@ -67,21 +56,15 @@ pub(crate) fn sums(image: &[u8], a: u64, links: u64, records: u64, w: u64) -> bo
 {
     let mut left = records;
     let mut off: u64 = 0;
-    let mut i: u64 = 1;
-    while i < links {
+    for i in 1..links {
         let z = bytes_at(image, link_at(image, a, i));
-        let rest = take_off(left, off, z, w);
-        if rest.inside {
+        let Some(rest) = take_off(left, off, z, w) else {
             return false;
-        }
+        };
         left = rest.left;
         off = rest.off;
-        i += 1;
     }
-    if left == 0 {
-        return off == 0;
-    }
-    false
+    left == 0 && off == 0
 }
 
 // The block that holds the first byte of a record.
@@ -91,19 +74,16 @@ pub(crate) fn seek(image: &[u8], a: u64, links: u64, first: u64, w: u64) -> Spot
 {
     let mut left = first;
     let mut off: u64 = 0;
-    let mut i: u64 = 1;
-    while i < links {
+    for i in 1..links {
         let z = bytes_at(image, link_at(image, a, i));
-        let rest = take_off(left, off, z, w);
-        if rest.inside {
+        let Some(rest) = take_off(left, off, z, w) else {
             return Spot {
                 link: i,
                 place: left * w + off,
             };
-        }
+        };
         left = rest.left;
         off = rest.off;
-        i += 1;
     }
     Spot {
         link: links,
@@ -111,25 +91,23 @@ pub(crate) fn seek(image: &[u8], a: u64, links: u64, first: u64, w: u64) -> Spot
     }
 }
 
-// The bytes from byte place of block link on fill the buffer.
-pub(crate) fn copy_from(image: &[u8], a: u64, links: u64, link: u64, place: u64, buffer: &mut [u8])
-    requires { (ranges_in image.now (listed_from image.now a links link) ≡ fine) × FirstIn (listed_from image.now a links link) place }
+// The bytes from a spot on fill the buffer.
+pub(crate) fn copy_from(image: &[u8], a: u64, links: u64, spot: Spot, buffer: &mut [u8])
+    requires { (ranges_in image.now (listed_from image.now a links spot.link) ≡ fine) × FirstIn (listed_from image.now a links spot.link) spot.place }
     ensures { buffer.new ≡
-        blit 0 (part place (length buffer.old) (joined image.now (listed_from image.now a links link))) buffer.old }
+        blit 0 (part spot.place (length buffer.old) (joined image.now (listed_from image.now a links spot.link))) buffer.old }
 {
     let all = buffer.len() as u64;
     let mut done: u64 = 0;
-    let mut i = link;
-    let mut p = place;
-    while i < links {
+    let mut p = spot.place;
+    for i in spot.link..links {
         if done == all {
             return;
         }
         let x = link_at(image, a, i);
-        let n = least(bytes_at(image, x) - p, all - done);
+        let n = (bytes_at(image, x) - p).min(all - done);
         copy(buffer, done as usize, image, x + 24 + p, n);
         done += n;
         p = 0;
-        i += 1;
     }
 }

@@ -1,8 +1,7 @@
 -- A list filled with zeros from the front.
-use Rattle.std.specs.Prelude.{ℕ, ◌+◌, ◌≤◌, ◌<◌, List, ◌++◌, ◌≡◌, length, get_or, set, drop, replicate}
-use Rattle.std.proofs.Common.{append-nil, sym, ◌∙◌, arith, drop_of_length-le, length-set}
+use Rattle.std.specs.Prelude.{ℕ, ◌+◌, ◌≤◌, ◌<◌, List, ◌++◌, ◌≡◌, length, set, drop, replicate}
+use Rattle.std.proofs.Common.{append-nil, ◌∙◌, arith, drop_of_length-le, length-set}
 use Rattle.std.proofs.lemmas.List.Edits.{fill_more}
-use Rattle.std.proofs.lemmas.List.{set-get_or}
 use Rattle.reading.specs.Reading.{zeros}
 
 -- the first i words are zero, and the others as they were
@@ -10,9 +9,6 @@ pub record Filled (w₀ : List ℕ) (i : ℕ) (w : List ℕ) : Type 0 where
   pub least : i ≤ length w₀
   pub same : length w ≡ length w₀
   pub is : w ≡ replicate i 0 ++ drop i w₀
-
-pub zero-set : (w : List ℕ) (i : ℕ) → get_or w i 0 ≡ 0 → w ≡ set w i 0
-zero-set w i e = sym (rw e at (set-get_or w i 0))
 
 module _ {w₀ : List ℕ} {i : ℕ} {w : List ℕ} (f : Filled w₀ i w) where
   pub filled_more : i < length w → Filled w₀ (i + 1) (set w i 0)

@@ -3,7 +3,8 @@ use Rattle.std.specs.Prelude.{ℕ, ◌+◌, ◌*◌, ◌-◌, ◌≤◌, ◌<◌
 use Rattle.base.specs.Choice.{if_lt}
 use Rattle.base.specs.Blit.{part, blit}
 use Rattle.base.specs.Checked.{Checked, ok, and_then}
-use Rattle.fields.specs.declared.Check.{Check}
+use Rattle.std.specs.Prelude.{Result, ⊤}
+use Rattle.fields.specs.declared.refusal.Refusal.{Refusal}
 use Rattle.mdf.specs.Walk.{Source, level_cg, tally, most_items}
 use Rattle.mdf.specs.Group.{data_groups}
 use Rattle.mdf.specs.Count.{count_groups, counts}
@@ -36,10 +37,10 @@ unfoldable pub counted_all : List ℕ → Source → List ℕ → Checked (List 
 counted_all s st c = and_then (counts s (data_groups st)) (λ ns. ok (blit 0 ns c))
 
 -- what counting left in the words c', of whatever source the words w and f hold
-pub record Counted (s w f : List ℕ) (n nf : ℕ) (c : List ℕ) (r : Check) (c' : List ℕ) : Type 0 where
+pub record Counted (s w f : List ℕ) (n nf : ℕ) (c : List ℕ) (r : Result ⊤ Refusal) (c' : List ℕ) : Type 0 where
   pub of : (h : Holding w f n nf) → after r c' ≡ counted_all s h.st c
 
 -- the same of the words of the source, where the counts stand past the groups
-pub record CountedIn (s w f : List ℕ) (n groups nf : ℕ) (r : Check) (w' : List ℕ) : Type 0 where
+pub record CountedIn (s w f : List ℕ) (n groups nf : ℕ) (r : Result ⊤ Refusal) (w' : List ℕ) : Type 0 where
   pub of : (h : Holding w f n nf) → groups ≡ tally level_cg.own h.st.items
       → after r w' ≡ and_then (counts s (data_groups h.st)) (λ ns. ok (blit counts_at ns w))

@@ -12,8 +12,8 @@ use Rattle.base.specs.ChoiceLaws.{lt_yes, lt_no, lt_back}
 use Rattle.base.specs.Blit.{part, blit}
 use Rattle.base.specs.BlitLaws.{blit-lent, blit-append}
 use Rattle.base.specs.Checked.{Checked, ok, refused, and_then}
-use Rattle.fields.specs.declared.Check.{Check}
-use Rattle.fields.specs.declared.Check.TheVariants.{Fine, Refused}
+use Rattle.std.specs.Prelude.{Result, Ok, Err, ⊤}
+use Rattle.fields.specs.declared.refusal.Refusal.{Refusal}
 use Rattle.fields.specs.Answer.{verdict_of}
 use Rattle.records.specs.Several.{laid, laid_counts}
 use Rattle.mdf.specs.Chain.{Fragment}
@@ -24,7 +24,7 @@ use Rattle.mdf.specs.Records.{Frame, unsorted_frames}
 use Rattle.work_words.specs.Words.{marks_at, groups_at, address_words, mark_words, group_words, fragment_words, fragments_of}
 use Rattle.chains.specs.KeptLaws.{words_back, length-words}
 use Rattle.reading.specs.declared.answer.Span.{Span}
-use Rattle.reading.specs.Steps.{after}
+use Rattle.reading.specs.Steps.{refused_as, after}
 use Rattle.reading.specs.Sound.{Rising, next-dg, Starts, empty, first-dg}
 use Rattle.reading.specs.Holding.{Stands, Holding}
 use Rattle.reading.specs.StandsLaws.{stands_front, stands_back, stands_head, stands_at, stands_as_lem, stands_part}
@@ -35,16 +35,16 @@ use Rattle.reading.specs.CheckedLaws.{refused≢ok, ok≢refused, ok_same}
 use Rattle.reading.specs.Counting.{end_at, Ready, counted_dg, counted_all, Counted}
 
 -- ---- the counts of a DG, laid in a lent part of the words
-lent : (v : Checked (List ℕ)) (k g : ℕ) (c : List ℕ) (r : Check) (ys : List ℕ) → laid (verdict_of r) ys ≡ laid_counts v k (mid_of g (length c - g) c)
+lent : (v : Checked (List ℕ)) (k g : ℕ) (c : List ℕ) (r : Result ⊤ Refusal) (ys : List ℕ) → laid (verdict_of r) ys ≡ laid_counts v k (mid_of g (length c - g) c)
     → after r (put_mid g (length c - g) c ys) ≡ and_then v (λ ns. ok (blit g ns c))
-lent (ok ns) k g c Fine ys e =
+lent (ok ns) k g c (Ok u) ys e =
     let m : ys ≡ blit 0 ns (mid_of g (length c - g) c) = cc in
     ap (λ (l : List ℕ). ok (put_mid g (length c - g) c l)) m ∙ rw (blit-lent g 0 ns c, add-zero)
-lent (ok ns) k g c (Refused y p) ys e = absurd (let z : ◌≡◌ {A = ℕ} 0 1 = cc in omega arith)
-lent (refused y p) k g c Fine ys e = absurd (let z : ◌≡◌ {A = ℕ} 0 1 = cc in omega arith)
-lent (refused y p) k g c (Refused z q) ys e = cc
+lent (ok ns) k g c (Err y) ys e = absurd (let z : ◌≡◌ {A = ℕ} 0 1 = cc in omega arith)
+lent (refused y p) k g c (Ok u) ys e = absurd (let z : ◌≡◌ {A = ℕ} 0 1 = cc in omega arith)
+lent (refused y p) k g c (Err z) ys e = cc
 
-pub count_lent : (s w f : List ℕ) (i g groups end : ℕ) (c : List ℕ) (k : ℕ) (r : Check) (ys : List ℕ)
+pub count_lent : (s w f : List ℕ) (i g groups end : ℕ) (c : List ℕ) (k : ℕ) (r : Result ⊤ Refusal) (ys : List ℕ)
     → laid (verdict_of r) ys ≡ laid_counts (count_groups s (get_or w i 0) (mid_of (groups_at + g) (groups_at + g + groups - (groups_at + g)) w)
     (fragments_of (mid_of (3 * (get_or w (marks_at + i) 0 - 2)) (3 * end - 3 * (get_or w (marks_at + i) 0 - 2)) f))) k (mid_of g (length c - g) c)
     → after r (put_mid g (length c - g) c ys) ≡ counted_dg s w f i g groups end c
@@ -143,7 +143,7 @@ at_end {h = h} a l =
     let m = rw (no_more a.starts e) at a.same in
     rw (← m) (ap ok a.words)
 
-pub count_end : {s w f : List ℕ} {n nf : ℕ} {c₀ : List ℕ} {i g : ℕ} {c : List ℕ} → Counting s w f n nf c₀ i g c → n ≤ i → Counted s w f n nf c₀ Fine c
+pub count_end : {s w f : List ℕ} {n nf : ℕ} {c₀ : List ℕ} {i g : ℕ} {c : List ℕ} → Counting s w f n nf c₀ i g c → {u : ⊤} → n ≤ i → Counted s w f n nf c₀ (Ok u) c
 count_end t l = record { of = λ h. at_end (t.at h) l }
 
 -- ---- the DG at block i
@@ -363,19 +363,19 @@ module _ {s w f : List ℕ} {n nf : ℕ} {h : Holding w f n nf} {c₀ : List ℕ
   counts_is = sym t.is.same ∙ ap (λ (l : List DataGroup). and_then one (λ ns. counts_from s l (t.stands.done ++ ns))) (later_groups pieces items)
 
   -- what the counts of this DG give
-  module _ (c' : List ℕ) (v : Check) (e : after v c' ≡ counted_dg s w f i g groups end c) where
-    turn_refused : {y p : ℕ} → v ≡ Refused y p → refused y p ≡ counted_all s h.st c₀
+  module _ (c' : List ℕ) (v : Result ⊤ Refusal) (e : after v c' ≡ counted_dg s w f i g groups end c) where
+    turn_refused : {y : Refusal} → v ≡ Err y → refused_as y ≡ counted_all s h.st c₀
     unfolding counted_all
-    turn_refused {y} {p} q = go one (λ ns. counts_from s (data_groups_of pieces (later items)) (t.stands.done ++ ns)) (sym (ap (λ (r : Check). after r c') q) ∙ e ∙ counted_is)
+    turn_refused {y} q = go one (λ ns. counts_from s (data_groups_of pieces (later items)) (t.stands.done ++ ns)) (sym (ap (λ (r : Result ⊤ Refusal). after r c') q) ∙ e ∙ counted_is)
         ∙ ap (λ (k : Checked (List ℕ)). and_then k (λ ns. ok (blit 0 ns c₀))) (sym counts_is)
       where
-        go : (k : Checked (List ℕ)) (m : List ℕ → Checked (List ℕ)) → ◌≡◌ {A = Checked (List ℕ)} (refused y p) (and_then k (λ ns. ok (blit g ns c)))
-            → refused y p ≡ and_then (and_then k m) (λ ns. ok (blit 0 ns c₀))
+        go : (k : Checked (List ℕ)) (m : List ℕ → Checked (List ℕ)) → ◌≡◌ {A = Checked (List ℕ)} (refused_as y) (and_then k (λ ns. ok (blit g ns c)))
+            → refused_as y ≡ and_then (and_then k m) (λ ns. ok (blit 0 ns c₀))
         go (ok ns) m z = absurd (refused≢ok z)
         go (refused x o) m z = cc
 
-    turn_on : v ≡ Fine → At s h c₀ next (g + groups) c'
-    turn_on q = go one refl (sym (ap (λ (r : Check). after r c') q) ∙ e ∙ counted_is)
+    turn_on : {u : ⊤} → v ≡ Ok u → At s h c₀ next (g + groups) c'
+    turn_on q = go one refl (sym (ap (λ (r : Result ⊤ Refusal). after r c') q) ∙ e ∙ counted_is)
       where
         go : (k : Checked (List ℕ)) → one ≡ k → ◌≡◌ {A = Checked (List ℕ)} (ok c') (and_then k (λ ns. ok (blit g ns c))) → At s h c₀ next (g + groups) c'
         go (refused x o) u z = absurd (ok≢refused z)
@@ -409,9 +409,9 @@ module _ {s w f : List ℕ} {n nf : ℕ} {c₀ : List ℕ} {i g : ℕ} {c : List
   pub count_next : Holding w f n nf → (i < r.next) × (r.next ≤ n)
   count_next h = turn_next (turn (t.at h) l e k)
 
-  module _ (c' : List ℕ) (v : Check) (d : after v c' ≡ counted_dg s w f i g r.groups end c) where
-    pub count_refused : {y p : ℕ} → v ≡ Refused y p → Counted s w f n nf c₀ (Refused y p) c'
+  module _ (c' : List ℕ) (v : Result ⊤ Refusal) (d : after v c' ≡ counted_dg s w f i g r.groups end c) where
+    pub count_refused : {y : Refusal} → v ≡ Err y → Counted s w f n nf c₀ (Err y) c'
     count_refused q = record { of = λ h. turn_refused (turn (t.at h) l e k) c' v d q }
 
-    pub count_on : v ≡ Fine → length c' ≡ length c → Counting s w f n nf c₀ r.next (g + r.groups) c'
+    pub count_on : {u : ⊤} → v ≡ Ok u → length c' ≡ length c → Counting s w f n nf c₀ r.next (g + r.groups) c'
     count_on q m = record { length-same = m ∙ t.length-same; at = λ h. turn_on (turn (t.at h) l e k) c' v d q }

@@ -12,11 +12,9 @@ use Rattle.mdf.specs.Name.{name_at}
 use Rattle.mdf.specs.Chain.{is_in, Chain.records, Found, found, stopped, Limits, chain}
 use Rattle.mdf.specs.Walk.{Source, source, is_met, Level, level_dg, level_cg, level_cn, tally, most_items, visit, entered, id_size_in, with_found}
 use Rattle.work_words.specs.Words.{marks_at, groups_at, source_words}
-use Rattle.reading.specs.Steps.{after, visited, met_cg, met_cn, Pieces, pieces, after_data, laid_found, data_in}
-use Rattle.reading.specs.declared.answer.Taken.{Taken}
-use Rattle.reading.specs.declared.answer.Taken.TheVariants.{Done}
-use Rattle.fields.specs.declared.Check.{Check}
-use Rattle.fields.specs.declared.Check.TheVariants.{Fine}
+use Rattle.reading.specs.Steps.{refused_as, after, visited, met_cg, met_cn, Pieces, pieces, after_data, laid_found, data_in}
+use Rattle.std.specs.Prelude.{Result, Ok, Err, ⊤}
+use Rattle.fields.specs.declared.refusal.Refusal.{Refusal}
 use Rattle.reading.specs.Held.{most_pieces, State, state, Held, Within, Became, Gives, Stops}
 use Rattle.reading.specs.CheckedLaws.{refused≢ok, ok≢refused, ok_same, then_ok, both_stop, both_pass}
 use Rattle.chains.specs.KeptLaws.{words_append, length-words}
@@ -25,16 +23,16 @@ use Rattle.reading.specs.VisitLaws.{visited-room}
 use Rattle.reading.specs.WordsLaws.{length-laid, laid-dg, laid-cg, laid-cn, tally_snoc, front-laid, met_addresses}
 
 -- from the code's answer
-pub after-fine : (v : Check) (w : List ℕ) → v ≡ Fine → after v w ≡ ok w
+pub after-fine : (v : Result ⊤ Refusal) (w : List ℕ) → {u : ⊤} → v ≡ Ok u → after v w ≡ ok w
 after-fine v w q = rw q
 
-pub after_refused : (v : Check) (w : List ℕ) {y p : ℕ} → v ≡ Check.Refused y p → after v w ≡ refused y p
+pub after_refused : (v : Result ⊤ Refusal) (w : List ℕ) {y : Refusal} → v ≡ Err y → after v w ≡ refused_as y
 after_refused v w q = rw q
 
-pub after_done : (v : Taken) (w : List ℕ) {n : ℕ} → v ≡ Done n → after_data v w ≡ ok (pieces n w)
+pub after_done : (v : Result ℕ Refusal) (w : List ℕ) {n : ℕ} → v ≡ Ok n → after_data v w ≡ ok (pieces n w)
 after_done v w q = rw q
 
-pub after_stopped : (v : Taken) (w : List ℕ) {y p : ℕ} → v ≡ Taken.Refused y p → after_data v w ≡ refused y p
+pub after_stopped : (v : Result ℕ Refusal) (w : List ℕ) {y : Refusal} → v ≡ Err y → after_data v w ≡ refused_as y
 after_stopped v w q = rw q
 
 -- the search of the first words is the search of what was met

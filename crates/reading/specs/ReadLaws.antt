@@ -1,15 +1,17 @@
 -- From the walk and the counts to the whole of reading.
-use Rattle.std.specs.Prelude.{ℕ, ◌+◌, ◌-◌, ◌≤◌, ◌<◌, get_or, set}
+use Rattle.std.specs.Prelude.{ℕ, ◌+◌, ◌-◌, ◌≤◌}
 use mathlib.Core.List.{List, [], ◌∷◌, ◌++◌}
+use borrow.Rule.Slice.PartMut.{put_mid}
+use Rattle.std.proofs.lemmas.List.{drop-drop}
 use Rattle.std.proofs.Math.Path.{◌≡◌, refl, sym, ap}
-use Rattle.std.proofs.Common.{◌∙◌, add-zero, zero-add, add-one, arith, length-append, length-set, take-suc, length-take-le}
-use Rattle.std.proofs.Math.ListN.{length, take}
+use Rattle.std.proofs.Common.{append_assoc, ◌∙◌, add-zero, zero-add, arith, length-append, length-take-le}
+use Rattle.std.proofs.Math.ListN.{length, take, drop}
 use Rattle.base.specs.ChoiceLaws.{lt_no}
 use Rattle.base.specs.Blit.{part, blit}
-use Rattle.base.specs.BlitLaws.{length-blit, part-blit}
+use Rattle.base.specs.BlitLaws.{length-blit, part-blit, blit_is}
 use Rattle.base.specs.Checked.{Checked, ok, refused, and_then}
-use Rattle.fields.specs.declared.Check.{Check}
-use Rattle.fields.specs.declared.Check.TheVariants.{Fine}
+use Rattle.std.specs.Prelude.{Result, Ok, Err, ⊤, is_err, Bool, true, false}
+use Rattle.fields.specs.declared.refusal.Refusal.{Refusal}
 use Rattle.fields.specs.Answer.{verdict_of}
 use Rattle.mdf.specs.Chain.{Fragment}
 use Rattle.mdf.specs.Identification.{identified}
@@ -20,12 +22,11 @@ use Rattle.mdf.specs.Count.{count_groups, counts_from, counts}
 use Rattle.work_words.specs.Words.{counts_at, source_words, laid_items, fragment_words}
 use Rattle.chains.specs.KeptLaws.{length-words}
 use Rattle.reading.specs.declared.answer.Read.{Read}
-use Rattle.reading.specs.declared.answer.Read.TheVariants.{Refused, Done}
-use Rattle.reading.specs.Steps.{after}
+use Rattle.reading.specs.Steps.{refused_as, after}
 use Rattle.reading.specs.Sound.{Starts, empty, first-dg}
 use Rattle.reading.specs.SoundLaws.{walk-sound}
 use Rattle.reading.specs.Holding.{Holding}
-use Rattle.reading.specs.WordsLaws.{blit_snoc, addresses-stand, marks_stand, groups_stand, length-laid, length_groups, tally-append}
+use Rattle.reading.specs.WordsLaws.{addresses-stand, marks_stand, groups_stand, length-laid, length_groups, tally-append}
 use Rattle.reading.specs.ItemLaws.{own, later, own-later, own-addresses}
 use Rattle.reading.specs.CheckedLaws.{refused≢ok, ok≢refused, ok_same}
 use Rattle.reading.specs.Counting.{counted_all, Counted, CountedIn}
@@ -33,29 +34,13 @@ use Rattle.reading.specs.CountingLaws.{total, length-counts, tally-dg}
 use Rattle.reading.specs.Walked.{Kept, given, kept_of, walked}
 use Rattle.reading.specs.Reading.{reading, kept_by, read_over, zeros, left, left_by, fragment_room, read_into}
 
--- ---- the counts, word by word
-pub record Storing (w₀ counts : List ℕ) (n i : ℕ) (w : List ℕ) : Type 0 where
-  pub within : i ≤ n
-  pub few : n ≤ 512
-  pub enough : n ≤ length counts
-  pub same : length w ≡ length w₀
-  pub is : w ≡ blit counts_at (take i counts) w₀
-
-module _ {w₀ counts : List ℕ} {n i : ℕ} {w : List ℕ} (t : Storing w₀ counts n i w) where
-  pub store_more : i < n → Storing w₀ counts n (i + 1) (set w (counts_at + i) (get_or counts i 0))
-  store_more l =
-      let e = t.enough in
-      let k : length (take i counts) ≡ i = length-take-le i counts (omega arith) in
-      record {
-        within = omega arith;
-        few = t.few;
-        enough = t.enough;
-        same = length-set w (counts_at + i) (get_or counts i 0) ∙ t.same;
-        is = rw (add-one, take-suc counts i 0 (omega arith), blit_snoc, k, ← t.is);
-      }
-
-  pub store_all : n ≤ i → w ≡ blit counts_at (take n counts) w₀
-  store_all l = let h = t.within in let e : i ≡ n = omega arith in rw e at t.is
+-- ---- what was copied over a part of the words
+pub counts_laid : (w c : List ℕ) (k e : ℕ) {ys : List ℕ} → e ≡ k → ys ≡ take k c → k ≤ length c → counts_at + k ≤ length w → put_mid counts_at e w ys ≡ blit counts_at (take k c) w
+counts_laid w c k e h i j l =
+    let n : length (take k c) ≡ k = length-take-le k c j in
+    let past : drop k (drop counts_at w) ≡ drop (counts_at + k) w = drop-drop k counts_at w in
+    let there : blit counts_at (take k c) w ≡ take counts_at w ++ take k c ++ drop (counts_at + length (take k c)) w = blit_is counts_at (take k c) w (omega arith) in
+    rw (h, i, past, there, n) (sym (append_assoc (take counts_at w) (take k c) (drop (counts_at + k) w)))
 
 -- ---- as many counts as groups
 groups_later : (is : List Item) → length (addresses (groups_of is)) + tally level_cg.own (later is) ≡ tally level_cg.own is
@@ -88,18 +73,18 @@ unfolding counts data_groups
 counts-number s st b e = counts-from s st.fragments st.items [] e ∙ zero-add _ ∙ ap (tally level_cg.own) (starts-later b)
 
 -- ---- the counts, then their words
-module _ {s w f : List ℕ} {n nf : ℕ} {c₀ : List ℕ} {r : Check} {c : List ℕ} (t : Counted s w f n nf c₀ r c) (groups : ℕ) where
-  pub into_refused : {y p : ℕ} → r ≡ Check.Refused y p → CountedIn s w f n groups nf (Check.Refused y p) w
+module _ {s w f : List ℕ} {n nf : ℕ} {c₀ : List ℕ} {r : Result ⊤ Refusal} {c : List ℕ} (t : Counted s w f n nf c₀ r c) (groups : ℕ) where
+  pub into_refused : {y : Refusal} → r ≡ Err y → CountedIn s w f n groups nf (Err y) w
   unfolding counted_all
-  into_refused {y} {p} q = record { of = λ h g. go (counts s (data_groups h.st)) (sym (ap (λ (v : Check). after v c) q) ∙ t.of h) }
+  into_refused {y} q = record { of = λ h g. go (counts s (data_groups h.st)) (sym (ap (λ (v : Result ⊤ Refusal). after v c) q) ∙ t.of h) }
     where
-      go : (v : Checked (List ℕ)) → ◌≡◌ {A = Checked (List ℕ)} (refused y p) (and_then v (λ ns. ok (blit 0 ns c₀))) → refused y p ≡ and_then v (λ ns. ok (blit counts_at ns w))
+      go : (v : Checked (List ℕ)) → ◌≡◌ {A = Checked (List ℕ)} (refused_as y) (and_then v (λ ns. ok (blit 0 ns c₀))) → refused_as y ≡ and_then v (λ ns. ok (blit counts_at ns w))
       go (ok ns) e = absurd (refused≢ok e)
       go (refused x o) e = cc
 
-  pub into_words : {w' : List ℕ} → r ≡ Fine → length c₀ ≡ 512 → w' ≡ blit counts_at (take groups c) w → CountedIn s w f n groups nf Fine w'
+  pub into_words : {w' : List ℕ} {u v : ⊤} → r ≡ Ok u → length c₀ ≡ 512 → w' ≡ blit counts_at (take groups c) w → CountedIn s w f n groups nf (Ok v) w'
   unfolding counted_all part
-  into_words {w'} q l e = record { of = λ h g. go h g (counts s (data_groups h.st)) refl (sym (ap (λ (v : Check). after v c) q) ∙ t.of h) }
+  into_words {w'} q l e = record { of = λ h g. go h g (counts s (data_groups h.st)) refl (sym (ap (λ (v : Result ⊤ Refusal). after v c) q) ∙ t.of h) }
     where
       go : (h : Holding w f n nf) → groups ≡ tally level_cg.own h.st.items → (v : Checked (List ℕ)) → counts s (data_groups h.st) ≡ v
           → ◌≡◌ {A = Checked (List ℕ)} (ok c) (and_then v (λ ns. ok (blit 0 ns c₀))) → ok w' ≡ and_then v (λ ns. ok (blit counts_at ns w))
@@ -120,11 +105,11 @@ pub record Met (s w f : List ℕ) (n g k : ℕ) (w' f' : List ℕ) : Type 0 wher
   pub words : w' ≡ laid_items st.items w
   pub frags : f' ≡ blit 0 (fragment_words st.fragments) f
 
-pub walk_met : (s w f w' f' : List ℕ) {r : Read} {n g k : ℕ} → given r w' f' ≡ walked limits s w f → r ≡ Done n g k → Met s w f n g k w' f'
+pub walk_met : (s w f w' f' : List ℕ) {r : Result Read Refusal} {x : Read} → given r w' f' ≡ walked limits s w f → r ≡ Ok x → Met s w f x.items x.groups x.fragments w' f'
 unfolding walked
-walk_met s w f w' f' {r} {n} {g} {k} e q = go (walk s) refl (sym (ap (λ (v : Read). given v w' f') q) ∙ e)
+walk_met s w f w' f' {r} {x} e q = go (walk s) refl (sym (ap (λ (v : Result Read Refusal). given v w' f') q) ∙ e)
   where
-    go : (v : Checked Source) → walk s ≡ v → ◌≡◌ {A = Checked Kept} (given (Done n g k) w' f') (and_then v (λ st. ok (kept_of st w f))) → Met s w f n g k w' f'
+    go : (v : Checked Source) → walk s ≡ v → ◌≡◌ {A = Checked Kept} (given (Ok x) w' f') (and_then v (λ st. ok (kept_of st w f))) → Met s w f x.items x.groups x.fragments w' f'
     go (ok st) i z =
         let m = ok_same z in
         record { st = st; is = i; items = ap Kept.items m; groups = ap Kept.groups m; pieces = ap Kept.fragments m; words = ap Kept.words m; frags = ap Kept.frags m }
@@ -162,12 +147,12 @@ same_kept : {a a' b b' c c' : ℕ} {w w' f f' : List ℕ} → a ≡ a' → b ≡
 same_kept p q r x y = rw (p, q, r, x, y)
 
 -- ---- the whole
-module _ (s w f : List ℕ) {o : Check} (e : verdict_of o ≡ identified s) where
-  pub all_unknown : {y p : ℕ} → o ≡ Check.Refused y p → refused y p ≡ read_over s w f
+module _ (s w f : List ℕ) {o : Result ⊤ Refusal} (e : verdict_of o ≡ identified s) where
+  pub all_unknown : {y : Refusal} → o ≡ Err y → refused_as y ≡ read_over s w f
   unfolding read_over reading
   all_unknown q = rw (← e, q)
 
-  module _ (q : o ≡ Fine) where
+  module _ {u : ⊤} (q : o ≡ Ok u) where
     opened : read_over s w f ≡ and_then (walk s) (λ st. and_then (counts s (data_groups st)) (λ ns. ok (kept_by (record { source = st; counts = ns }) w f)))
     unfolding read_over reading
     opened = rw (← e, q) (go (walk s))
@@ -183,17 +168,17 @@ module _ (s w f : List ℕ) {o : Check} (e : verdict_of o ≡ identified s) wher
         go (refused y p) = refl
 
     -- the walk's refusal
-    pub all_stopped : (w' f' : List ℕ) {r : Read} {y p : ℕ} → given r w' f' ≡ walked limits s w f → r ≡ Refused y p → refused y p ≡ read_over s w f
+    pub all_stopped : (w' f' : List ℕ) {r : Result Read Refusal} {y : Refusal} → given r w' f' ≡ walked limits s w f → r ≡ Err y → refused_as y ≡ read_over s w f
     unfolding walked
-    all_stopped w' f' {y = y} {p = p} g z = go (walk s) (sym (ap (λ (v : Read). given v w' f') z) ∙ g) ∙ sym opened
+    all_stopped w' f' {y = y} g z = go (walk s) (sym (ap (λ (v : Result Read Refusal). given v w' f') z) ∙ g) ∙ sym opened
       where
-        go : (v : Checked Source) → ◌≡◌ {A = Checked Kept} (refused y p) (and_then v (λ st. ok (kept_of st w f)))
-            → refused y p ≡ and_then v (λ st. and_then (counts s (data_groups st)) (λ ns. ok (kept_by (record { source = st; counts = ns }) w f)))
+        go : (v : Checked Source) → ◌≡◌ {A = Checked Kept} (refused_as y) (and_then v (λ st. ok (kept_of st w f)))
+            → refused_as y ≡ and_then v (λ st. and_then (counts s (data_groups st)) (λ ns. ok (kept_by (record { source = st; counts = ns }) w f)))
         go (ok st) j = absurd (refused≢ok j)
         go (refused x i) j = cc
 
-    module _ {n g k : ℕ} {w' f' : List ℕ} (m : Met s w f n g k w' f') (l : source_words ≤ length w) (r : fragment_room ≤ length f)
-        {v : Check} {w'' : List ℕ} (c : CountedIn s w' f' n g k v w'') where
+    module _ {x : Read} {w' f' : List ℕ} (m : Met s w f x.items x.groups x.fragments w' f') (l : source_words ≤ length w) (r : fragment_room ≤ length f)
+        {v : Result ⊤ Refusal} {w'' : List ℕ} (c : CountedIn s w' f' x.items x.groups x.fragments v w'') where
       -- after the walk
       past : read_over s w f ≡ and_then (counts s (data_groups m.st)) (λ ns. ok (kept_by (record { source = m.st; counts = ns }) w f))
       past = opened ∙ ap (λ (u : Checked Source). and_then u (λ st. and_then (counts s (data_groups st)) (λ ns. ok (kept_by (record { source = st; counts = ns }) w f)))) m.is
@@ -202,22 +187,22 @@ module _ (s w f : List ℕ) {o : Check} (e : verdict_of o ≡ identified s) wher
       unfolding met_holding
       told = c.of (met_holding m l r) m.groups
 
-      pub all_uncounted : {y p : ℕ} → v ≡ Check.Refused y p → refused y p ≡ read_over s w f
-      all_uncounted {y} {p} z = go (counts s (data_groups m.st)) (sym (ap (λ (u : Check). after u w'') z) ∙ told) ∙ sym past
+      pub all_uncounted : {y : Refusal} → v ≡ Err y → refused_as y ≡ read_over s w f
+      all_uncounted {y} z = go (counts s (data_groups m.st)) (sym (ap (λ (u : Result ⊤ Refusal). after u w'') z) ∙ told) ∙ sym past
         where
-          go : (u : Checked (List ℕ)) → ◌≡◌ {A = Checked (List ℕ)} (refused y p) (and_then u (λ ns. ok (blit counts_at ns w')))
-              → refused y p ≡ and_then u (λ ns. ok (kept_by (record { source = m.st; counts = ns }) w f))
+          go : (u : Checked (List ℕ)) → ◌≡◌ {A = Checked (List ℕ)} (refused_as y) (and_then u (λ ns. ok (blit counts_at ns w')))
+              → refused_as y ≡ and_then u (λ ns. ok (kept_by (record { source = m.st; counts = ns }) w f))
           go (ok ns) j = absurd (refused≢ok j)
           go (refused x i) j = cc
 
-      pub all_read : v ≡ Fine → given (Done n g k) w'' f' ≡ read_over s w f
-      all_read z = go (counts s (data_groups m.st)) (sym (ap (λ (u : Check). after u w'') z) ∙ told) ∙ sym past
+      pub all_read : {u : ⊤} → v ≡ Ok u → given (Ok x) w'' f' ≡ read_over s w f
+      all_read z = go (counts s (data_groups m.st)) (sym (ap (λ (u : Result ⊤ Refusal). after u w'') z) ∙ told) ∙ sym past
         where
           go : (u : Checked (List ℕ)) → ◌≡◌ {A = Checked (List ℕ)} (ok w'') (and_then u (λ ns. ok (blit counts_at ns w')))
-              → given (Done n g k) w'' f' ≡ and_then u (λ ns. ok (kept_by (record { source = m.st; counts = ns }) w f))
+              → given (Ok x) w'' f' ≡ and_then u (λ ns. ok (kept_by (record { source = m.st; counts = ns }) w f))
           go (ok ns) j =
-              let x : w'' ≡ blit counts_at ns (laid_items m.st.items w) = ok_same j ∙ ap (blit counts_at ns) m.words in
-              same_kept m.items m.groups m.pieces x m.frags
+              let h : w'' ≡ blit counts_at ns (laid_items m.st.items w) = ok_same j ∙ ap (blit counts_at ns) m.words in
+              same_kept m.items m.groups m.pieces h m.frags
           go (refused x i) j = absurd (ok≢refused j)
 
 -- ---- the words at the end
@@ -226,13 +211,11 @@ module _ (s w f : List ℕ) (l : source_words ≤ length w) (r : fragment_room �
   unfolding read_into
   long_enough = sym (lt_no _ _ _ _ l (lt_no _ _ _ _ r refl))
 
-  pub read_refused : (w' f' : List ℕ) {w'' f'' : List ℕ} {a : Read} {y p : ℕ} → given a w' f' ≡ read_over s w f → a ≡ Refused y p
-      → length w' ≡ length w → length f' ≡ length f → w'' ≡ zeros w' → f'' ≡ zeros f' → left (Refused y p) w'' f'' ≡ read_into s w f
-  read_refused w' f' e q i j m n =
-      let k = ap (λ (v : Read). given v w' f') (sym q) ∙ e in
-      rw (m, n, i, j) (ap (λ (v : Checked Kept). left_by v w f) k) ∙ sym long_enough
+  pub read_refused : (w' f' : List ℕ) (a : Result Read Refusal) {w'' f'' : List ℕ} → given a w' f' ≡ read_over s w f → is_err a ≡ true
+      → length w' ≡ length w → length f' ≡ length f → w'' ≡ zeros w' → f'' ≡ zeros f' → left a w'' f'' ≡ read_into s w f
+  read_refused w' f' (Ok x) e q i j m n = absurd (let z : ◌≡◌ {A = Bool} false true = q in cc)
+  read_refused w' f' (Err y) e q i j m n = rw (m, n, i, j) (ap (λ (v : Checked Kept). left_by v w f) e) ∙ sym long_enough
 
-  pub read_done : (w' f' : List ℕ) {a : Read} {x y z : ℕ} → given a w' f' ≡ read_over s w f → a ≡ Done x y z → left a w' f' ≡ read_into s w f
-  read_done w' f' {a} {x} {y} {z} e q =
-      let k = ap (λ (v : Read). given v w' f') (sym q) ∙ e in
-      ap (λ (v : Read). left v w' f') q ∙ ap (λ (v : Checked Kept). left_by v w f) k ∙ sym long_enough
+  pub read_done : (w' f' : List ℕ) (a : Result Read Refusal) → given a w' f' ≡ read_over s w f → is_err a ≡ false → left a w' f' ≡ read_into s w f
+  read_done w' f' (Ok x) e q = ap (λ (v : Checked Kept). left_by v w f) e ∙ sym long_enough
+  read_done w' f' (Err y) e q = absurd (let z : ◌≡◌ {A = Bool} true false = q in cc)

@@ -8,8 +8,10 @@ use Rattle.mdf.specs.Walk.{Source, level_cg, tally, walk}
 use Rattle.mdf.specs.Group.{data_groups}
 use Rattle.mdf.specs.Count.{counts}
 use Rattle.work_words.specs.Words.{source_words, counts_at, laid_items, fragment_words}
+use Rattle.std.specs.Prelude.{Result, Ok, Err}
+use Rattle.fields.specs.declared.refusal.Refusal.{Refusal}
 use Rattle.reading.specs.declared.answer.Read.{Read}
-use Rattle.reading.specs.declared.answer.Read.TheVariants.{Refused, Done}
+use Rattle.reading.specs.Steps.{refused_as}
 use Rattle.reading.specs.Walked.{Kept}
 
 -- a recording: what was met in it, and the number of records of each of its groups
@@ -44,12 +46,20 @@ zeros w = replicate (length w) 0
 
 -- the answer, and the words of blocks and of fragments at the end
 pub data Left : Type 0 where
-  left : Read → List ℕ → List ℕ → Left
+  ended : Checked Read → List ℕ → List ℕ → Left
+
+-- the code's answer
+abbrev pub read_of : Result Read Refusal → Checked Read
+read_of (Ok r) = ok r
+read_of (Err e) = refused_as e
+
+abbrev pub left : Result Read Refusal → List ℕ → List ℕ → Left
+left r w f = ended (read_of r) w f
 
 -- "Work slices are zero after every return except refusal 1"; where reading succeeds they hold the recording
 abbrev pub left_by : Checked Kept → List ℕ → List ℕ → Left
-left_by (refused number place) w f = left (Refused number place) (zeros w) (zeros f)
-left_by (ok k) w f = left (Done k.items k.groups k.fragments) k.words k.frags
+left_by (refused number place) w f = ended (refused number place) (zeros w) (zeros f)
+left_by (ok k) w f = ended (ok (record { items = k.items; groups = k.groups; fragments = k.fragments })) k.words k.frags
 
 -- three words for each of 1,024 fragments
 abbrev pub fragment_room : ℕ
@@ -58,6 +68,6 @@ fragment_room = 3072
 -- "1, 0: a work slice too short": it "changes nothing"
 unfoldable pub read_into : List ℕ → List ℕ → List ℕ → Left
 read_into s w f =
-    if_lt (length w) source_words (left (Refused 1 0) w f)
-    (if_lt (length f) fragment_room (left (Refused 1 0) w f)
+    if_lt (length w) source_words (ended (refused 1 0) w f)
+    (if_lt (length f) fragment_room (ended (refused 1 0) w f)
     (left_by (read_over s w f) w f))

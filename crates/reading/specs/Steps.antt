@@ -4,9 +4,9 @@ use Rattle.std.specs.Prelude.{ℕ, ◌+◌, ◌*◌, List, length, take, set}
 use Rattle.base.specs.Choice.{pick, if_lt}
 use Rattle.base.specs.Blit.{blit}
 use Rattle.base.specs.Checked.{Checked, ok, refused, and_then}
-use Rattle.fields.specs.declared.Check.{Check}
-use Rattle.fields.specs.declared.Check.TheVariants.{Fine, Refused}
-use Rattle.reading.specs.declared.answer.Taken.{Taken}
+use Rattle.std.specs.Prelude.{Result, Ok, Err, ⊤}
+use Rattle.fields.specs.declared.refusal.Refusal.{Refusal}
+use Rattle.fields.specs.Answer.{number_of, place_of}
 use Rattle.mdf.specs.Block.{Wanted, CG, CN, link_at, block_at}
 use Rattle.mdf.specs.Name.{name_at}
 use Rattle.mdf.specs.Chain.{is_in, Chain.records, Found, found, stopped, Limits, chain}
@@ -14,15 +14,19 @@ use Rattle.mdf.specs.Walk.{most_items, id_size_in}
 use Rattle.index.specs.Index.{Indexed}
 use Rattle.work_words.specs.Words.{marks_at, groups_at, fragment_words}
 
+-- the code's refusal
+abbrev pub refused_as : {A : Type 0} → Refusal → Checked A
+refused_as e = refused (number_of e) (place_of e)
+
 -- the words that a check leaves
-abbrev pub after : Check → List ℕ → Checked (List ℕ)
-after Fine w = ok w
-after (Refused number place) w = refused number place
+abbrev pub after : Result ⊤ Refusal → List ℕ → Checked (List ℕ)
+after (Ok x) w = ok w
+after (Err e) w = refused_as e
 
 -- the index that a check leaves: it has one word more
-abbrev pub indexed_after : Check → List ℕ → ℕ → List ℕ → Type 0
-indexed_after Fine w n x = Indexed 1 w (n + 1) x
-indexed_after (Refused number place) w n x = Unit {0}
+abbrev pub indexed_after : Result ⊤ Refusal → List ℕ → ℕ → List ℕ → Type 0
+indexed_after (Ok y) w n x = Indexed 1 w (n + 1) x
+indexed_after (Err e) w n x = Unit {0}
 
 -- a block at a, with n blocks met before and m of its kind: "11 before it is read", its checks, the limit (19); then its address and mark stand in the words
 unfoldable pub visited : Wanted → List ℕ → List ℕ → ℕ → ℕ → ℕ → ℕ → Checked (List ℕ)
@@ -47,9 +51,9 @@ abbrev pub pieces : ℕ → List ℕ → Pieces
 pieces n w = record { count = n; words = w }
 
 -- the words and number of fragments that a DG's data leaves
-abbrev pub after_data : Taken → List ℕ → Checked Pieces
-after_data (Taken.Refused number place) w = refused number place
-after_data (Taken.Done count) w = ok (pieces count w)
+abbrev pub after_data : Result ℕ Refusal → List ℕ → Checked Pieces
+after_data (Ok count) w = ok (pieces count w)
+after_data (Err e) w = refused_as e
 
 abbrev pub laid_found : Found → ℕ → List ℕ → Checked Pieces
 laid_found (found fs) n w = ok (pieces (n + length fs) (blit (3 * n) (fragment_words fs) w))

@@ -1,12 +1,14 @@
 -- What the walk leaves: how many blocks, groups and fragments there are, and the words that hold them.
 use Rattle.std.specs.Prelude.{ℕ, List, [], length}
 use Rattle.base.specs.Blit.{blit}
-use Rattle.base.specs.Checked.{Checked, ok, refused, and_then}
+use Rattle.base.specs.Checked.{Checked, ok, and_then}
 use Rattle.mdf.specs.Chain.{Limits}
 use Rattle.mdf.specs.Walk.{Source, source, level_dg, level_cg, tally, level, turns, below_dg, walk_of}
 use Rattle.work_words.specs.Words.{fragment_words, laid_items}
+use Rattle.std.specs.Prelude.{Result, Ok, Err}
+use Rattle.fields.specs.declared.refusal.Refusal.{Refusal}
 use Rattle.reading.specs.declared.answer.Read.{Read}
-use Rattle.reading.specs.declared.answer.Read.TheVariants.{Refused, Done}
+use Rattle.reading.specs.Steps.{refused_as}
 
 pub record Kept : Type 0 where
   pub items : ℕ
@@ -16,9 +18,9 @@ pub record Kept : Type 0 where
   pub frags : List ℕ
 
 -- what the code's answer and words say; after a refusal the words are free
-abbrev pub given : Read → List ℕ → List ℕ → Checked Kept
-given (Refused number place) w f = refused number place
-given (Done n g k) w f = ok (record { items = n; groups = g; fragments = k; words = w; frags = f })
+abbrev pub given : Result Read Refusal → List ℕ → List ℕ → Checked Kept
+given (Ok r) w f = ok (record { items = r.items; groups = r.groups; fragments = r.fragments; words = w; frags = f })
+given (Err e) w f = refused_as e
 
 -- what was met, laid over words
 abbrev pub kept_of : Source → List ℕ → List ℕ → Kept

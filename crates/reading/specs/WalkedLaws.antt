@@ -4,7 +4,8 @@ use mathlib.Core.List.{List, [], ◌∷◌}
 use Rattle.std.proofs.Common.{◌∙◌, arith}
 use Rattle.base.specs.Blit.{blit}
 use Rattle.base.specs.Checked.{Checked, ok, refused}
-use Rattle.fields.specs.declared.Check.{Check}
+use Rattle.std.specs.Prelude.{Result, Ok, Err, ⊤}
+use Rattle.fields.specs.declared.refusal.Refusal.{Refusal}
 use Rattle.fields.specs.Answer.{verdict_of}
 use Rattle.mdf.specs.Block.{HD, link_at, block_at}
 use Rattle.mdf.specs.Chain.{Limits}
@@ -12,6 +13,7 @@ use Rattle.mdf.specs.Walk.{source, level_dg, tally, level, turns, below_dg, walk
 use Rattle.work_words.specs.Words.{address_words, mark_words, group_words, fragment_words, laid_items, source_words}
 use Rattle.reading.specs.declared.answer.Read.{Read}
 use Rattle.reading.specs.Held.{state, Held, Within, Gives, Stops}
+use Rattle.reading.specs.Steps.{refused_as}
 use Rattle.reading.specs.Walked.{Kept, given, walked_from, walked}
 
 -- nothing was met
@@ -36,12 +38,12 @@ module _ (l : Limits) (s : List ℕ) (a : ℕ) (w f : List ℕ) where
   walk_stops g = rw (g.at w f (source [] []) (held_none w f))
 
 -- ---- HD in front
-module _ (l : Limits) (s w f : List ℕ) {o : Check} (e : verdict_of o ≡ block_at HD s 64) where
-  pub head_refused : {y p : ℕ} → o ≡ Check.Refused y p → refused y p ≡ walked l s w f
+module _ (l : Limits) (s w f : List ℕ) {o : Result ⊤ Refusal} (e : verdict_of o ≡ block_at HD s 64) where
+  pub head_refused : {y : Refusal} → o ≡ Err y → refused_as y ≡ walked l s w f
   unfolding walked walk_of
   head_refused q = rw (← e, q)
 
-  pub head-fine : {a : ℕ} {k : Checked Kept} → o ≡ Check.Fine → a ≡ link_at s 64 0 → k ≡ walked_from l s a w f → k ≡ walked l s w f
+  pub head-fine : {a : ℕ} {k : Checked Kept} → {u : ⊤} → o ≡ Ok u → a ≡ link_at s 64 0 → k ≡ walked_from l s a w f → k ≡ walked l s w f
   unfolding walked walk_of walked_from
   head-fine q h g = g ∙ rw (← e, q, h)
 
@@ -50,6 +52,6 @@ no_words : (f : List ℕ) → length f ≡ 0 → f ≡ []
 no_words [] h = refl
 no_words (x ∷ f) h = absurd (omega arith)
 
-pub without-pieces : (l : Limits) (s w w' f f' : List ℕ) (r : Read) → given r w' f' ≡ walked l s w f → length f ≡ 0 → length f' ≡ 0
+pub without-pieces : (l : Limits) (s w w' f f' : List ℕ) (r : Result Read Refusal) → given r w' f' ≡ walked l s w f → length f ≡ 0 → length f' ≡ 0
     → given r w' [] ≡ walked l s w []
 without-pieces l s w w' f f' r e h h' = rw (no_words f h, no_words f' h') at e

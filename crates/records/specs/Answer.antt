@@ -1,36 +1,36 @@
 -- The code's answers, as the definitions give them.
-use Rattle.std.specs.Prelude.{ℕ, List, [], ◌∷◌}
+use Rattle.std.specs.Prelude.{ℕ, List, [], ◌∷◌, Option, Some, None, Result, Ok, Err}
 use Rattle.base.specs.Checked.{Checked, ok, refused}
+use Rattle.mdf.specs.Chain.{Fragment}
 use Rattle.mdf.specs.Records.{Known, known, unknown}
-use Rattle.records.specs.Ahead.{Spot, nowhere, spot, Reached, halted, reached}
+use Rattle.records.specs.Ahead.{ahead, Spot, nowhere, spot, Reached, halted, reached}
 use Rattle.records.specs.Framing.{Numeral, none, value}
-use Rattle.records.specs.declared.framing.Step.{Step}
-use Rattle.records.specs.declared.framing.Step.TheVariants.{Broken, Record}
-use Rattle.records.specs.declared.framing.Moved.{Moved}
-use Rattle.records.specs.declared.framing.Moved.TheVariants.{Past, To}
-use Rattle.records.specs.declared.framing.Number.{Number}
-use Rattle.records.specs.declared.framing.Number.TheVariants.{Missing, Value}
-use Rattle.records.specs.declared.framing.Found.{Found}
-use Rattle.records.specs.declared.framing.Found.TheVariants.{Unknown, Group}
-use Rattle.records.specs.declared.sorted.Counted.{Counted}
-use Rattle.records.specs.declared.sorted.Counted.TheVariants.{Refused, Count}
+use Rattle.fields.specs.declared.refusal.Refusal.{Refusal}
+use Rattle.fields.specs.Answer as refusals
+use Rattle.records.specs.declared.framing.Framing as places
+use Rattle.records.specs.declared.framing.Record.{Record}
+use Rattle.records.specs.declared.framing.Group.{Group}
 
-abbrev pub counted_of : Counted → Checked (List ℕ)
-counted_of (Refused number place) = refused number place
-counted_of (Count n) = ok (n ∷ [])
+abbrev pub counted_of : Result ℕ Refusal → Checked (List ℕ)
+counted_of (Ok n) = ok (n ∷ [])
+counted_of (Err e) = refused (refusals.number_of e) (refusals.place_of e)
 
-abbrev pub moved_of : Moved → Spot
-moved_of Past = nowhere
-moved_of (To at position left) = spot at position left
+-- what is ahead of a place
+abbrev pub ahead_of : List ℕ → List ℕ → places.Framing → List Fragment
+ahead_of s ws p = ahead s ws p.at p.position p.left
 
-abbrev pub number_of : Number → Numeral
-number_of Missing = none
-number_of (Value n) = value n
+abbrev pub moved_of : Option places.Framing → Spot
+moved_of None = nowhere
+moved_of (Some p) = spot p.at p.position p.left
 
-abbrev pub found_of : Found → Known
-found_of Unknown = unknown
-found_of (Group number cg) = known number cg
+abbrev pub number_of : Option ℕ → Numeral
+number_of None = none
+number_of (Some n) = value n
 
-abbrev pub reached_of : Step → Reached
-reached_of Broken = halted
-reached_of (Record group bytes next position left) = reached group bytes next.at position left
+abbrev pub found_of : Option Group → Known
+found_of None = unknown
+found_of (Some g) = known g.number g.cg
+
+abbrev pub reached_of : Option Record → Reached
+reached_of None = halted
+reached_of (Some r) = reached r.group r.bytes r.next.at r.next.position r.next.left

@@ -1,5 +1,7 @@
 -- The bytes of the DT and of the DV, fragment by fragment, and the count of a group that is alone in its DG.
-use Rattle.std.specs.Prelude.{ℕ, ◌+◌, ◌/◌, ◌≤◌, ◌<◌, List, [], ◌∷◌, Bool, true, false, ◌≡◌, length, get_or}
+use Rattle.std.specs.Prelude.{ℕ, ◌+◌, ◌/◌, ◌≤◌, ◌<◌, List, [], ◌∷◌, Bool, true, false, ◌≡◌, length, get_or, Option, Some, None, Result, Ok, Err}
+use Rattle.std.specs.Option.{SomeIff, ok_or}
+use mathlib.Core.Bool.{beq}
 use Rattle.std.proofs.Math.Path.{refl, sym}
 use Rattle.std.proofs.Common.{◌∙◌, add-zero, add_assoc, arith}
 use Rattle.base.specs.ChoiceLaws.{lt_yes, lt_no, lt_back, lt_first, eq_yes, eq_no}
@@ -8,8 +10,9 @@ use Rattle.mdf.specs.Chain.{Kind, dt, dv, Fragment}
 use Rattle.work_words.specs.Words.{kind_of, fragments_of}
 use Rattle.mdf.specs.Records.{is_dv, most64, record_size}
 use Rattle.mdf.specs.Count.{size_dt, size_dv, quotient, sorted_count, count_one}
-use Rattle.records.specs.declared.sorted.Counted.{Counted}
-use Rattle.records.specs.declared.sorted.Counted.TheVariants.{Refused, Count}
+use Rattle.fields.specs.declared.refusal.Refusal.{Refusal}
+use Rattle.fields.specs.declared.refusal.Refusal.TheVariants.{OverLimit}
+use Rattle.fields.specs.Answer.{number_of, place_of}
 use Rattle.records.specs.Answer.{counted_of}
 use Rattle.records.specs.Counted.{bytes_of, own_bytes, within64}
 use Rattle.records.specs.Ahead.{fragments_from}
@@ -93,26 +96,24 @@ module _ (s : List ℕ) (d g : ℕ) (fs : List Fragment) where
       lt_no _ _ _ _ v.0 (lt_no _ _ _ _ w.0 (k ∙ rw (m, n, ← v.1, ← w.1)))
 
 -- ---- a fragment's own bytes
-kind-dv : (k : Kind) → true ≡ is_dv k → k ≡ dv
-kind-dv dt e = absurd (let z : ◌≡◌ {A = ℕ} 0 1 = cc in omega arith)
-kind-dv dv e = refl
+module _ (k : Kind) (n : ℕ) {a : Bool} (is : a ≡ is_dv k) (b : Bool) where
+  pub own : {r : ℕ} → beq a b ≡ true → r ≡ n → r ≡ own_bytes b k n
+  own q e = go k b (rw is at q) e
+    where
+      go : (k : Kind) (b : Bool) → beq (is_dv k) b ≡ true → {r : ℕ} → r ≡ n → r ≡ own_bytes b k n
+      go dt false h e = e
+      go dt true h e = absurd (let z : ◌≡◌ {A = ℕ} 0 1 = cc in omega arith)
+      go dv false h e = absurd (let z : ◌≡◌ {A = ℕ} 0 1 = cc in omega arith)
+      go dv true h e = e
 
-kind-dt : (k : Kind) → false ≡ is_dv k → k ≡ dt
-kind-dt dt e = refl
-kind-dt dv e = absurd (let z : ◌≡◌ {A = ℕ} 0 1 = cc in omega arith)
-
-module _ (b : Bool) (k : Kind) (n : ℕ) {a : Bool} (is : a ≡ is_dv k) where
-  pub own-dv : {r : ℕ} → a ≡ true → b ≡ true → r ≡ n → r ≡ own_bytes b k n
-  own-dv q p e = rw (p, kind-dv k (sym q ∙ is)) e
-
-  pub other-dv : a ≡ true → b ≡ false → 0 ≡ own_bytes b k n
-  other-dv q p = rw (p, kind-dv k (sym q ∙ is))
-
-  pub other-dt : a ≡ false → b ≡ true → 0 ≡ own_bytes b k n
-  other-dt q p = rw (p, kind-dt k (sym q ∙ is))
-
-  pub own-dt : {r : ℕ} → a ≡ false → b ≡ false → r ≡ n → r ≡ own_bytes b k n
-  own-dt q p e = rw (p, kind-dt k (sym q ∙ is)) e
+  pub other : beq a b ≡ false → 0 ≡ own_bytes b k n
+  other q = go k b (rw is at q)
+    where
+      go : (k : Kind) (b : Bool) → beq (is_dv k) b ≡ false → 0 ≡ own_bytes b k n
+      go dt false h = absurd (let z : ◌≡◌ {A = ℕ} 0 1 = cc in omega arith)
+      go dt true h = refl
+      go dv false h = refl
+      go dv true h = absurd (let z : ◌≡◌ {A = ℕ} 0 1 = cc in omega arith)
 
 pub quotient-none : (n m : ℕ) → m ≡ 0 → 0 ≡ quotient n m
 unfolding quotient
@@ -123,11 +124,33 @@ unfolding quotient
 quotient-some n m h = eq_no _ _ _ _ h refl
 
 -- ---- from the answer to the count
-pub so_over : {o : Counted} {v : Checked (List ℕ)} {n p : ℕ} → counted_of o ≡ v → o ≡ Refused n p → v ≡ refused n p
+pub so_over : {o : Result ℕ Refusal} {v : Checked (List ℕ)} {x : Refusal} → counted_of o ≡ v → o ≡ Err x → v ≡ refused (number_of x) (place_of x)
 so_over e q = sym e ∙ rw q
 
-pub so_counted : {o : Counted} {v : Checked (List ℕ)} {n : ℕ} → counted_of o ≡ v → o ≡ Count n → v ≡ ok (n ∷ [])
+pub so_counted : {o : Result ℕ Refusal} {v : Checked (List ℕ)} {n : ℕ} → counted_of o ≡ v → o ≡ Ok n → v ≡ ok (n ∷ [])
 so_counted e q = sym e ∙ rw q
+
+pub sum_tested : (d n : ℕ) (o : Option ℕ) {r : Result ℕ Refusal} → SomeIff o (n < 18446744073709551616) n → r ≡ ok_or o (OverLimit d) → counted_of r ≡ within64 d n
+sum_tested d n None h e = rw e (within-over d n (omega (arith, h)))
+sum_tested d n (Some x) h e = let p = h.0 in rw (e, h.1) (within_in d n (omega arith))
+
+-- a sum that is too large
+pub record Over (d n : ℕ) (x : Refusal) : Type 0 where
+  pub over : most64 < n
+  pub number : number_of x ≡ 19
+  pub place : place_of x ≡ d
+
+same_refusal : {d x p : ℕ} → ◌≡◌ {A = Checked (List ℕ)} (refused 19 d) (refused x p) → (x ≡ 19) × (p ≡ d)
+same_refusal e = (cc, cc)
+
+pub sum_over : (d n : ℕ) {o : Result ℕ Refusal} {x : Refusal} → counted_of o ≡ within64 d n → o ≡ Err x → Over d n x
+sum_over d n e q =
+    let w = within_refused d n (so_over e q) in
+    let s = same_refusal w.1 in
+    record { over = w.0; number = s.0; place = s.1 }
+
+pub sum_is : (d n : ℕ) {o : Result ℕ Refusal} {x : ℕ} → counted_of o ≡ within64 d n → o ≡ Ok x → (n ≤ most64) × (n ≡ x)
+sum_is d n e q = within_ok d n (so_counted e q)
 
 pub quotient-at : (n m : ℕ) {k r : ℕ} → r ≡ quotient n m → m ≡ k → r ≡ quotient n k
 quotient-at n m e q = rw (← q) e

@@ -1,10 +1,11 @@
 -- The fragments that words give, one at a time, and the checks over them.
-use Rattle.std.specs.Prelude.{ℕ, suc, ◌+◌, ◌≤◌, ◌<◌, List, [], ◌∷◌, Bool, true, false, ◌≡◌, ◌⊎◌, ltb, eqb, length, get_or, drop}
+use Rattle.std.specs.Prelude.{ℕ, suc, ◌+◌, ◌≤◌, ◌<◌, List, [], ◌∷◌, Bool, true, false, ◌≡◌, ◌⊎◌, ltb, eqb, length, get_or, drop, not}
 use Rattle.std.proofs.Math.Path.{refl, sym}
 use Rattle.std.proofs.Common.{◌∙◌, inl, inr, ltb-true, ltb-false, eqb-true, arith, length-drop, drop-cons}
 use Rattle.std.proofs.lemmas.Bool.{eqb-false}
 use Rattle.std.proofs.Math.ListN.{get_or-eq_default}
-use Rattle.base.specs.ChoiceLaws.{lt_yes, lt_no, lt_back, eq_yes, eq_no}
+use Rattle.base.specs.Choice.{pick, if_eq}
+use Rattle.base.specs.ChoiceLaws.{lt_yes, lt_no, lt_back}
 use Rattle.base.specs.Checked.{refused, Verdict, fine}
 use Rattle.mdf.specs.Chain.{Kind, dt, dv, Fragment}
 use Rattle.work_words.specs.Words.{kind_of, fragments_of}
@@ -84,27 +85,27 @@ ranges_tail s f fs e = (lt_back _ _ _ _ e refused≢fine).1
 
 -- ---- DV
 module _ (ws : List ℕ) (i : ℕ) {b : Bool} (rest : any_dv (fragments_from ws i) ≡ b) where
-  pub dv_met : {k : ℕ} → i + 3 ≤ length ws → k ≡ get_or ws (i + 2) 0 → (k ≡ 0 → ⊥) → true ≡ b
-  unfolding any_dv kind_of
-  dv_met h p k = let e : kind_of (get_or ws (i + 2) 0) ≡ dv = sym (eq_no _ _ _ _ (λ q. k (p ∙ q)) refl) in rw (from_more ws i h, e) at rest
+  module _ {a : Bool} (h : i + 3 ≤ length ws) (p : a ≡ is_dv (kind_of (get_or ws (i + 2) 0))) where
+    pub dv_met : a ≡ true → true ≡ b
+    unfolding any_dv
+    dv_met q = rw (from_more ws i h, ← p, q) at rest
 
-  pub dv-next : {k : ℕ} → i + 3 ≤ length ws → k ≡ get_or ws (i + 2) 0 → k ≡ 0 → any_dv (fragments_from ws (i + 3)) ≡ b
-  unfolding any_dv kind_of
-  dv-next h p k = let e : kind_of (get_or ws (i + 2) 0) ≡ dt = sym (eq_yes _ _ _ _ (sym p ∙ k) refl) in rw (from_more ws i h, e) at rest
+    pub dv-next : a ≡ false → any_dv (fragments_from ws (i + 3)) ≡ b
+    unfolding any_dv
+    dv-next q = rw (from_more ws i h, ← p, q) at rest
 
   pub dv_end : length ws < i + 3 → false ≡ b
   unfolding any_dv
   dv_end h = rw (from-none ws i h) at rest
 
--- ---- the kind of a word
-module _ (k : ℕ) {w : ℕ} (e : k ≡ w) where
-  pub dt_is : k ≡ 0 → false ≡ is_dv (kind_of w)
-  unfolding kind_of
-  dt_is z = let q : kind_of w ≡ dt = sym (eq_yes _ _ _ _ (sym e ∙ z) refl) in rw q
-
-  pub dv_is : (k ≡ 0 → ⊥) → true ≡ is_dv (kind_of w)
-  unfolding kind_of
-  dv_is z = let q : kind_of w ≡ dv = sym (eq_no _ _ _ _ (λ m. z (e ∙ m)) refl) in rw q
+-- the kind of a word
+pub dv_word : (w : ℕ) {k : ℕ} → k ≡ w → not (eqb k 0) ≡ is_dv (kind_of w)
+unfolding kind_of if_eq
+dv_word w e = rw e (go (eqb w 0))
+  where
+    go : (t : Bool) → not t ≡ is_dv (pick t dt dv)
+    go true = refl
+    go false = refl
 
 pub kind_if_lem : {b : Bool} (k : Kind) → b ≡ is_dv k → k ≡ kind_if b
 kind_if_lem dt e = rw e

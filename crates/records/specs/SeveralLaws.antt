@@ -1,18 +1,20 @@
 -- Equal ids, the checks of a DG with several groups, and counts laid over words.
-use Rattle.std.specs.Prelude.{ℕ, zero, suc, ◌+◌, ◌-◌, ◌≤◌, ◌<◌, Bool, ◌≡◌, length, get_or, set, drop, replicate}
+use Rattle.std.specs.Prelude.{ℕ, zero, suc, ◌+◌, ◌-◌, ◌≤◌, ◌<◌, Bool, ◌≡◌, length, get_or, set, take, drop, replicate, min}
 use mathlib.Core.List.{List, [], ◌∷◌, ◌++◌}
 use Rattle.std.proofs.Math.Bool.{true, false}
 use Rattle.std.proofs.Math.Path.{refl, sym}
-use Rattle.std.proofs.Common.{ap, ◌∙◌, ⊎_elim, add-zero, zero-add, sub-one, arith, length-set, drop_of_length-le, drop-cons, set-set, get_or-set_same, get_or-set_other}
+use Rattle.std.proofs.Common.{ap, ◌∙◌, ⊎_elim, add-zero, zero-add, arith, length-set, drop_of_length-le, drop-cons, set-set, get_or-set_same, get_or-set_other}
 use Rattle.std.proofs.Math.Nat.{add_assoc}
 use Rattle.std.proofs.Math.Numerals.{add-one}
 use Rattle.std.proofs.Math.ListN.{get_or-eq_default}
 use Rattle.std.proofs.Math.Seq.{set_out}
+use Rattle.std.proofs.Common.{length-drop, le_refl, take_all}
+use Rattle.std.proofs.lemmas.List.{length-replicate, replicate-append-replicate}
 use borrow.Author.Tests.{eq-eqb, ne_eqb}
 use Rattle.base.specs.Choice.{pick, if_lt, if_eq}
 use Rattle.base.specs.ChoiceLaws.{lt_yes, lt_no, lt_back, eq_yes, eq_no}
 use Rattle.base.specs.Blit.{blit}
-use Rattle.base.specs.BlitLaws.{length-blit, blit_comm, blit-one}
+use Rattle.base.specs.BlitLaws.{length-blit, blit_comm, blit-append, blit_is, blit-one}
 use Rattle.base.specs.Checked.{Checked, ok, refused, and_then, Verdict, fine}
 use Rattle.mdf.specs.Chain.{Fragment}
 use Rattle.mdf.specs.Walk.{id_size}
@@ -42,6 +44,10 @@ module _ (s : List ℕ) (id : ℕ) (gs : List ℕ) (i : ℕ) {b : Bool} (rest : 
   pub is_end : length gs ≤ i → false ≡ b
   unfolding is_id_of
   is_end h = rw (drop_of_length-le gs h) at rest
+
+-- the groups from one on, as a slice gives them
+pub rest_all : (gs : List ℕ) (i : ℕ) → take (length gs - i) (drop i gs) ≡ drop i gs
+rest_all gs i = take_all (length gs - i) (drop i gs) (simp length-drop (le_refl _))
 
 module _ (s : List ℕ) (gs : List ℕ) (i : ℕ) {b : Bool} (rest : equal_ids s (drop i gs) ≡ b) where
   pub equal_met : {g r : ℕ} {t : Bool} → i < length gs → g ≡ get_or gs i 0 → r ≡ record_id s g → t ≡ is_id_of s r (drop (i + 1) gs) → t ≡ true
@@ -260,27 +266,32 @@ module _ (n : ℕ) (rs : List Frame) (r : Frame) (w₀ : List ℕ) {w : List ℕ
       (lt_or_le r.group (length w))
 
 -- ---- words set to zero
-pub zero_turn : (n p : ℕ) (d : List ℕ) {g : List ℕ} → 0 < n → blit p (replicate n 0) d ≡ g
-    → blit (p + 1) (replicate (n - 1) 0) (set d p 0) ≡ g
-unfolding blit
-zero_turn zero p d h i = absurd (omega arith)
-zero_turn (suc n) p d h i = rw (add-one, sub-one) i
+abbrev zeros : ℕ → List ℕ
+zeros n = replicate n 0
 
-pub zero_done : (n p : ℕ) (d : List ℕ) {g : List ℕ} → n ≡ 0 → blit p (replicate n 0) d ≡ g → d ≡ g
-unfolding blit
-zero_done n p d e i = rw e at i
+zero_fits : (k : ℕ) (d : List ℕ) → k ≤ length d → zeros k ++ drop k d ≡ blit 0 (zeros k) d
+zero_fits k d h =
+    let m : length (zeros k) ≡ k = length-replicate k 0 in
+    let e : 0 + length (zeros k) ≡ k = zero-add _ ∙ m in
+    sym (rw e at (blit_is 0 (zeros k) d (omega arith)))
 
-pub zero-past : (n p : ℕ) (d : List ℕ) {g : List ℕ} → length d ≤ p → blit p (replicate n 0) d ≡ g → d ≡ g
-zero-past n p d h i = sym (blit-out (replicate n 0) p d h) ∙ i
+zero_over : (n : ℕ) (d : List ℕ) → length d ≤ n → blit 0 (zeros (length d)) d ≡ blit 0 (zeros n) d
+zero_over n d h =
+    let r : ℕ = n - length d in
+    let m : length d + r ≡ n = omega arith in
+    let e : zeros n ≡ zeros (length d) ++ zeros r = sym (rw m at (replicate-append-replicate {A = ℕ} (length d) r 0)) in
+    let k : length (zeros (length d)) ≡ length d = length-replicate (length d) 0 in
+    let l : length (blit 0 (zeros (length d)) d) ≡ length d = length-blit 0 (zeros (length d)) d in
+    rw (e, blit-append) (sym (blit-out (zeros r) (0 + length (zeros (length d))) (blit 0 (zeros (length d)) d) (omega arith)))
+
+pub zero_some : (n k : ℕ) (d : List ℕ) → k ≡ min n (length d) → replicate k 0 ++ drop k d ≡ blit 0 (replicate n 0) d
+zero_some n k d e =
+    ⊎_elim (λ (h : n < length d). let q : k ≡ n = omega arith in rw q (zero_fits n d (omega arith)))
+    (λ (h : length d ≤ n). let q : k ≡ length d = omega arith in rw q (zero_fits (length d) d (omega arith) ∙ zero_over n d h))
+    (lt_or_le n (length d))
 
 pub up_none : (w : List ℕ) (k v : ℕ) → length w ≤ k → w ≡ set w k v
 up_none w k v h = sym (set_out w k v h)
-
-pub first-none : (w : List ℕ) (x : ℕ) → length w ≡ 0 → w ≡ blit 0 (x ∷ []) w
-first-none w x h = sym (blit-out (x ∷ []) 0 w (omega arith))
-
-pub first_put : (w : List ℕ) (x : ℕ) → set w 0 x ≡ blit 0 (x ∷ []) w
-first_put w x = sym (blit-one 0 x w)
 
 -- ---- the counts of a DG
 module _ (s : List ℕ) (d : ℕ) (fs : List Fragment) where
@@ -303,13 +314,15 @@ module _ (s : List ℕ) (d : ℕ) (fs : List Fragment) where
   groups_several (g ∷ j ∷ gs) h k = refl
 
   pub alone_refused : (gs w : List ℕ) {g n p : ℕ} {v : List ℕ} → g ≡ get_or gs 0 0 → length gs ≡ 1 → count_one s d g fs ≡ refused n p
-      → v ≡ blit 0 (0 ∷ []) w
+      → v ≡ set w 0 0
       → laid (refused n p) v ≡ laid_counts (count_groups s d gs fs) (length gs) w
+  unfolding blit
   alone_refused gs w {g} e h q k = rw (groups_one gs g e h, q, h, k)
 
   pub alone-counted : (gs w : List ℕ) {g n : ℕ} {v : List ℕ} → g ≡ get_or gs 0 0 → length gs ≡ 1 → count_one s d g fs ≡ ok (n ∷ [])
-      → v ≡ blit 0 (n ∷ []) w
+      → v ≡ set w 0 n
       → laid fine v ≡ laid_counts (count_groups s d gs fs) (length gs) w
+  unfolding blit
   alone-counted gs w {g} e h q k = rw (groups_one gs g e h, q, k)
 
   pub groups_many : (gs w : List ℕ) {x : Laid} → (length gs ≡ 0 → ⊥) → (length gs ≡ 1 → ⊥)

@@ -1,11 +1,9 @@
 -- Tables of a DG's groups for framing: the id and the size of records, a word each, in the order of the groups.
-use Rattle.std.specs.Prelude.{ℕ, ◌+◌, ◌≤◌, ◌<◌, List, [], ◌∷◌, ◌≡◌, false, length, get_or}
+use Rattle.std.specs.Prelude.{ℕ, ◌+◌, ◌≤◌, ◌<◌, List, [], ◌∷◌, ◌≡◌, false, length, get_or, Option, Some}
 use Rattle.base.specs.Choice.{pick}
 use Rattle.base.specs.Field.{le_at}
 use Rattle.mdf.specs.Group.{record_id, samples, inval_bytes, is_storage}
 use Rattle.mdf.specs.Records.{most64, equal_ids}
-use Rattle.records.specs.declared.framing.Number.{Number}
-use Rattle.records.specs.declared.framing.Number.TheVariants.{Value}
 
 -- a word for each group
 unfoldable pub each : (ℕ → ℕ) → List ℕ → List ℕ
@@ -28,14 +26,19 @@ pub record Tabled (s gs ids sizes : List ℕ) : Type 0 where
   pub id_of : (j : ℕ) → j < length gs → j < 512 → get_or ids j 0 ≡ record_id s (get_or gs j 0)
   pub size_of : (j : ℕ) → j < length gs → j < 512 → get_or sizes j 0 ≡ size_word s (get_or gs j 0)
 
+-- group g has the id in its table
+pub record Guessed (ids : List ℕ) (id g : ℕ) : Type 0 where
+  pub within : g < 512
+  pub has : get_or ids g 0 ≡ id
+
 -- a number is the id of n bytes at p, which lies in the bytes left
 pub record IdHere (s : List ℕ) (p left n x : ℕ) : Type 0 where
   pub fits : n ≤ left
   pub is : x ≡ le_at n s p
   pub small : x ≤ most64
 
-abbrev pub IdAt : List ℕ → ℕ → ℕ → ℕ → Number → Type 0
-IdAt s p left n r = (x : ℕ) → r ≡ Value x → IdHere s p left n x
+abbrev pub IdAt : List ℕ → ℕ → ℕ → ℕ → Option ℕ → Type 0
+IdAt s p left n r = (x : ℕ) → r ≡ Some x → IdHere s p left n x
 
 -- a number is that of a record's bytes past its id, which lie in the bytes left from p on; size is its group's word
 pub record BodyHere (s : List ℕ) (p left size m : ℕ) : Type 0 where
@@ -43,5 +46,5 @@ pub record BodyHere (s : List ℕ) (p left size m : ℕ) : Type 0 where
   pub plain : 0 < size → m + 1 ≡ size
   pub stored : size ≡ 0 → m ≡ 4 + le_at 4 s p
 
-abbrev pub BodyIn : List ℕ → ℕ → ℕ → ℕ → Number → Type 0
-BodyIn s p left size r = (m : ℕ) → r ≡ Value m → BodyHere s p left size m
+abbrev pub BodyIn : List ℕ → ℕ → ℕ → ℕ → Option ℕ → Type 0
+BodyIn s p left size r = (m : ℕ) → r ≡ Some m → BodyHere s p left size m

@@ -9,14 +9,9 @@ use Rattle.base.specs.Blit.{part, blit}
 use Rattle.base.specs.Field.{le_at}
 use Rattle.mdf.specs.Group.{record_id, samples, inval_bytes, is_storage}
 use Rattle.mdf.specs.Records.{most64, joined, known, with_id, is_id_of, equal_ids}
-use Rattle.records.specs.Ahead.{fragments_from, ahead, Reached, reached, step_to}
+use Rattle.records.specs.Ahead.{fragments_from, ahead, reached, step_to}
 use Rattle.records.specs.Framing.{none, value, numeral, body_of, body_to}
-use Rattle.records.specs.Table.{each, size_word, Tabled, IdHere, IdAt, BodyHere, BodyIn}
-use Rattle.records.specs.declared.framing.Framing.{Framing}
-use Rattle.records.specs.declared.framing.Step.{Step}
-use Rattle.records.specs.declared.framing.Step.TheVariants.{Broken, Record}
-use Rattle.records.specs.Answer.{reached_of}
-use Rattle.records.specs.declared.framing.Number.TheVariants.{Missing, Value}
+use Rattle.records.specs.Table.{each, size_word, Tabled, IdHere, BodyHere}
 use Rattle.records.specs.AheadLaws.{part_high, part-all, joined-ahead, byte_here, spot_stay}
 use Rattle.records.specs.FrameLaws.{record_onto, step-body}
 use Rattle.records.specs.SeveralLaws.{get_d_blit}
@@ -114,30 +109,6 @@ module _ (s : List ℕ) (n : ℕ) (gs ws ids sizes : List ℕ) (at p l : ℕ) (t
       step-body s n gs ws at p l (sym (spot_stay s ws at p l n is f)) u v
       (body_reached s ws at (p + n) (here - n) (get_or gs g 0) r (t.size_of g h low) b g)
 
--- ---- numbers that were read
-none≢value : {x : ℕ} → Missing ≡ Value x → ⊥
-none≢value e = let z : ◌≡◌ {A = ℕ} 0 1 = cc in omega arith
-
-same_number : {x y : ℕ} → Value x ≡ Value y → x ≡ y
-same_number e = cc
-
-pub id_none : (s : List ℕ) (p left n : ℕ) → IdAt s p left n Missing
-id_none s p left n x e = absurd (none≢value e)
-
-pub id_some : (s : List ℕ) (p left n k : ℕ) {v : ℕ} → n ≡ k → n ≤ left → v ≡ le_at k s p → v ≤ most64 → IdAt s p left n (Value v)
-id_some s p left n k w h e m x q = record { fits = h; is = sym (same_number q) ∙ rw w e; small = rw (← same_number q) m }
-
-pub body-none : (s : List ℕ) (p left size : ℕ) → BodyIn s p left size Missing
-body-none s p left size m e = absurd (none≢value e)
-
-pub body-plain : (s : List ℕ) (p left size v : ℕ) → 0 < size → v + 1 ≡ size → v ≤ left → BodyIn s p left size (Value v)
-body-plain s p left size v z w h m e =
-    let q = same_number e in record { fits = omega arith; plain = λ _. omega arith; stored = λ n. absurd (omega arith) }
-
-pub body-stored : (s : List ℕ) (p left size v : ℕ) → size ≡ 0 → v ≡ le_at 4 s p → 4 + v ≤ left → BodyIn s p left size (Value (4 + v))
-body-stored s p left size v z w h m e =
-    let q = same_number e in record { fits = omega arith; plain = λ n. absurd (omega arith); stored = λ _. omega arith }
-
 -- ---- the tables are filled
 pub word-stored : (s : List ℕ) (g : ℕ) {b : Bool} → b ≡ is_storage s g → b ≡ true → 0 ≡ size_word s g
 unfolding size_word
@@ -181,11 +152,3 @@ pub tabled : (s gs a b : List ℕ) {ids sizes : List ℕ} → equal_ids s gs ≡
     → sizes ≡ blit 0 (each (size_word s) gs) b → length b ≡ 512 → Tabled s gs ids sizes
 tabled s gs a b q e l f k =
     record { apart = q; id_of = each_at_lem (record_id s) gs a e l; size_of = each_at_lem (size_word s) gs b f k }
-
--- ---- the quick answer
-record≢broken : {k m p l : ℕ} {f : Framing} → Record k m f p l ≡ Broken → ⊥
-record≢broken e = let z : ◌≡◌ {A = ℕ} 0 1 = cc in omega arith
-
-pub quick_kept : {o : Step} {k m p l : ℕ} {f : Framing} {v : Reached} → o ≡ Record k m f p l → ((o ≡ Broken → ⊥) → reached_of o ≡ v)
-    → reached k m f.at p l ≡ v
-quick_kept e h = rw e at (h (λ q. record≢broken (sym e ∙ q)))

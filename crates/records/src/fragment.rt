@@ -4,32 +4,24 @@ ghost use Rattle.fields.specs.Answer.{verdict_of};
 ghost use Rattle.work_words.specs.Words.{kind_of, fragments_of};
 ghost use Rattle.mdf.specs.Records.{ranges_in, is_dv, any_dv};
 
-use fields::Check;
+use fields::refusal::Refusal;
 
 // Word i, 0 past the end.
 pub fn word_at(words: &[u64], i: u64) -> u64
     ensures { result ≡ get_or words.now i 0 }
 {
-    let k = i as usize;
-    if k < words.len() {
-        return words[k];
-    }
-    0
+    words.get(i as usize).copied().unwrap_or(0)
 }
 
 // Whether word i is the kind DV.
 pub fn is_dv(words: &[u64], i: u64) -> bool
     ensures { result ≡ is_dv (kind_of (get_or words.now i 0)) }
 {
-    let k = word_at(words, i);
-    if k == 0 {
-        return false;
-    }
-    true
+    word_at(words, i) != 0
 }
 
 // 4: the data of a fragment runs past the image.
-pub fn ranges_in(image: &[u8], fragments: &[u64]) -> Check
+pub fn ranges_in(image: &[u8], fragments: &[u64]) -> Result<(), Refusal>
     ensures { verdict_of result ≡ ranges_in image.now (fragments_of fragments.now) }
 {
     let end = image.len() as u64;
@@ -39,20 +31,14 @@ pub fn ranges_in(image: &[u8], fragments: &[u64]) -> Check
         let offset = word_at(fragments, i);
         let size = word_at(fragments, i + 1);
         if end < offset {
-            return Check::Refused {
-                number: 4,
-                place: offset,
-            };
+            return Err(Refusal::OutOfImage(offset));
         }
         if end - offset < size {
-            return Check::Refused {
-                number: 4,
-                place: offset,
-            };
+            return Err(Refusal::OutOfImage(offset));
         }
         i += 3;
     }
-    Check::Fine
+    Ok(())
 }
 
 // Whether a fragment is DV.
@@ -62,8 +48,7 @@ pub fn any_dv(fragments: &[u64]) -> bool
     let n = fragments.len() as u64;
     let mut i: u64 = 0;
     while 2 < n - i {
-        let kind = word_at(fragments, i + 2);
-        if kind != 0 {
+        if is_dv(fragments, i + 2) {
             return true;
         }
         i += 3;

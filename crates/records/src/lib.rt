@@ -1,4 +1,6 @@
 // The records of one data group: its groups' fields, its fragments, whole records, framing and counts.
+#![tactic(auto)]
+
 pub mod fragment;
 pub mod framing;
 pub mod group;

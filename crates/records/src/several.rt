@@ -9,23 +9,20 @@ ghost use Rattle.mdf.specs.Count.{count_groups};
 ghost use Rattle.records.specs.Several.{size_in, several_in, tallied, laid, laid_counts};
 
 use crate::fragment::{any_dv, ranges_in, word_at};
-use crate::framing::{Framing, Step, inside};
+use crate::framing::{Framing, inside};
 use crate::group::{id_size, record_id};
-use crate::sorted::{Counted, count_one};
-use crate::table::{fill_hints, fill_tables};
-use fields::Check;
+use crate::sorted::{count_one, sum_within};
+use crate::table::{make_tables, put};
+use fields::refusal::Refusal;
 
-// Whether one of the groups from index `from` on has the id.
-fn is_id_of(image: &[u8], id: u64, groups: &[u64], from: u64) -> bool
-    ensures { result ≡ is_id_of image.now id (drop from groups.now) }
+// Whether one of the groups has the id.
+fn is_id_of(image: &[u8], id: u64, groups: &[u64]) -> bool
+    ensures { result ≡ is_id_of image.now id groups.now }
 {
-    let n = groups.len() as u64;
-    let mut i = from;
-    while i < n {
-        if record_id(image, word_at(groups, i)) == id {
+    for i in 0..groups.len() {
+        if record_id(image, groups[i]) == id {
             return true;
         }
-        i += 1;
     }
     false
 }
@@ -34,81 +31,51 @@ fn is_id_of(image: &[u8], id: u64, groups: &[u64], from: u64) -> bool
 pub fn equal_ids(image: &[u8], groups: &[u64]) -> bool
     ensures { result ≡ equal_ids image.now groups.now }
 {
-    let n = groups.len() as u64;
-    let mut i: u64 = 0;
-    while i < n {
-        if is_id_of(image, record_id(image, word_at(groups, i)), groups, i + 1) {
+    for i in 0..groups.len() {
+        if is_id_of(image, record_id(image, groups[i]), &groups[i + 1..]) {
             return true;
         }
-        i += 1;
     }
     false
 }
 
 // 19: the bytes of all fragments exceed 2^64 - 1.
-fn size_in(d: u64, fragments: &[u64]) -> Check
+fn size_in(d: u64, fragments: &[u64]) -> Result<(), Refusal>
     ensures { verdict_of result ≡ size_in d (fragments_of fragments.now) }
 {
     let n = fragments.len() as u64;
     let mut i: u64 = 0;
     let mut sum: u64 = 0;
     while 2 < n - i {
-        let more = word_at(fragments, i + 1);
-        if 18446744073709551615 - sum < more {
-            return Check::Refused {
-                number: 19,
-                place: d,
-            };
-        }
-        sum += more;
+        sum = sum_within(d, sum, word_at(fragments, i + 1))?;
         i += 3;
     }
-    Check::Fine
+    Ok(())
 }
 
 // 14, 4, 19: equal ids, missing ids, DV, ranges, bytes.
-pub fn several_in(image: &[u8], d: u64, groups: &[u64], fragments: &[u64]) -> Check
+pub fn several_in(image: &[u8], d: u64, groups: &[u64], fragments: &[u64]) -> Result<(), Refusal>
     ensures { verdict_of result ≡ several_in image.now d groups.now (fragments_of fragments.now) }
 {
     if equal_ids(image, groups) {
-        return Check::Refused {
-            number: 14,
-            place: d,
-        };
+        return Err(Refusal::Groups(d));
     }
     if id_size(image, d) == 0 {
-        return Check::Refused {
-            number: 14,
-            place: d,
-        };
+        return Err(Refusal::Groups(d));
     }
     if any_dv(fragments) {
-        return Check::Refused {
-            number: 14,
-            place: d,
-        };
+        return Err(Refusal::Groups(d));
     }
-    let ranges = ranges_in(image, fragments);
-    match ranges {
-        Check::Refused { number, place } => Check::Refused { number, place },
-        Check::Fine => size_in(d, fragments),
-    }
+    ranges_in(image, fragments)?;
+    size_in(d, fragments)
 }
 
 // The first n words zero.
 pub fn clear(words: &mut [u64], n: u64)
     ensures { words.new ≡ blit 0 (replicate n 0) words.old }
 {
-    let mut left = n;
-    let mut p: usize = 0;
-    while 0 < left {
-        if words.len() <= p {
-            return;
-        }
-        words[p] = 0;
-        p += 1;
-        left -= 1;
-    }
+    let k = n.min(words.len() as u64) as usize;
+    words[..k].fill(0);
 }
 
 // One more at word k, if there is one.
@@ -117,10 +84,9 @@ fn count_up(words: &mut [u64], k: u64)
     ensures { words.new ≡ set words.old k (get_or words.old k 0 + 1) }
 {
     let i = k as usize;
-    if words.len() <= i {
-        return;
+    if i < words.len() {
+        words[i] += 1;
     }
-    words[i] = words[i] + 1;
 }
 
 // The records of all groups, counted; ids have n bytes.
@@ -130,7 +96,7 @@ fn count_frames(
     groups: &[u64],
     fragments: &[u64],
     counts: &mut [u64],
-) -> Check
+) -> Result<(), Refusal>
     requires { (0 < n) × (ranges_in image.now (fragments_of fragments.now) ≡ fine)
         × (size_of (fragments_of fragments.now) ≤ most64) × (equal_ids image.now groups.now ≡ false) }
     ensures { laid (verdict_of result) counts.new
@@ -143,54 +109,38 @@ fn count_frames(
     let mut ids = [0u64; 512];
     let mut sizes = [0u64; 512];
     let mut hints = [0u64; 1536];
-    fill_tables(image, groups, &mut ids, &mut sizes);
-    fill_hints(&ids, k, &mut hints);
+    make_tables(image, groups, &mut ids, &mut sizes, &mut hints);
     clear(counts, k);
-    let mut f = Framing { at: 0 };
-    let mut position: u64 = 0;
-    let mut left: u64 = 0;
-    let mut last: u64 = 0;
-    let answer = 'records: loop {
-        if inside(image, position, left) == 0 {
-            let at = f.at;
-            if words < at {
-                break 'records Check::Fine;
-            }
-            if words - at < 3 {
-                break 'records Check::Fine;
-            }
-            position = word_at(fragments, at);
-            left = word_at(fragments, at + 1);
-            f = Framing { at: at + 3 };
-        } else {
-            let step = f.step_by(
-                image, n, groups, fragments, &ids, &sizes, &mut hints, last, position, left,
-            );
-            match step {
-                Step::Broken => {
-                    clear(counts, k);
-                    break 'records Check::Refused {
-                        number: 15,
-                        place: position,
-                    };
-                }
-                Step::Record {
-                    group,
-                    bytes: _,
-                    next,
-                    position: p,
-                    left: l,
-                } => {
-                    count_up(counts, group);
-                    f = next;
-                    position = p;
-                    left = l;
-                    last = group;
-                }
-            }
-        }
+    let mut spot = Framing {
+        at: 0,
+        position: 0,
+        left: 0,
     };
-    answer
+    let mut last: u64 = 0;
+    'records: loop {
+        if inside(image, spot.position, spot.left) == 0 {
+            if words < spot.at {
+                return Ok(());
+            }
+            if words - spot.at < 3 {
+                return Ok(());
+            }
+            spot = Framing {
+                at: spot.at + 3,
+                position: word_at(fragments, spot.at),
+                left: word_at(fragments, spot.at + 1),
+            };
+        } else {
+            let step = spot.step_by(image, n, groups, fragments, &ids, &sizes, &mut hints, last);
+            let Some(record) = step else {
+                clear(counts, k);
+                return Err(Refusal::BrokenRecord(spot.position));
+            };
+            count_up(counts, record.group);
+            spot = record.next;
+            last = record.group;
+        }
+    }
 }
 
 // The counts of several groups: the checks, then the records to the end.
@@ -200,48 +150,40 @@ pub fn count_several(
     groups: &[u64],
     fragments: &[u64],
     counts: &mut [u64],
-) -> Check
+) -> Result<(), Refusal>
     ensures { laid (verdict_of result) counts.new
         ≡ laid_counts (tallied (length groups.now)
         (unsorted_frames image.now d groups.now (fragments_of fragments.now)))
         (length groups.now) counts.old }
 {
-    let before = several_in(image, d, groups, fragments);
-    match before {
-        Check::Refused { number, place } => {
-            clear(counts, groups.len() as u64);
-            Check::Refused { number, place }
-        }
-        Check::Fine => count_frames(image, id_size(image, d), groups, fragments, counts),
+    if let Err(refusal) = several_in(image, d, groups, fragments) {
+        clear(counts, groups.len() as u64);
+        return Err(refusal);
     }
-}
-
-// The first word.
-fn put_first(words: &mut [u64], x: u64)
-    ensures { words.new ≡ blit 0 (x ∷ []) words.old }
-{
-    if words.len() == 0 {
-        return;
-    }
-    words[0] = x;
+    count_frames(image, id_size(image, d), groups, fragments, counts)
 }
 
 // The count of a group that is alone in its DG.
-fn count_alone(image: &[u8], d: u64, groups: &[u64], fragments: &[u64], counts: &mut [u64]) -> Check
+fn count_alone(
+    image: &[u8],
+    d: u64,
+    groups: &[u64],
+    fragments: &[u64],
+    counts: &mut [u64],
+) -> Result<(), Refusal>
     requires { length groups.now ≡ 1 }
     ensures { laid (verdict_of result) counts.new
         ≡ laid_counts (count_groups image.now d groups.now (fragments_of fragments.now))
         (length groups.now) counts.old }
 {
-    let counted = count_one(image, d, word_at(groups, 0), fragments);
-    match counted {
-        Counted::Refused { number, place } => {
-            put_first(counts, 0);
-            Check::Refused { number, place }
+    match count_one(image, d, groups[0], fragments) {
+        Ok(n) => {
+            put(counts, 0, n);
+            Ok(())
         }
-        Counted::Count(n) => {
-            put_first(counts, n);
-            Check::Fine
+        Err(refusal) => {
+            put(counts, 0, 0);
+            Err(refusal)
         }
     }
 }
@@ -253,13 +195,13 @@ pub fn count_groups(
     groups: &[u64],
     fragments: &[u64],
     counts: &mut [u64],
-) -> Check
+) -> Result<(), Refusal>
     ensures { laid (verdict_of result) counts.new
         ≡ laid_counts (count_groups image.now d groups.now (fragments_of fragments.now))
         (length groups.now) counts.old }
 {
     if groups.len() == 0 {
-        return Check::Fine;
+        return Ok(());
     }
     if groups.len() == 1 {
         return count_alone(image, d, groups, fragments, counts);

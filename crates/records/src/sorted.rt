@@ -12,29 +12,13 @@ ghost use Rattle.records.specs.Answer.{counted_of};
 
 use crate::fragment::{any_dv, is_dv, ranges_in, word_at};
 use crate::group::{inval_bytes, record_size};
-use fields::Check;
-
-// The count of a group, or document 01's refusal.
-#[derive(Drop)]
-pub enum Counted {
-    Refused { number: u64, place: u64 },
-    Count(u64),
-}
+use fields::refusal::Refusal;
 
 // Whether a record straddles: it has bytes in fragments of one kind, and a fragment of the other follows.
 fn straddles_in(bytes: u64, was: bool, is: bool) -> bool
     ensures { result ≡ straddles bytes was is }
 {
-    if was {
-        if is {
-            return false;
-        }
-        return 0 < bytes;
-    }
-    if is {
-        return 0 < bytes;
-    }
-    false
+    was != is && 0 < bytes
 }
 
 // The bytes of a record begun, size bytes after it had `bytes`; a record has n.
@@ -60,7 +44,7 @@ fn start_of(bytes: u64, offset: u64, size: u64, start: u64) -> u64
 }
 
 // 15: each run of DT or DV holds whole records. One pass: the kind, the bytes of the record begun, and where it starts.
-fn runs_whole(image: &[u8], d: u64, g: u64, fragments: &[u64]) -> Check
+fn runs_whole(image: &[u8], d: u64, g: u64, fragments: &[u64]) -> Result<(), Refusal>
     requires { ranges_in image.now (fragments_of fragments.now) ≡ fine }
     ensures { verdict_of result ≡ runs_whole image.now d g (runs (fragments_of fragments.now)) }
 {
@@ -72,10 +56,7 @@ fn runs_whole(image: &[u8], d: u64, g: u64, fragments: &[u64]) -> Check
     while 2 < n - i {
         let kind = is_dv(fragments, i + 2);
         if straddles_in(bytes, dv, kind) {
-            return Check::Refused {
-                number: 15,
-                place: start,
-            };
+            return Err(Refusal::BrokenRecord(start));
         }
         let size = word_at(fragments, i + 1);
         bytes = remaining(record_size(image, d, g, kind), bytes, size);
@@ -84,45 +65,28 @@ fn runs_whole(image: &[u8], d: u64, g: u64, fragments: &[u64]) -> Check
         i += 3;
     }
     if 0 < bytes {
-        return Check::Refused {
-            number: 15,
-            place: start,
-        };
+        return Err(Refusal::BrokenRecord(start));
     }
-    Check::Fine
+    Ok(())
 }
 
 // 14: DV with invalidation bytes.
-fn dv_fits(image: &[u8], d: u64, g: u64, fragments: &[u64]) -> Check
+fn dv_fits(image: &[u8], d: u64, g: u64, fragments: &[u64]) -> Result<(), Refusal>
     ensures { verdict_of result ≡ dv_fits image.now d g (fragments_of fragments.now) }
 {
-    if any_dv(fragments) {
-        if inval_bytes(image, g) != 0 {
-            return Check::Refused {
-                number: 14,
-                place: d,
-            };
-        }
-        return Check::Fine;
+    if any_dv(fragments) && inval_bytes(image, g) != 0 {
+        return Err(Refusal::Groups(d));
     }
-    Check::Fine
+    Ok(())
 }
 
 // 14, the ranges, whole records.
-pub fn sorted_in(image: &[u8], d: u64, g: u64, fragments: &[u64]) -> Check
+pub fn sorted_in(image: &[u8], d: u64, g: u64, fragments: &[u64]) -> Result<(), Refusal>
     ensures { verdict_of result ≡ sorted_in image.now d g (fragments_of fragments.now) }
 {
-    let fits = dv_fits(image, d, g, fragments);
-    match fits {
-        Check::Refused { number, place } => Check::Refused { number, place },
-        Check::Fine => {
-            let ranges = ranges_in(image, fragments);
-            match ranges {
-                Check::Refused { number, place } => Check::Refused { number, place },
-                Check::Fine => runs_whole(image, d, g, fragments),
-            }
-        }
-    }
+    dv_fits(image, d, g, fragments)?;
+    ranges_in(image, fragments)?;
+    runs_whole(image, d, g, fragments)
 }
 
 // The bytes of the fragment with its words at i, where it is DV or DT as asked, else 0.
@@ -130,50 +94,31 @@ fn own_bytes(fragments: &[u64], i: u64, dv: bool) -> u64
     requires { i + 2 < 18446744073709551616 }
     ensures { result ≡ own_bytes dv (kind_of (get_or fragments.now (i + 2) 0)) (get_or fragments.now (i + 1) 0) }
 {
-    if is_dv(fragments, i + 2) {
-        if dv {
-            return word_at(fragments, i + 1);
-        }
-        return 0;
+    if is_dv(fragments, i + 2) == dv {
+        return word_at(fragments, i + 1);
     }
-    if dv {
-        return 0;
-    }
-    word_at(fragments, i + 1)
+    0
 }
 
 // The sum of two numbers, or 19 where it is over 2^64 - 1.
-fn sum_within(d: u64, a: u64, b: u64) -> Counted
+pub(crate) fn sum_within(d: u64, a: u64, b: u64) -> Result<u64, Refusal>
     ensures { counted_of result ≡ within64 d (a + b) }
 {
-    if 18446744073709551615 - a < b {
-        return Counted::Refused {
-            number: 19,
-            place: d,
-        };
-    }
-    Counted::Count(a + b)
+    a.checked_add(b).ok_or(Refusal::OverLimit(d))
 }
 
 // The bytes of all DV, or of all DT.
-fn bytes_of(d: u64, fragments: &[u64], dv: bool) -> Counted
+fn bytes_of(d: u64, fragments: &[u64], dv: bool) -> Result<u64, Refusal>
     ensures { counted_of result ≡ within64 d (bytes_of dv (fragments_of fragments.now)) }
 {
     let n = fragments.len() as u64;
     let mut i: u64 = 0;
     let mut sum: u64 = 0;
     while 2 < n - i {
-        let more = own_bytes(fragments, i, dv);
-        if 18446744073709551615 - sum < more {
-            return Counted::Refused {
-                number: 19,
-                place: d,
-            };
-        }
-        sum += more;
+        sum = sum_within(d, sum, own_bytes(fragments, i, dv))?;
         i += 3;
     }
-    Counted::Count(sum)
+    Ok(sum)
 }
 
 // "a zero divisor giving 0"
@@ -187,21 +132,11 @@ fn quotient_of(n: u64, m: u64) -> u64
 }
 
 // The count of a group that is alone in its DG.
-pub fn count_one(image: &[u8], d: u64, g: u64, fragments: &[u64]) -> Counted
+pub fn count_one(image: &[u8], d: u64, g: u64, fragments: &[u64]) -> Result<u64, Refusal>
     ensures { counted_of result ≡ count_one image.now d g (fragments_of fragments.now) }
 {
-    let dt = bytes_of(d, fragments, false);
-    match dt {
-        Counted::Refused { number, place } => Counted::Refused { number, place },
-        Counted::Count(a) => {
-            let dv = bytes_of(d, fragments, true);
-            match dv {
-                Counted::Refused { number, place } => Counted::Refused { number, place },
-                Counted::Count(b) => {
-                    let whole = quotient_of(a, record_size(image, d, g, false));
-                    sum_within(d, whole, quotient_of(b, record_size(image, d, g, true)))
-                }
-            }
-        }
-    }
+    let dt = bytes_of(d, fragments, false)?;
+    let dv = bytes_of(d, fragments, true)?;
+    let whole = quotient_of(dt, record_size(image, d, g, false));
+    sum_within(d, whole, quotient_of(dv, record_size(image, d, g, true)))
 }

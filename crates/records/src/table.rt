@@ -1,14 +1,14 @@
 // Framing by tables of a DG's groups that are made once: ids and sizes of records in the order of the groups, and hints by which the group
 // of an id is guessed. A guess counts only where the table has the id there.
-ghost use Rattle.std.specs.Prelude.{◌≡◌, ◌+◌, ◌-◌, ◌≤◌, length, set};
+ghost use Rattle.std.specs.Prelude.{◌≡◌, ◌-◌, ◌<◌, ◌≤◌, length, get_or, set, IfSome, IsNone};
 ghost use Rattle.base.specs.Blit.{blit};
-ghost use Rattle.base.specs.Field.{Field};
-ghost use Rattle.records.specs.Ahead.{ahead, step_to};
-ghost use Rattle.records.specs.Answer.{reached_of};
-ghost use Rattle.records.specs.Table.{size_word, ids_of, sizes_of, Tabled, IdAt, BodyIn};
+ghost use Rattle.records.specs.Ahead.{step_to};
+ghost use Rattle.records.specs.Answer.{ahead_of, reached_of};
+ghost use Rattle.records.specs.Table.{size_word, ids_of, sizes_of, Tabled, Guessed, IdAt, BodyIn};
 
-use crate::framing::{Framing, Number, Step, inside};
+use crate::framing::{Framing, Record, inside};
 use crate::group::{inval_bytes, is_storage, record_id, samples_of};
+use fields::field_in;
 
 // The word of the group at g in the table of sizes.
 fn size_word(image: &[u8], g: u64) -> u64
@@ -21,13 +21,12 @@ fn size_word(image: &[u8], g: u64) -> u64
 }
 
 // Word i, if there is one.
-fn put(words: &mut [u64], i: usize, x: u64)
+pub(crate) fn put(words: &mut [u64], i: usize, x: u64)
     ensures { words.new ≡ set words.old i x }
 {
-    if words.len() <= i {
-        return;
+    if i < words.len() {
+        words[i] = x;
     }
-    words[i] = x;
 }
 
 // The tables of ids and sizes, of as many groups as they have words.
@@ -35,13 +34,10 @@ pub fn fill_tables(image: &[u8], groups: &[u64], ids: &mut [u64], sizes: &mut [u
     ensures { (ids.new ≡ blit 0 (ids_of image.now groups.now) ids.old)
         × (sizes.new ≡ blit 0 (sizes_of image.now groups.now) sizes.old) }
 {
-    let n = groups.len();
-    let mut i: usize = 0;
-    while i < n {
+    for i in 0..groups.len() {
         let g = groups[i];
         put(ids, i, record_id(image, g));
         put(sizes, i, size_word(image, g));
-        i += 1;
     }
 }
 
@@ -49,31 +45,25 @@ pub fn fill_tables(image: &[u8], groups: &[u64], ids: &mut [u64], sizes: &mut [u
 // by their ids: at the id's remainder by 1,021, or at the first free word past it.
 
 // The first free word for an id, if one is free.
-fn free_slot(hints: &[u64; 1536], id: u64) -> usize {
+fn free_slot(hints: &[u64; 1536], id: u64) -> Option<usize>
+    ensures { IfSome result (λ h. h < 1536) }
+{
     let mut h = (id % 1021) as usize;
-    let mut turns: u64 = 0;
-    while turns < 1024 {
+    for _ in 0..1024 {
         if hints[512 + h] == 0 {
-            return 512 + h;
+            return Some(512 + h);
         }
         h = (h + 1) % 1024;
-        turns += 1;
     }
-    1536
+    None
 }
 
-// The places of the first n groups by their ids.
-pub(crate) fn fill_hints(ids: &[u64; 512], n: u64, hints: &mut [u64; 1536]) {
-    let mut i: usize = 0;
-    while i < 512 {
-        if n <= i as u64 {
-            return;
-        }
-        let h = free_slot(hints, ids[i]);
-        if h < 1536 {
+// The places of these groups by their ids.
+fn fill_hints(ids: &[u64], hints: &mut [u64; 1536]) {
+    for i in 0..ids.len() {
+        if let Some(h) = free_slot(hints, ids[i]) {
             hints[h] = i as u64 + 1;
         }
-        i += 1;
     }
 }
 
@@ -89,37 +79,39 @@ pub fn make_tables(
         × (sizes.new ≡ blit 0 (sizes_of image.now groups.now) sizes.old) }
 {
     fill_tables(image, groups, ids, sizes);
-    fill_hints(ids, groups.len() as u64, hints);
+    fill_hints(&ids[..groups.len().min(512)], hints);
 }
 
-// A group that may have the id.
-fn look_up(ids: &[u64; 512], hints: &[u64; 1536], id: u64) -> u64 {
+// A group that has the id in its table.
+fn look_up(ids: &[u64; 512], hints: &[u64; 1536], id: u64) -> Option<u64>
+    ensures { IfSome result (Guessed ids.now id) }
+{
     let mut h = (id % 1021) as usize;
-    let mut turns: u64 = 0;
-    while turns < 1024 {
+    for _ in 0..1024 {
         let g = hints[512 + h];
         if g == 0 {
-            return 512;
+            return None;
         }
         if 512 < g {
-            return 512;
+            return None;
         }
         if ids[(g - 1) as usize] == id {
-            return g - 1;
+            return Some(g - 1);
         }
         h = (h + 1) % 1024;
-        turns += 1;
     }
-    512
+    None
 }
 
-// A group that may have the id: the one that followed the last one before, else by the id.
-fn guess(ids: &[u64; 512], hints: &[u64; 1536], last: u64, id: u64) -> u64 {
+// A group that has the id in its table: the one that followed the last one before, else by the id.
+fn guess(ids: &[u64; 512], hints: &[u64; 1536], last: u64, id: u64) -> Option<u64>
+    ensures { IfSome result (Guessed ids.now id) }
+{
     if last < 512 {
         let g = hints[last as usize];
         if g < 512 {
             if ids[g as usize] == id {
-                return g;
+                return Some(g);
             }
         }
     }
@@ -133,83 +125,48 @@ fn note(hints: &mut [u64; 1536], last: u64, g: u64) {
     }
 }
 
-// The numbers of one, two, four and eight bytes at p.
-fn one_at(s: &[u8], p: usize) -> u64
-    requires { p + 1 ≤ length s.now }
-    ensures { Field 1 s.now p result }
-{
-    s[p] as u64
-}
-
-fn two_at(s: &[u8], p: usize) -> u64
-    requires { p + 2 ≤ length s.now }
-    ensures { Field 2 s.now p result }
-{
-    one_at(s, p) + 256 * one_at(s, p + 1)
-}
-
-fn four_at(s: &[u8], p: usize) -> u64
-    requires { p + 4 ≤ length s.now }
-    ensures { Field 4 s.now p result }
-{
-    two_at(s, p) + 65536 * two_at(s, p + 2)
-}
-
-fn eight_at(s: &[u8], p: usize) -> u64
-    requires { p + 8 ≤ length s.now }
-    ensures { Field 8 s.now p result }
-{
-    four_at(s, p) + 4294967296 * four_at(s, p + 4)
-}
-
 // The id of n bytes at p, where it lies in the bytes left and n is 1, 2, 4 or 8.
-fn id_at(image: &[u8], p: u64, left: u64, n: u64) -> Number
+fn id_at(image: &[u8], p: u64, left: u64, n: u64) -> Option<u64>
     requires { left ≤ length image.now - p }
     ensures { IdAt image.now p left n result }
 {
     let i = p as usize;
     if left < n {
-        return Number::Missing;
+        return None;
     }
-    if n == 1 {
-        return Number::Value(one_at(image, i));
+    match n {
+        1 => Some(field_in::<1>(image, i)),
+        2 => Some(field_in::<2>(image, i)),
+        4 => Some(field_in::<4>(image, i)),
+        8 => Some(field_in::<8>(image, i)),
+        _ => None,
     }
-    if n == 2 {
-        return Number::Value(two_at(image, i));
-    }
-    if n == 4 {
-        return Number::Value(four_at(image, i));
-    }
-    if n == 8 {
-        return Number::Value(eight_at(image, i));
-    }
-    Number::Missing
 }
 
 // The bytes of a record past its id, where they lie in the bytes left from p on; size is its group's word in the table.
-fn body_in(image: &[u8], p: u64, left: u64, size: u64) -> Number
+fn body_in(image: &[u8], p: u64, left: u64, size: u64) -> Option<u64>
     requires { left ≤ length image.now - p }
     ensures { BodyIn image.now p left size result }
 {
     if 0 < size {
         let m = size - 1;
         if m <= left {
-            return Number::Value(m);
+            return Some(m);
         }
-        return Number::Missing;
+        return None;
     }
     if left < 4 {
-        return Number::Missing;
+        return None;
     }
-    let m = 4 + four_at(image, p as usize);
+    let m = 4 + field_in::<4>(image, p as usize);
     if m <= left {
-        return Number::Value(m);
+        return Some(m);
     }
-    Number::Missing
+    None
 }
 
 impl Framing {
-    // The record at a position, where it lies in its fragment and the tables have its group, else none.
+    // The record here, where it lies in its fragment and the tables have its group, else none.
     fn quick(
         self,
         image: &[u8],
@@ -220,42 +177,23 @@ impl Framing {
         sizes: &[u64; 512],
         hints: &[u64; 1536],
         last: u64,
-        position: u64,
-        left: u64,
-    ) -> Step
-        ensures { Tabled image.now groups.now ids.now sizes.now
-            → (result ≡ Step.Broken → ⊥) → reached_of result
-            ≡ step_to image.now n groups.now (ahead image.now fragments.now self.at position left)
-            self.at }
+    ) -> Option<Record>
+        ensures { Tabled image.now groups.now ids.now sizes.now → (IsNone result → ⊥) → reached_of result
+            ≡ step_to image.now n groups.now (ahead_of image.now fragments.now self) self.at }
     {
-        let here = inside(image, position, left);
-        let id = id_at(image, position, here, n);
-        match id {
-            Number::Missing => Step::Broken,
-            Number::Value(x) => {
-                let g = guess(ids, hints, last, x);
-                if 511 < g {
-                    return Step::Broken;
-                }
-                if groups.len() as u64 <= g {
-                    return Step::Broken;
-                }
-                if ids[g as usize] != x {
-                    return Step::Broken;
-                }
-                let body = body_in(image, position + n, here - n, sizes[g as usize]);
-                match body {
-                    Number::Missing => Step::Broken,
-                    Number::Value(m) => Step::Record {
-                        group: g,
-                        bytes: m,
-                        next: self,
-                        position: position + n + m,
-                        left: here - n - m,
-                    },
-                }
-            }
+        let here = inside(image, self.position, self.left);
+        let id = id_at(image, self.position, here, n)?;
+        let group = guess(ids, hints, last, id)?;
+        if groups.len() as u64 <= group {
+            return None;
         }
+        let bytes = body_in(image, self.position + n, here - n, sizes[group as usize])?;
+        let next = Framing {
+            at: self.at,
+            position: self.position + n + bytes,
+            left: here - n - bytes,
+        };
+        Some(Record { group, bytes, next })
     }
 
     // The step by the tables of these groups; the group before was number last.
@@ -269,34 +207,14 @@ impl Framing {
         sizes: &[u64; 512],
         hints: &mut [u64; 1536],
         last: u64,
-        position: u64,
-        left: u64,
-    ) -> Step
+    ) -> Option<Record>
         ensures { Tabled image.now groups.now ids.now sizes.now → reached_of result
-            ≡ step_to image.now n groups.now (ahead image.now fragments.now self.at position left)
-            self.at }
+            ≡ step_to image.now n groups.now (ahead_of image.now fragments.now self) self.at }
     {
-        let found = self.quick(
-            image, n, groups, fragments, ids, sizes, hints, last, position, left,
-        );
-        match found {
-            Step::Broken => self.step(image, n, groups, fragments, position, left),
-            Step::Record {
-                group,
-                bytes,
-                next,
-                position: p,
-                left: l,
-            } => {
-                note(hints, last, group);
-                Step::Record {
-                    group,
-                    bytes,
-                    next,
-                    position: p,
-                    left: l,
-                }
-            }
-        }
+        let Some(record) = self.quick(image, n, groups, fragments, ids, sizes, hints, last) else {
+            return self.step(image, n, groups, fragments);
+        };
+        note(hints, last, record.group);
+        Some(record)
     }
 }

@@ -1,41 +1,34 @@
 -- Loops over jobs in eights give what the definitions say of the jobs.
 use Prim.Native.Nat.{ℕ, zero, suc, ◌+◌, ◌-◌, ◌/◌, ◌≤◌, ◌<◌, min}
 use mathlib.Core.List.{List, [], ◌∷◌, ◌++◌}
-use Rattle.std.specs.Prelude.{◌≡◌, get_or, set, drop, replicate}
+use Rattle.std.specs.Prelude.{◌≡◌, eqb, not, Bool, true, false, get_or, set, drop, take, replicate, Option, Some, None, Result, Ok, Err}
 use Rattle.std.proofs.Math.Path.{refl, sym, ap}
 use Rattle.std.proofs.Common.{subst, ◌∙◌, zero-add}
 use Rattle.std.proofs.Math.Nat.{sub-zero, zero-sub, suc-sub-suc}
 use native.Mathlib.Omega.{arith}
+use native.Mathlib.Nat.{div-zero}
+use Rattle.std.proofs.Math.Logic.{⊎_elim}
 use Rattle.std.proofs.Math.ListN.{length}
+use Rattle.std.specs.Option.{SomeIff, unwrap_or}
+use Rattle.std.specs.List.{count_by, list_all}
+use Rattle.std.proofs.lemmas.Bool.{ne_eqb}
+use Rattle.std.proofs.lemmas.List.{get_or-take, length-take-le}
+use Rattle.std.proofs.lemmas.List.Sums.{sum_by-cons}
+use Rattle.stores.specs.Cases.{eq_or_ne}
 use Rattle.std.proofs.lemmas.List.{length-replicate}
 use Rattle.base.specs.Blit.{blit}
 use Rattle.base.specs.BlitLaws.{blit_is}
-use Rattle.base.specs.Checked.{Checked, ok, refused, Verdict, fine}
+use Rattle.base.specs.Checked.{Checked}
 use Rattle.passes.specs.Passes.{Job, unfinished, base, bases, more, given, shares, capped, shared}
 use Rattle.passes.proofs.PassesLaws.{unfinished-none, unfinished-one, bases-within, shares-length, shared-none, shared-over, shared-nothing, shared_uncapped, shared-fine, uncapped_here, capped-on}
-use Rattle.shares.specs.declared.Eight.{Eight}
-use Rattle.shares.specs.declared.Shares.{Shares}
-use Rattle.shares.specs.Eights.{list_of, jobs_from, SharedAs}
+use Rattle.shares.specs.Eights.{jobs_from, jobs_of, verdict_of, GivenAs}
+use Rattle.shares.specs.declared.Refusal.{Refusal}
+use Rattle.shares.specs.declared.Refusal.TheVariants.{Jobs, Nothing}
 
 pub length_jobs : (cs ls : List ℕ) (i n : ℕ) → length (jobs_from cs ls i n) ≡ n
 unfolding jobs_from
 length_jobs cs ls i zero = refl
 length_jobs cs ls i (suc n) = ap suc (length_jobs cs ls (suc i) n)
-
--- past the end there is none
-pub none_there : (l : List ℕ) (i : ℕ) → length l ≤ i → 0 ≡ get_or l i 0
-none_there [] i h = refl
-none_there (x ∷ l) zero h = absurd (omega arith)
-none_there (x ∷ l) (suc i) h = none_there l i (omega arith)
-
-past-this : (k i : ℕ) → k ≤ i → (i ≡ k → ⊥) → suc k ≤ i
-past-this k i h e = omega (arith, e)
-
--- none of the eight
-pub past_eight : (i : ℕ) → (i ≡ 0 → ⊥) → (i ≡ 1 → ⊥) → (i ≡ 2 → ⊥) → (i ≡ 3 → ⊥) → (i ≡ 4 → ⊥) → (i ≡ 5 → ⊥) → (i ≡ 6 → ⊥) → (i ≡ 7 → ⊥) → 8 ≤ i
-past_eight i a b c d e f g h =
-    let four : 4 ≤ i = past-this 3 i (past-this 2 i (past-this 1 i (past-this 0 i (omega arith) a) b) c) d in
-    past-this 7 i (past-this 6 i (past-this 5 i (past-this 4 i four e) f) g) h
 
 -- ---- jobs from number i on, of n
 
@@ -60,58 +53,40 @@ module _ (cs ls : List ℕ) (n : ℕ) where
   unfolding jobs_from
   past-none i h = let e : n - i ≡ 0 = omega arith in rw e refl
 
--- ---- whether all have caps
+-- ---- whether all have caps, and how many are unfinished
 
-abbrev pub Capping : List ℕ → ℕ → ℕ → Type 0
-Capping cs n i = (ls : List ℕ) → capped (past cs ls n i) ≡ capped (jobs_from cs ls 0 n)
+-- numbers past the first are those of the rest
+jobs-rest : (c l : ℕ) (cs ls : List ℕ) (i n : ℕ) → jobs_from (c ∷ cs) (l ∷ ls) (suc i) n ≡ jobs_from cs ls i n
+unfolding jobs_from
+jobs-rest c l cs ls i zero = refl
+jobs-rest c l cs ls i (suc n) = ap (λ (js : List Job). job_at cs ls n i ∷ js) (jobs-rest c l cs ls (suc i) n)
 
-pub capping_begin : (cs : List ℕ) (n : ℕ) → Capping cs n 0
-capping_begin cs n ls = ap capped (past_first cs ls n)
+jobs-cons : (c l : ℕ) (cs ls : List ℕ) → jobs_of (c ∷ cs) (l ∷ ls) ≡ record { cap = c; left = l } ∷ jobs_of cs ls
+unfolding jobs_from
+jobs-cons c l cs ls = ap (λ (js : List Job). record { cap = c; left = l } ∷ js) (jobs-rest c l cs ls 0 (length cs))
 
-module _ (cs : List ℕ) (n i : ℕ) (v : Capping cs n i) where
-  pub capping_hit : i < n → get_or cs i 0 ≡ 0 → (ls : List ℕ) → capped (jobs_from cs ls 0 n) ≡ refused 32 0
-  capping_hit h e ls = sym (v ls) ∙ ap capped (past-step cs ls n i h) ∙ uncapped_here (job_at cs ls n i) (past cs ls n (i + 1)) e
+pub capped_all : (cs ls : List ℕ) → length ls ≡ length cs → capped (jobs_of cs ls) ≡ verdict_of (list_all (λ cap. not (eqb cap 0)) cs)
+unfolding capped jobs_from
+capped_all [] ls e = refl
+capped_all (c ∷ cs) [] e = absurd (omega (arith, e))
+capped_all (c ∷ cs) (l ∷ ls) e =
+    let j : Job = record { cap = c; left = l } in
+    ap capped (jobs-cons c l cs ls) ∙
+    ⊎_elim (λ z. uncapped_here j (jobs_of cs ls) z ∙ rw z refl)
+    (λ z. capped-on j (jobs_of cs ls) z ∙ capped_all cs ls (omega (arith, e)) ∙ rw (ne_eqb c 0 z) refl) (eq_or_ne c 0)
 
-  pub capping_turn : i < n → (get_or cs i 0 ≡ 0 → ⊥) → Capping cs n (i + 1)
-  capping_turn h e ls = sym (capped-on (job_at cs ls n i) (past cs ls n (i + 1)) e) ∙ ap capped (sym (past-step cs ls n i h)) ∙ v ls
-
-  pub capping_end : n ≤ i → (ls : List ℕ) → capped (jobs_from cs ls 0 n) ≡ fine
-  unfolding capped
-  capping_end h ls = sym (v ls) ∙ ap capped (past-none cs ls n i h)
-
--- ---- how many are unfinished
-
-pub record Counting (ls : List ℕ) (n m i : ℕ) : Type 0 where
-  pub few : m ≤ i
-  pub is : (cs : List ℕ) → m + unfinished (past cs ls n i) ≡ unfinished (jobs_from cs ls 0 n)
-
-pub counting_begin : (ls : List ℕ) (n : ℕ) → Counting ls n 0 0
-counting_begin ls n = record { few = omega arith; is = λ cs. rw (zero-add, past_first cs ls n) refl }
-
-module _ (ls : List ℕ) (n m i : ℕ) (v : Counting ls n m i) where
-  pub counting_one : (k : ℕ) → i < n → (get_or ls i 0 ≡ 0 → ⊥) → k ≡ m + 1 → Counting ls n k (i + 1)
-  counting_one k h e one =
-      record {
-        few = omega (arith, v.few);
-        is = λ cs.
-            let q : unfinished (past cs ls n i) ≡ suc (unfinished (past cs ls n (i + 1))) =
-            ap unfinished (past-step cs ls n i h) ∙ unfinished-one (job_at cs ls n i) (past cs ls n (i + 1)) e in
-            omega (arith, v.is cs, q);
-      }
-
-  pub counting_none : (k : ℕ) → i < n → get_or ls i 0 ≡ 0 → k ≡ m → Counting ls n k (i + 1)
-  counting_none k h e same =
-      record {
-        few = omega (arith, v.few);
-        is = λ cs.
-            let q : unfinished (past cs ls n i) ≡ unfinished (past cs ls n (i + 1)) =
-            ap unfinished (past-step cs ls n i h) ∙ unfinished-none (job_at cs ls n i) (past cs ls n (i + 1)) e in
-            omega (arith, v.is cs, q);
-      }
-
-  pub counting_end : n ≤ i → (cs : List ℕ) → m ≡ unfinished (jobs_from cs ls 0 n)
-  unfolding unfinished
-  counting_end h cs = omega (arith, v.is cs, ap unfinished (past-none cs ls n i h))
+pub unfinished_count : (cs ls : List ℕ) → length ls ≡ length cs → count_by (λ left. not (eqb left 0)) ls ≡ unfinished (jobs_of cs ls)
+unfolding unfinished jobs_from
+unfinished_count [] [] e = refl
+unfinished_count [] (l ∷ ls) e = absurd (omega (arith, e))
+unfinished_count (c ∷ cs) [] e = absurd (omega (arith, e))
+unfinished_count (c ∷ cs) (l ∷ ls) e =
+    let j : Job = record { cap = c; left = l } in
+    let h : count_by (λ left. not (eqb left 0)) ls ≡ unfinished (jobs_of cs ls) = unfinished_count cs ls (omega (arith, e)) in
+    sym
+    (ap unfinished (jobs-cons c l cs ls) ∙
+    ⊎_elim (λ z. unfinished-none j (jobs_of cs ls) z ∙ sym h ∙ sym (sum_by-cons _ l ls ∙ rw z (zero-add _)))
+    (λ z. unfinished-one j (jobs_of cs ls) z ∙ ap suc (sym h) ∙ sym (sum_by-cons _ l ls ∙ rw (ne_eqb l 0 z) (omega arith))) (eq_or_ne l 0))
 
 -- ---- what is left over
 
@@ -182,45 +157,71 @@ pub over_zeros : (ks : List ℕ) → length ks ≤ 8 → blit 0 ks (replicate 8 
 over_zeros ks h =
     blit_is 0 ks (replicate 8 0) (rw (zero-add, length-replicate) h) ∙ ap (λ (l : List ℕ). ks ++ l) (rw zero-add (drop-replicate (length ks) 8))
 
-answer : {x y : Checked (List ℕ)} (r : Shares) → x ≡ y → SharedAs y r → SharedAs x r
-answer r e m = subst (λ (z : Checked (List ℕ)). SharedAs z r) (sym e) m
+-- a division by 0 gives 0
+pub quotient : (o : Option ℕ) (u m q : ℕ) → SomeIff o (0 < m) (u / m) → q ≡ unwrap_or o 0 → q ≡ u / m
+quotient (Some x) u m q s e = e ∙ s.1
+quotient None u m q s e = let z : m ≡ 0 = omega (arith, s) in e ∙ rw z (sym (div-zero u))
+
+answer : {x y : Checked (List ℕ)} (r : Result (List ℕ) Refusal) → x ≡ y → GivenAs y r → GivenAs x r
+answer r e m = subst (λ (z : Checked (List ℕ)). GivenAs z r) (sym e) m
+
+-- the first n of caps and jobs
+jobs-taken : (cs ls : List ℕ) (m i n : ℕ) → i + n ≤ m → jobs_from (take m cs) (take m ls) i n ≡ jobs_from cs ls i n
+unfolding jobs_from
+jobs-taken cs ls m i zero h = refl
+jobs-taken cs ls m i (suc n) h =
+    rw (get_or-take m cs i 0 (omega arith), get_or-take m ls i 0 (omega arith)) (ap (λ (js : List Job). record { cap = get_or cs i 0; left = get_or ls i 0 } ∷ js) (jobs-taken cs ls m (suc i) n (omega arith)))
 
 module _ (cs ls : List ℕ) (u n : ℕ) where
   abbrev js : List Job
   js = jobs_from cs ls 0 n
 
-  abbrev zeros : ℕ → Shares
-  zeros k = record { number = k; shares = record { a = 0; b = 0; c = 0; d = 0; e = 0; f = 0; g = 0; h = 0 } }
+  pub share_none : n ≡ 0 → GivenAs (shared u js) (Err Jobs)
+  share_none e = answer (Err Jobs) (shared-none u js (length_jobs cs ls 0 n ∙ e)) refl
 
-  pub share_none : n ≡ 0 → SharedAs (shared u js) (zeros 31)
-  share_none e = answer (zeros 31) (shared-none u js (length_jobs cs ls 0 n ∙ e)) (refl, refl)
+  pub share_over : 8 < n → GivenAs (shared u js) (Err Jobs)
+  share_over h = answer (Err Jobs) (shared-over u js (rw (length_jobs cs ls 0 n) h)) refl
 
-  pub share_over : 8 < n → SharedAs (shared u js) (zeros 31)
-  share_over h = answer (zeros 31) (shared-over u js (rw (length_jobs cs ls 0 n) h)) (refl, refl)
-
-  -- the bases are within U
-  pub share_within : (m q : ℕ) → m ≡ unfinished js → q ≡ u / m → bases q js ≤ u
-  share_within m q em eq = rw (eq, em) (bases-within u js)
-
-  module _ (some' : n ≡ 0 → ⊥) (few : n ≤ 8) where
+  module _ (caps : length cs ≡ 8) (left : length ls ≡ 8) (some' : n ≡ 0 → ⊥) (few : n ≤ 8) where
     long : length js ≡ 0 → ⊥
     long e = some' (sym (length_jobs cs ls 0 n) ∙ e)
 
     short : length js ≤ 8
     short = rw (length_jobs cs ls 0 n) few
 
-    pub share_nothing : u ≡ 0 → SharedAs (shared u js) (zeros 32)
-    share_nothing e = answer (zeros 32) (shared-nothing u js long short e) (refl, refl)
+    pub share_nothing : u ≡ 0 → GivenAs (shared u js) (Err Nothing)
+    share_nothing e = answer (Err Nothing) (shared-nothing u js long short e) refl
 
-    pub share_uncapped : (u ≡ 0 → ⊥) → capped js ≡ refused 32 0 → SharedAs (shared u js) (zeros 32)
-    share_uncapped e c = answer (zeros 32) (shared_uncapped u js long short e c) (refl, refl)
+    -- the jobs whose numbers are lent
+    abbrev lent : List Job
+    lent = jobs_of (take n cs) (take n ls)
 
-    pub share_fine : (m q over : ℕ) (s : Eight) → (u ≡ 0 → ⊥) → capped js ≡ fine → m ≡ unfinished js → q ≡ u / m → over ≡ u - bases q js
-        → list_of s ≡ blit 0 (given q over js) (replicate 8 0) → SharedAs (shared u js) (record { number = 0; shares = s })
+    taken : lent ≡ js
+    taken = ap (jobs_from (take n cs) (take n ls) 0) (length-take-le n cs (omega arith)) ∙ jobs-taken cs ls n 0 n (omega arith)
+
+    paired : length (take n ls) ≡ length (take n cs)
+    paired = length-take-le n ls (omega arith) ∙ sym (length-take-le n cs (omega arith))
+
+    verdict : (b : Bool) → b ≡ list_all (λ cap. not (eqb cap 0)) (take n cs) → capped js ≡ verdict_of b
+    verdict b e = rw e (ap capped (sym taken) ∙ capped_all (take n cs) (take n ls) paired)
+
+    pub share_uncapped : (u ≡ 0 → ⊥) → (b : Bool) → b ≡ list_all (λ cap. not (eqb cap 0)) (take n cs) → b ≡ false → GivenAs (shared u js) (Err Nothing)
+    share_uncapped z b e f = answer (Err Nothing) (shared_uncapped u js long short z (verdict b e ∙ ap verdict_of f)) refl
+
+    unfinished_of : (m : ℕ) → m ≡ count_by (λ stores. not (eqb stores 0)) (take n ls) → m ≡ unfinished js
+    unfinished_of m e = e ∙ unfinished_count (take n cs) (take n ls) paired ∙ ap unfinished taken
+
+    -- the bases are within U
+    pub share_within : (m q : ℕ) → m ≡ count_by (λ stores. not (eqb stores 0)) (take n ls) → q ≡ u / m → bases q lent ≤ u
+    share_within m q em eq = rw (taken, eq, unfinished_of m em) (bases-within u js)
+
+    pub share_fine : (b : Bool) (m q over : ℕ) (s : List ℕ) → (u ≡ 0 → ⊥) → b ≡ list_all (λ cap. not (eqb cap 0)) (take n cs) → b ≡ true
+        → m ≡ count_by (λ stores. not (eqb stores 0)) (take n ls) → q ≡ u / m → over ≡ u - bases q lent
+        → s ≡ blit 0 (given q over lent) (replicate 8 0) → GivenAs (shared u js) (Ok s)
     unfolding shares
-    share_fine m q over s z c em eq eo es =
-        let k : q ≡ u / unfinished js = eq ∙ ap (λ (x : ℕ). u / x) em in
-        let o : over ≡ u - bases (u / unfinished js) js = eo ∙ ap (λ (x : ℕ). u - bases x js) k in
-        let w : given q over js ≡ shares u js = rw (k, o) refl in
+    share_fine b m q over s z eb t em eq eo es =
+        let k : q ≡ u / unfinished js = eq ∙ ap (λ (x : ℕ). u / x) (unfinished_of m em) in
+        let o : over ≡ u - bases (u / unfinished js) js = eo ∙ rw (taken, k) refl in
+        let w : given q over lent ≡ shares u js = rw (taken, k, o) refl in
         let l : length (shares u js) ≤ 8 = rw (shares-length u js) short in
-        answer (record { number = 0; shares = s }) (shared-fine u js long short z c) (refl, es ∙ rw w (over_zeros (shares u js) l))
+        answer (Ok s) (shared-fine u js long short z (verdict b eb ∙ ap verdict_of t)) (es ∙ rw w (over_zeros (shares u js) l))

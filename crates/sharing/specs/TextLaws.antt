@@ -1,15 +1,14 @@
 -- Laws of texts: the ways to their kind and their bytes, and when two are equal.
-use Rattle.std.specs.Prelude.{ℕ, ◌+◌, ◌-◌, ◌≤◌, ◌<◌, Bool, true, false, ◌≡◌, eqb}
+use Rattle.std.specs.Prelude.{ℕ, ◌+◌, ◌-◌, min, Bool, true, false, ◌≡◌, eqb}
 use mathlib.Core.List.{List, [], ◌∷◌}
 use Rattle.std.proofs.Math.Path.{refl, sym, ap}
 use Rattle.std.proofs.Common.{◌∙◌, eqb-true}
 use native.Mathlib.Omega.{arith}
-use Rattle.std.proofs.Math.ListN.{length, take, drop, length-drop, drop_of_length-le}
-use Rattle.std.proofs.Math.Seq.{take_all, take-nil}
+use Rattle.std.proofs.Math.ListN.{length, take, drop, length-drop}
 use Rattle.std.proofs.lemmas.Bool.{eqb-false}
+use Rattle.std.proofs.lemmas.List.{length-take, take_min}
 use Rattle.base.specs.ChoiceLaws.{eq_yes, eq_no}
 use Rattle.base.specs.Blit.{part}
-use Rattle.base.specs.BlitLaws.{length_part}
 use Rattle.mdf.specs.Block.{kind_tx, kind_md, kind_at, size_at}
 use Rattle.result.specs.Sharing.{same, text_at}
 use Rattle.result.specs.SharingLaws.{same_self, same_first, other-first, other_length}
@@ -36,34 +35,16 @@ module _ (s : List ℕ) (a : ℕ) where
 
 -- ---- the bytes past the header
 module _ (s : List ℕ) (a : ℕ) where
-  pub body-past : length s ≤ a + 24 → BodyOf s a 0
+  pub body-of : {n r : ℕ} → n ≡ size_at s a → r ≡ min (n - 24) (length s - 24 - a) → BodyOf s a r
   unfolding body part
-  body-past h =
-      let e : drop (a + 24) s ≡ [] = drop_of_length-le s h in
-      record { is = rw (e, take-nil); size = rw (e, take-nil); inside = λ z. absurd (omega arith) }
-
-  pub body-short : {n : ℕ} → n ≡ size_at s a → n < 24 → BodyOf s a 0
-  unfolding body part
-  body-short e h =
-      let z : size_at s a - 24 ≡ 0 = omega arith in
-      record { is = rw z; size = rw z; inside = λ y. absurd (omega arith) }
-
-  -- up to the image's end
-  pub body-cut : {n : ℕ} → n ≡ size_at s a → a + 24 ≤ length s → length s - 24 - a < n - 24 → BodyOf s a (length s - 24 - a)
-  unfolding body part
-  body-cut e h l =
-      let d = length-drop (a + 24) s in
-      let z : take (size_at s a - 24) (drop (a + 24) s) ≡ drop (a + 24) s = take_all (size_at s a - 24) (drop (a + 24) s) (omega arith) in
-      let y : take (length s - 24 - a) (drop (a + 24) s) ≡ drop (a + 24) s = take_all (length s - 24 - a) (drop (a + 24) s) (omega arith) in
-      record { is = z ∙ sym y; size = ap length z ∙ omega arith; inside = λ x. omega arith }
-
-  pub body_whole : {n : ℕ} → n ≡ size_at s a → 24 ≤ n → a + n ≤ length s → BodyOf s a (n - 24)
-  unfolding body
-  body_whole {n} e h l = record {
-    is = rw e;
-    size = rw (← e) (length_part (a + 24) (n - 24) s (omega arith));
-    inside = λ x. omega arith;
-  }
+  body-of {n} {r} e f =
+      let d : length s - 24 - a ≡ length (drop (a + 24) s) = omega (arith, length-drop (a + 24) s) in
+      let h : r ≡ min (size_at s a - 24) (length (drop (a + 24) s)) = rw (← d, ← e) f in
+      record {
+        is = sym (ap (λ (k : ℕ). take k (drop (a + 24) s)) h ∙ take_min (size_at s a - 24) (drop (a + 24) s));
+        size = length-take (size_at s a - 24) (drop (a + 24) s) ∙ sym h;
+        inside = λ z. omega arith;
+      }
 
 -- ---- a text is its kind and these bytes
 pub data Told (s : List ℕ) (a : ℕ) : Type 0 where

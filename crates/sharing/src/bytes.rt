@@ -8,18 +8,7 @@ pub(crate) fn bytes_same(image: &[u8], p: usize, q: usize, n: usize) -> bool
     requires { (p + n ≤ length image.now) × (q + n ≤ length image.now) }
     ensures { result ≡ same (part p n image.now) (part q n image.now) }
 {
-    let mut a = p;
-    let mut b = q;
-    let mut left = n;
-    while 0 < left {
-        if image[a] != image[b] {
-            return false;
-        }
-        a += 1;
-        b += 1;
-        left -= 1;
-    }
-    true
+    image[p..p + n] == image[q..q + n]
 }
 
 // The n bytes from p on are those from q on, if both lie in the image.
@@ -28,13 +17,7 @@ pub fn parts_same(image: &[u8], p: u64, q: u64, n: u64) -> bool
         → result ≡ same (part p n image.now) (part q n image.now) }
 {
     let size = image.len() as u64;
-    if size < n {
-        return false;
-    }
-    if size - n < p {
-        return false;
-    }
-    if size - n < q {
+    if size < n || size - n < p || size - n < q {
         return false;
     }
     bytes_same(image, p as usize, q as usize, n as usize)

@@ -8,7 +8,7 @@ ghost use Rattle.sharing.specs.Text.{text_kind, BodyOf};
 use crate::bytes::bytes_same;
 use blocks::block::{MD, TX, kind_at, link_at, size_at};
 use blocks::name::name_at;
-use fields::Check;
+use fields::refusal::Refusal;
 
 // The kind of the text at a, 0 for none.
 pub fn text_kind(image: &[u8], a: u64) -> u64
@@ -17,35 +17,19 @@ pub fn text_kind(image: &[u8], a: u64) -> u64
     if a == 0 {
         return 0;
     }
-    let kind = kind_at(image, a);
-    if kind == TX {
-        return kind;
+    match kind_at(image, a) {
+        TX => TX,
+        MD => MD,
+        _ => 0,
     }
-    if kind == MD {
-        return kind;
-    }
-    0
 }
 
 // How many bytes it has past its header, inside the image.
 pub fn text_bytes(image: &[u8], a: u64) -> u64
     ensures { BodyOf image.now a result }
 {
-    let n = image.len() as u64;
-    if n < 24 {
-        return 0;
-    }
-    if n - 24 <= a {
-        return 0;
-    }
-    let size = size_at(image, a);
-    if size < 24 {
-        return 0;
-    }
-    if n - 24 - a < size - 24 {
-        return n - 24 - a;
-    }
-    size - 24
+    let left = (image.len() as u64).saturating_sub(24).saturating_sub(a);
+    size_at(image, a).saturating_sub(24).min(left)
 }
 
 // The texts at a and at b are equal: kind and all bytes after 24, none equal only to none.
@@ -77,7 +61,7 @@ pub fn unit_same(image: &[u8], m: u64, k: u64) -> bool
 }
 
 // The unit of the CN at m is read as a name is.
-pub fn unit_in(image: &[u8], m: u64) -> Check
+pub fn unit_in(image: &[u8], m: u64) -> Result<(), Refusal>
     ensures { verdict_of result ≡ name_at image.now (unit_of image.now m) }
 {
     name_at(image, link_at(image, m, 6))

@@ -14,9 +14,9 @@ use Rattle.sheets.specs.Piece.{Piece}
 use Rattle.sheets.specs.PieceLaws.{piece_then, piece_as, piece_byte}
 
 -- ---- a byte n times: what is left of it, laid over the list as it is now, gives g
-module _ (n p b : ℕ) (d g : List ℕ) (i : blit p (replicate n b) d ≡ g) where
-  pub fill_turn : (e : List ℕ) → 0 < n → b < 256 → e ≡ blit p (le 1 b) d → blit (p + 1) (replicate (n - 1) b) e ≡ g
-  fill_turn e h l q = go n h i
+module _ (n p b : ℕ) (d : List ℕ) {g : List ℕ} (i : blit p (replicate n b) d ≡ g) where
+  pub fill_turn : {m : ℕ} (e : List ℕ) → 0 < n → m ≡ n - 1 → b < 256 → e ≡ blit p (le 1 b) d → blit (p + 1) (replicate m b) e ≡ g
+  fill_turn e h x l q = rw x (go n h i)
     where
       one : Piece p (b ∷ []) 1 d e
       one = piece_byte b l q

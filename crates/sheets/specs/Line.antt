@@ -4,13 +4,12 @@ use Rattle.std.proofs.Math.Option.{Option, none, some}
 use Rattle.mdf.specs.Group.{samples}
 use Rattle.file.specs.Form.{cycles}
 use Rattle.sheet.specs.Sheet.{ascii, left_in, right_in, kind_of}
-use Rattle.sheets.specs.declared.line.Found.{Found}
-use Rattle.sheets.specs.declared.line.Found.TheVariants.{Nothing, Column}
+use Rattle.std.specs.Prelude as std
 
 -- the code's answer
-abbrev pub found_as : Found → Option ℕ
-found_as Nothing = none
-found_as (Column number) = some number
+abbrev pub found_as : std.Option ℕ → Option ℕ
+found_as std.None = none
+found_as (std.Some number) = some number
 
 -- r is the letter of the CN at c
 pub record KindOf (s : List ℕ) (c r : ℕ) : Type 0 where

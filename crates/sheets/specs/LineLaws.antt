@@ -14,8 +14,7 @@ use Rattle.plan.specs.Columns.{remote_link}
 use Rattle.file.specs.Form.{FileColumn, cycles}
 use Rattle.ranges.specs.Open.{column_at, columns_of}
 use Rattle.sheet.specs.Sheet.{ascii, left_in, right_in, kind_of, name_of, number_at, master_of, master_in, sheet_line}
-use Rattle.sheets.specs.declared.line.Found.{Found}
-use Rattle.sheets.specs.declared.line.Found.TheVariants.{Nothing, Column}
+use Rattle.std.specs.Prelude as std
 use Rattle.sheets.specs.Piece.{Piece}
 use Rattle.sheets.specs.PieceLaws.{piece_then, piece_as, piece_byte}
 use Rattle.sheets.specs.Line.{found_as, KindOf, front_text, sizes_text}
@@ -57,11 +56,11 @@ module _ (s : List ℕ) (all : List FileColumn) (g : ℕ) {link : ℕ} (l : link
   unfolding master_of
   master_sought z f = eq_no _ _ _ _ (λ x. z (l ∙ x)) (f ∙ rw l)
 
-module _ (s : List ℕ) (all : List FileColumn) (g : ℕ) {r : Found} (f : found_as r ≡ master_of s all g) {at : ℕ} {d e : List ℕ} where
-  pub master_nothing : r ≡ Nothing → Piece at (left_in 10 (ascii "-")) 10 d e → Piece at (master_in (master_of s all g)) 10 d e
+module _ (s : List ℕ) (all : List FileColumn) (g : ℕ) {r : std.Option ℕ} (f : found_as r ≡ master_of s all g) {at : ℕ} {d e : List ℕ} where
+  pub master_nothing : r ≡ std.None → Piece at (left_in 10 (ascii "-")) 10 d e → Piece at (master_in (master_of s all g)) 10 d e
   master_nothing q p = let o : none ≡ master_of s all g = rw q at f in piece_as p (ap master_in o)
 
-  pub master_column : {k : ℕ} → r ≡ Column k → Piece at (right_in 10 k) 10 d e → Piece at (master_in (master_of s all g)) 10 d e
+  pub master_column : {k : ℕ} → r ≡ std.Some k → Piece at (right_in 10 k) 10 d e → Piece at (master_in (master_of s all g)) 10 d e
   master_column {k} q p = let o : some k ≡ master_of s all g = rw q at f in piece_as p (ap master_in o)
 
 -- ---- the kind

@@ -53,7 +53,7 @@ left-none : (room : ℕ) → left_in room [] ≡ replicate room 32
 unfolding left_in
 left-none room = rw sub-zero
 
-module _ (s : List ℕ) (q m room p : ℕ) (d g : List ℕ) (i : blit p (left_in room (shown_text s q m)) d ≡ g) where
+module _ (s : List ℕ) (q m room p : ℕ) (d : List ℕ) {g : List ℕ} (i : blit p (left_in room (shown_text s q m)) d ≡ g) where
   pub name_end : {e : List ℕ} → m ≤ 0 → Piece p (replicate room 32) room d e → e ≡ g
   unfolding part up_to_zero
   name_end h f = let z : m ≡ 0 = omega arith in f.is ∙ (rw (z, left-none room) at i)
@@ -67,9 +67,10 @@ module _ (s : List ℕ) (q m room p : ℕ) (d g : List ℕ) (i : blit p (left_in
         f.is ∙ (rw (cut, left-none room) at i)
 
     pub name_turn : {x : ℕ} {e : List ℕ} → (b ≡ 0 → ⊥) → x ≡ printable b → e ≡ blit p (le 1 x) d
-        → blit (p + 1) (left_in (room - 1) (shown_text s (q + 1) (m - 1))) e ≡ g
+        → {p' room' q' m' : ℕ} → p' ≡ p + 1 → room' ≡ room - 1 → q' ≡ q + 1 → m' ≡ m - 1
+        → blit p' (left_in room' (shown_text s q' m')) e ≡ g
     unfolding up_to_zero
-    name_turn {x} {e} z f w =
+    name_turn {x} {e} z f w p₁ r₁ q₁ m₁ =
         let y : b ≡ get_or s q 0 = byte_is s q r in
         let kept : up_to_zero (part q m s) ≡ b ∷ up_to_zero (part (q + 1) (m - 1) s) =
         rw (part-first s q m h l, ← y) (sym (eq_no _ _ _ _ z refl)) in
@@ -77,7 +78,7 @@ module _ (s : List ℕ) (q m room p : ℕ) (d g : List ℕ) (i : blit p (left_in
         let one : Piece p (x ∷ []) 1 d e = piece_byte x small w in
         let rest = left_in (room - 1) (shown_text s (q + 1) (m - 1)) in
         let all : left_in room (shown_text s q m) ≡ (x ∷ []) ++ rest = rw (kept, f) (left_cons room (printable b) (shown_text s (q + 1) (m - 1))) in
-        rw one.is (sym (blit-append (x ∷ []) p rest d) ∙ (rw all at i))
+        rw (p₁, r₁, q₁, m₁, one.is) (sym (blit-append (x ∷ []) p rest d) ∙ (rw all at i))
 
 -- what was put is 32 characters
 pub name_piece : (s : List ℕ) (q m : ℕ) {at : ℕ} {d e : List ℕ} → m ≤ 32 → e ≡ blit at (left_in 32 (shown_text s q m)) d

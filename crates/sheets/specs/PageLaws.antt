@@ -1,6 +1,6 @@
 -- A heading, the lines of a page one after the other, the pages one after the other.
 use Prim.Native.Nat.{ℕ, zero, suc, ◌+◌, ◌*◌, ◌-◌, ◌/◌, ◌≤◌, ◌<◌, min}
-use Rattle.std.specs.Prelude.{List, [], ◌∷◌, ◌++◌, ◌≡◌, refl, take, drop, replicate}
+use Rattle.std.specs.Prelude.{List, ◌∷◌, ◌++◌, ◌≡◌, refl, take, drop, replicate}
 use Rattle.std.proofs.Common.{sym, ◌∙◌, add-zero, zero-add, sub-one}
 use Rattle.std.proofs.Math.Path.{ap}
 use Rattle.std.proofs.Math.Nat.{sub-zero, zero-min, min-zero, suc-min-suc, min_comm}
@@ -14,7 +14,7 @@ use Rattle.result.specs.Listing.{decimal}
 use Rattle.file.specs.Form.{FileColumn}
 use Rattle.ranges.specs.Open.{column_at, columns_of}
 use Rattle.texts.specs.Laid.{Laid}
-use Rattle.texts.specs.LaidLaws.{laid_then, laid-text}
+use Rattle.texts.specs.LaidLaws.{laid_then}
 use Rattle.sheet.specs.Sheet.{ascii, left_in, sheet_line, sheet_lines, heading, page_count, page_of, pages_from, pages, lines_text, pages_text}
 use Rattle.sheet.proofs.SheetLaws.{length-heading, length-lines-text, length-sheet, pages-none, pages-some}
 use Rattle.sheets.specs.Piece.{Piece}
@@ -22,14 +22,13 @@ use Rattle.sheets.specs.PieceLaws.{piece_then, piece_byte}
 use Rattle.sheets.specs.LineLaws.{columns_open}
 
 -- ---- a heading with its newline
-pub heading_put : (p n : ℕ) {at a b : ℕ} {d₀ d₁ d₂ d₃ d₄ d₅ d₆ : List ℕ} → d₁ ≡ blit at (part 0 5 (112 ∷ 97 ∷ 103 ∷ 101 ∷ 32 ∷ [])) d₀
-    → Laid (at + 5) (decimal p) 20 d₁ d₂ a → d₃ ≡ blit a (part 0 4 (32 ∷ 111 ∷ 102 ∷ 32 ∷ [])) d₂ → Laid (a + 4) (decimal n) 20 d₃ d₄ b
+pub heading_put : (p n : ℕ) {at a₁ a₂ a₃ b : ℕ} {d₀ d₁ d₂ d₃ d₄ d₅ d₆ : List ℕ} → Laid at (ascii "page ") 5 d₀ d₁ a₁
+    → Laid a₁ (decimal p) 20 d₁ d₂ a₂ → Laid a₂ (ascii " of ") 4 d₂ d₃ a₃ → Laid a₃ (decimal n) 20 d₃ d₄ b
     → Piece b (replicate (at + 80 - b) 32) (at + 80 - b) d₄ d₅ → d₆ ≡ blit (at + 80) (le 1 10) d₅ → Piece at (heading p n ++ ascii "\n") 81 d₀ d₆
 unfolding heading left_in
-heading_put p n {at} {a} {b} {d₀} {d₄ = d₄} {d₅ = d₅} e f g h i j =
+heading_put p n {at} {b = b} {d₀} {d₄ = d₄} {d₅ = d₅} e f g h i j =
     let text = ascii "page " ++ decimal p ++ ascii " of " ++ decimal n in
-    let t : Laid at text 49 d₀ d₄ b =
-    laid_then (laid_then (laid_then (laid-text {most = 5} e refl (omega arith)) f) (laid-text {most = 4} g refl (omega arith))) h in
+    let t : Laid at text 49 d₀ d₄ b = laid_then (laid_then (laid_then e f) g) h in
     let w : at + 80 - b ≡ 80 - length text = omega (arith, t.past) in
     let r : d₅ ≡ blit at (text ++ replicate (80 - length text) 32) d₀ =
     i.is ∙ rw (w, t.is, t.past) (sym (blit-append text at (replicate (80 - length text) 32) d₀)) in
@@ -63,18 +62,18 @@ columns-part s w i m n = rw (columns-drop s w i n 0, zero-add, columns-take s w 
 
 -- ---- the lines of m columns from number k on
 module _ (s w : List ℕ) (all : List FileColumn) where
-  pub lines_turn : (k m p : ℕ) (d g : List ℕ) {e : List ℕ} → 0 < m → blit p (lines_text (sheet_lines s all k (columns_of s w m k))) d ≡ g
+  pub lines_turn : (k m p : ℕ) {d g e : List ℕ} {m' : ℕ} → 0 < m → m' ≡ m - 1 → blit p (lines_text (sheet_lines s all k (columns_of s w m k))) d ≡ g
       → Piece p (sheet_line s all k (column_at s w k) ++ ascii "\n") 81 d e
-      → blit (p + 81) (lines_text (sheet_lines s all (k + 1) (columns_of s w (m - 1) (k + 1)))) e ≡ g
+      → blit (p + 81) (lines_text (sheet_lines s all (k + 1) (columns_of s w m' (k + 1)))) e ≡ g
   unfolding lines_text sheet_lines
-  lines_turn k m p d g h i q =
+  lines_turn k m p {d} {g} h m₁ i q =
       let l : blit p (sheet_line s all k (column_at s w k) ++ ascii "\n" ++ lines_text (sheet_lines s all (k + 1) (columns_of s w (m - 1) (k + 1)))) d ≡ g =
       rw (columns_open s w m k h) at i in
-      rw (q.is, ← q.long) (sym (blit-append (sheet_line s all k (column_at s w k) ++ ascii "\n") p _ d) ∙ l)
+      rw (m₁, q.is, ← q.long) (sym (blit-append (sheet_line s all k (column_at s w k) ++ ascii "\n") p _ d) ∙ l)
 
-  pub lines_end : (k m p : ℕ) (d g : List ℕ) → m ≤ 0 → blit p (lines_text (sheet_lines s all k (columns_of s w m k))) d ≡ g → d ≡ g
+  pub lines_end : (k m p : ℕ) {d g : List ℕ} → m ≤ 0 → blit p (lines_text (sheet_lines s all k (columns_of s w m k))) d ≡ g → d ≡ g
   unfolding blit lines_text sheet_lines columns_of
-  lines_end k m p d g h i = let z : m ≡ 0 = omega arith in rw z at i
+  lines_end k m p h i = let z : m ≡ 0 = omega arith in rw z at i
 
   pub lines_piece : (k m : ℕ) {at : ℕ} {d e : List ℕ} → e ≡ blit at (lines_text (sheet_lines s all k (columns_of s w m k))) d
       → Piece at (lines_text (sheet_lines s all k (columns_of s w m k))) (81 * m) d e

@@ -1,5 +1,5 @@
 // Fields of so many characters, and blanks.
-ghost use Rattle.std.specs.Prelude.{◌+◌, ◌≤◌, ◌<◌, replicate};
+ghost use Rattle.std.specs.Prelude.{◌+◌, ◌≤◌, replicate};
 ghost use Rattle.sheet.specs.Sheet.{ascii, left_in, right_in};
 ghost use Rattle.sheets.specs.Piece.{Piece};
 
@@ -7,16 +7,12 @@ use puts::{copy, put_u8};
 use texts::put_decimal;
 
 // A byte b, n times.
-pub(crate) fn fill(lines: &mut [u8], at: usize, n: usize, b: u64)
-    requires { (at + n ≤ 1048576) × (b < 256) }
+pub(crate) fn fill(lines: &mut [u8], at: usize, n: usize, b: u8)
+    requires { at + n ≤ 1048576 }
     ensures { Piece at (replicate n b) n lines.old lines.new }
 {
-    let mut left = n;
-    let mut p = at;
-    while 0 < left {
-        put_u8(lines, p, b);
-        p += 1;
-        left -= 1;
+    for p in at..at + n {
+        put_u8(lines, p, b as u64);
     }
 }
 
@@ -26,7 +22,7 @@ pub(crate) fn put_dash(lines: &mut [u8], at: usize, w: usize)
     ensures { Piece at (left_in w (ascii "-")) w lines.old lines.new }
 {
     put_u8(lines, at, 45);
-    fill(lines, at + 1, w - 1, 32);
+    fill(lines, at + 1, w - 1, b' ');
 }
 
 // A number at the right of w characters; one too wide fills them with `#`.
@@ -37,10 +33,10 @@ pub(crate) fn put_right(lines: &mut [u8], at: usize, w: usize, n: u64)
     let mut digits = [0u8; 20];
     let count = put_decimal(&mut digits, 0, n);
     if w < count {
-        fill(lines, at, w, 35);
+        fill(lines, at, w, b'#');
         return;
     }
     let blanks = w - count;
-    fill(lines, at, blanks, 32);
+    fill(lines, at, blanks, b' ');
     copy(lines, at + blanks, &digits, 0, count as u64);
 }

@@ -12,39 +12,26 @@ use planning::masters::remote_link;
 use puts::put_u8;
 use ranges::form::cycles_of;
 
-// A column's number, or that there is none.
-#[derive(Drop)]
-pub enum Found {
-    Nothing,
-    Column { number: u64 },
-}
-
 // The number of the column, of n, whose CG stands at a.
-fn number_at(source: &[u64; 4096], n: u64, a: u64) -> Found
+fn number_at(source: &[u64; 4096], n: u64, a: u64) -> Option<u64>
     requires { n ≤ 512 }
     ensures { (s : List ℕ) → found_as result ≡ number_at a 0 (columns_of s source.now n 0) }
 {
-    let mut k: u64 = 0;
-    while k < n {
-        let at = 3 * k as usize + 1;
-        if source[at] == a {
-            return Found::Column { number: k };
+    for k in 0..n {
+        if source[3 * k as usize + 1] == a {
+            return Some(k);
         }
-        k += 1;
     }
-    Found::Nothing
+    None
 }
 
 // The master's column of the group at g, among n columns.
-pub fn master_of(image: &[u8], source: &[u64; 4096], n: u64, g: u64) -> Found
+pub fn master_of(image: &[u8], source: &[u64; 4096], n: u64, g: u64) -> Option<u64>
     ensures { n ≤ 512 → found_as result ≡ master_of image.now (columns_of image.now source.now n 0) g }
 {
     let link = remote_link(image, g);
-    if link == 0 {
-        return Found::Nothing;
-    }
-    if 512 < n {
-        return Found::Nothing;
+    if link == 0 || 512 < n {
+        return None;
     }
     number_at(source, n, link)
 }
@@ -55,10 +42,9 @@ fn put_master(lines: &mut [u8], at: usize, image: &[u8], source: &[u64; 4096], n
     ensures { Piece at (master_in (master_of image.now (columns_of image.now source.now n 0) g)) 10
         lines.old lines.new }
 {
-    let found = master_of(image, source, n, g);
-    match found {
-        Found::Nothing => put_dash(lines, at, 10),
-        Found::Column { number } => put_right(lines, at, 10, number),
+    match master_of(image, source, n, g) {
+        Some(number) => put_right(lines, at, 10, number),
+        None => put_dash(lines, at, 10),
     }
 }
 

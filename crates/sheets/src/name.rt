@@ -6,18 +6,15 @@ ghost use Rattle.sheets.specs.Piece.{Piece};
 
 use crate::field::{fill, put_dash};
 use blocks::block::link_at;
-use fields::u8_at;
-use puts::{least, put_u8};
+use fields::field_at;
+use puts::put_u8;
 use sharing::text::{text_bytes, text_kind};
 
 // How a byte prints.
 fn shown(b: u64) -> u64
     ensures { result ≡ printable b }
 {
-    if b < 32 {
-        return 63;
-    }
-    if 126 < b {
+    if b < 32 || 126 < b {
         return 63;
     }
     b
@@ -28,23 +25,16 @@ fn put_shown(lines: &mut [u8], at: usize, image: &[u8], from: u64, n: u64)
     requires { (at ≤ 65536) × (n ≤ 32) × (from + n ≤ length image.now) }
     ensures { Piece at (left_in 32 (shown_text image.now from n)) 32 lines.old lines.new }
 {
-    let mut p = at;
-    let mut q = from;
-    let mut left = n;
-    let mut room: usize = 32;
-    while 0 < left {
-        let b = u8_at(image, q);
+    let count = n as usize;
+    for k in 0..count {
+        let b = field_at::<1>(image, from + k as u64);
         if b == 0 {
-            fill(lines, p, room, 32);
+            fill(lines, at + k, 32 - k, b' ');
             return;
         }
-        put_u8(lines, p, shown(b));
-        p += 1;
-        q += 1;
-        left -= 1;
-        room -= 1;
+        put_u8(lines, at + k, shown(b));
     }
-    fill(lines, p, room, 32);
+    fill(lines, at + count, 32 - count, b' ');
 }
 
 // The name of the CN at c in 32 characters.
@@ -57,9 +47,9 @@ pub(crate) fn put_name(lines: &mut [u8], at: usize, image: &[u8], c: u64)
         put_dash(lines, at, 32);
         return;
     }
-    let n = least(text_bytes(image, a), 32);
+    let n = text_bytes(image, a).min(32);
     if n == 0 {
-        fill(lines, at, 32, 32);
+        fill(lines, at, 32, b' ');
         return;
     }
     put_shown(lines, at, image, a + 24, n);

@@ -7,19 +7,19 @@ ghost use Rattle.sheets.specs.Piece.{Piece};
 
 use crate::field::fill;
 use crate::line::put_line;
-use puts::{copy, least, put_u8};
-use texts::put_decimal;
+use puts::put_u8;
+use texts::{put_decimal, put_text};
 
 // The heading of page p of n, with its newline.
 fn put_heading(lines: &mut [u8], at: usize, p: u64, n: u64)
     requires { at ≤ 60000 }
     ensures { Piece at (heading p n ++ ascii "\n") 81 lines.old lines.new }
 {
-    copy(lines, at, b"page ", 0, 5);
-    let a = at + 5 + put_decimal(lines, at + 5, p);
-    copy(lines, a, b" of ", 0, 4);
-    let b = a + 4 + put_decimal(lines, a + 4, n);
-    fill(lines, b, at + 80 - b, 32);
+    let mut end = put_text(lines, at, b"page ");
+    end += put_decimal(lines, end, p);
+    end = put_text(lines, end, b" of ");
+    end += put_decimal(lines, end, n);
+    fill(lines, end, at + 80 - end, b' ');
     put_u8(lines, at + 80, 10);
 }
 
@@ -38,13 +38,9 @@ fn put_lines(
         (columns_of image.now source.now count first))) (81 * count) lines.old lines.new }
 {
     let mut p = at;
-    let mut k = first;
-    let mut left = count;
-    while 0 < left {
+    for k in first..first + count {
         put_line(lines, p, image, source, n, k);
         p += 81;
-        k += 1;
-        left -= 1;
     }
 }
 
@@ -63,7 +59,7 @@ fn put_page(
         lines.old lines.new result }
 {
     let first = 59 * i;
-    let count = least(n - first, 59);
+    let count = (n - first).min(59);
     put_heading(lines, at, i + 1, pages);
     put_lines(lines, at + 81, image, source, n, first, count);
     at + 81 + 81 * count as usize
@@ -88,10 +84,8 @@ pub(crate) fn put_pages(lines: &mut [u8], image: &[u8], source: &[u64; 4096], n:
 {
     let all = page_count(n);
     let mut p: usize = 0;
-    let mut i: u64 = 0;
-    while i < all {
+    for i in 0..all {
         p = put_page(lines, p, image, source, n, all, i);
-        i += 1;
     }
     p
 }

@@ -1,12 +1,13 @@
 -- What the exported beginning of a conversion in steps answers: the outcome as of a conversion in one go, and the state; all zero after a refusal, so
 -- that it has no step (include/sitaungo.h).
-use Rattle.std.specs.Prelude.{ℕ, true, false, List, ◌≡◌}
+use Rattle.std.specs.Prelude.{ℕ, true, false, List, ◌≡◌, Result, Ok, Err}
 use Rattle.base.specs.Checked.{ok, refused}
 use Rattle.result.specs.Result.{Args}
 use Rattle.writing.specs.Answer.{report_of}
 use Rattle.steps.specs.declared.conversion.Conversion.{Conversion}
 use Rattle.steps.specs.declared.begin.Started.{Started}
-use Rattle.steps.specs.declared.begin.Started.TheVariants.{Refused, Done}
+use Rattle.fields.specs.declared.refusal.Refusal.{Refusal}
+use Rattle.fields.specs.Answer.{number_of, place_of}
 use Rattle.steps.specs.Steps.{Starts}
 use Rattle.sitaungo.specs.declared.in_steps.Begun.{Begun}
 use Rattle.sitaungo.specs.Answer.{numbers_of}
@@ -44,12 +45,12 @@ no_conversion = record {
   place_d = 0;
 }
 
-abbrev pub begun_of : Started → Begun
-begun_of (Refused number place) = record { outcome = numbers_of (refused number place); conversion = no_conversion }
-begun_of (Done k r) = record { outcome = numbers_of (ok (report_of r)); conversion = k }
+abbrev pub begun_of : Result Started Refusal → Begun
+begun_of (Err r) = record { outcome = numbers_of (refused (number_of r) (place_of r)); conversion = no_conversion }
+begun_of (Ok s) = record { outcome = numbers_of (ok (report_of s.report)); conversion = s.conversion }
 
 -- a call of `begin` of the crate steps, exported
 pub record Began (x : Args) (out list : ℕ) (a b c d p q : List ℕ) (r : Begun) (a' b' c' d' p' q' : List ℕ) : Type 0 where
-  pub started : Started
+  pub started : Result Started Refusal
   pub is : r ≡ begun_of started
   pub starts : Starts x out list a b c d p q started a' b' c' d' p' q'

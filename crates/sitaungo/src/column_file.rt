@@ -7,14 +7,14 @@ ghost use Rattle.sheet.specs.Sheet.{sheet};
 ghost use Rattle.texts.specs.Laid.{Laid};
 ghost use Rattle.sitaungo.specs.ColumnFile.{filled, exported_read, exported_part};
 
-use fields::Check;
+use fields::refusal::Refusal;
 use ranges::plot::{Plotting, Request, plot};
 use ranges::read::{Location, locate, read_range};
 use sheets::column_file::sheet;
 
 // Whether the range was read; a refusal's number and place where it was not, else 0.
 #[repr(C)]
-#[derive(Drop)]
+#[derive(Default, Drop)]
 pub struct Read {
     pub accepted: bool,
     pub number: u64,
@@ -23,7 +23,7 @@ pub struct Read {
 
 // Offset and length of a part, or split, or a refusal's number and place; what says nothing is 0.
 #[repr(C)]
-#[derive(Drop)]
+#[derive(Default, Drop)]
 pub struct Part {
     pub accepted: bool,
     pub split: bool,
@@ -31,6 +31,55 @@ pub struct Part {
     pub place: u64,
     pub offset: u64,
     pub length: u64,
+}
+
+impl From<Result<(), Refusal>> for Read {
+    ghost use Rattle.fields.specs.Answer.{verdict_of};
+    ghost use Rattle.sitaungo.specs.ColumnFile.{read_numbers};
+
+    ghost from_gives = { λ answer read. read ≡ read_numbers (verdict_of answer) };
+
+    fn from(answer: Result<(), Refusal>) -> Read {
+        match answer {
+            Ok(()) => Read {
+                accepted: true,
+                ..Read::default()
+            },
+            Err(refusal) => Read {
+                number: refusal.number(),
+                place: refusal.place(),
+                ..Read::default()
+            },
+        }
+    }
+}
+
+impl From<Result<Location, Refusal>> for Part {
+    ghost use Rattle.ranges.specs.Read.{located_as};
+    ghost use Rattle.sitaungo.specs.ColumnFile.{exported_part};
+
+    ghost from_gives = { λ answer part. part ≡ exported_part (located_as answer) };
+
+    fn from(answer: Result<Location, Refusal>) -> Part {
+        match answer {
+            Ok(Location::Split) => Part {
+                accepted: true,
+                split: true,
+                ..Part::default()
+            },
+            Ok(Location::At { offset, length }) => Part {
+                accepted: true,
+                offset,
+                length,
+                ..Part::default()
+            },
+            Err(why) => Part {
+                number: why.number(),
+                place: why.place(),
+                ..Part::default()
+            },
+        }
+    }
 }
 
 // Count records of a column, beginning at a given one, are copied into the buffer: `read_range` of the crate ranges.
@@ -44,19 +93,7 @@ pub extern "C" fn sitaungo_read_range(
 ) -> Read
     ensures { filled result buffer.new ≡ exported_read (read_into image.now column first count buffer.old) }
 {
-    let answer = read_range(image, column, first, count, buffer);
-    match answer {
-        Check::Refused { number, place } => Read {
-            accepted: false,
-            number,
-            place,
-        },
-        Check::Fine => Read {
-            accepted: true,
-            number: 0,
-            place: 0,
-        },
-    }
+    read_range(image, column, first, count, buffer).into()
 }
 
 // Where these records lie in the file, if in one block: `locate` of the crate ranges.
@@ -64,33 +101,7 @@ pub extern "C" fn sitaungo_read_range(
 pub extern "C" fn sitaungo_range_part(image: &[u8], column: u64, first: u64, count: u64) -> Part
     ensures { result ≡ exported_part (located image.now column first count) }
 {
-    let at = locate(image, column, first, count);
-    match at {
-        Location::Refused { number, place } => Part {
-            accepted: false,
-            split: false,
-            number,
-            place,
-            offset: 0,
-            length: 0,
-        },
-        Location::Split => Part {
-            accepted: true,
-            split: true,
-            number: 0,
-            place: 0,
-            offset: 0,
-            length: 0,
-        },
-        Location::At { offset, length } => Part {
-            accepted: true,
-            split: false,
-            number: 0,
-            place: 0,
-            offset,
-            length,
-        },
-    }
+    locate(image, column, first, count).into()
 }
 
 // Many ranges fetched in one call: `plot` of the crate ranges.

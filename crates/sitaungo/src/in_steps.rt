@@ -5,10 +5,10 @@ ghost use Rattle.positions.specs.Held.{state_of};
 ghost use Rattle.writing.specs.Answer.{args};
 ghost use Rattle.steps.specs.Conversion.{positions_of, call_of};
 ghost use Rattle.steps.specs.Steps.{Holds, Steps, Bounded, lent, PositionAs};
-ghost use Rattle.sitaungo.specs.InSteps.{no_conversion, begun_of, Began};
+ghost use Rattle.sitaungo.specs.InSteps.{begun_of, Began};
 
 use crate::{ColumnOptions, Outcome};
-use choices::Choices;
+use fields::refusal::Refusal;
 use steps::begin::{Started, begin};
 use steps::conversion::Conversion;
 use steps::position::{Position, name, recall};
@@ -22,85 +22,19 @@ pub struct Begun {
     pub conversion: Conversion,
 }
 
-// A state that has no step.
-fn none() -> Conversion
-    ensures { result ≡ no_conversion }
+// What `begin` of the crate steps answers; a refusal's state has no step.
+fn begun_of(answer: Result<Started, Refusal>) -> Begun
+    ensures { result ≡ begun_of answer }
 {
-    Conversion {
-        block_size: 0,
-        time: 0,
-        unit: 0,
-        share: false,
-        photos: false,
-        items: 0,
-        pieces: 0,
-        columns: 0,
-        omissions: 0,
-        history: 0,
-        chain: 0,
-        md: 0,
-        fh: 0,
-        metadata: 0,
-        copies: 0,
-        attachments: 0,
-        metadata_end: 0,
-        file_size: 0,
-        steps: 0,
-        next: 0,
-        count: 0,
-        name_a: 0,
-        name_b: 0,
-        name_c: 0,
-        name_d: 0,
-        place_a: 0,
-        place_b: 0,
-        place_c: 0,
-        place_d: 0,
-    }
-}
-
-// What `begin` of the crate steps answers.
-fn begun_of(s: Started) -> Begun
-    ensures { result ≡ begun_of s }
-{
-    match s {
-        Started::Refused { number, place } => {
-            let outcome = Outcome {
-                accepted: false,
-                number,
-                place,
-                source_groups: 0,
-                time_groups: 0,
-                signal_groups: 0,
-                shared_time_groups: 0,
-                data_blocks: 0,
-                metadata_size: 0,
-                file_size: 0,
-            };
-            let conversion = none();
-            Begun {
-                outcome,
-                conversion,
-            }
-        }
-        Started::Done { conversion, report } => {
-            let outcome = Outcome {
-                accepted: true,
-                number: 0,
-                place: 0,
-                source_groups: report.source_groups,
-                time_groups: report.time_groups,
-                signal_groups: report.signal_groups,
-                shared_time_groups: report.shared_time_groups,
-                data_blocks: report.data_blocks,
-                metadata_size: report.metadata_size,
-                file_size: report.file_size,
-            };
-            Begun {
-                outcome,
-                conversion,
-            }
-        }
+    match answer {
+        Ok(started) => Begun {
+            outcome: started.report.into(),
+            conversion: started.conversion,
+        },
+        Err(refusal) => Begun {
+            outcome: refusal.into(),
+            conversion: Conversion::default(),
+        },
     }
 }
 
@@ -133,11 +67,7 @@ pub extern "C" fn sitaungo_begin(
         ident,
         text,
         time,
-        Choices {
-            unit: options.unit,
-            share: options.share,
-            photos: options.photos,
-        },
+        options.choices(),
         types,
         out,
         list_words,

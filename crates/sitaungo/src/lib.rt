@@ -15,13 +15,14 @@ ghost use Rattle.sitaungo.specs.Answer.{left, exported};
 ghost use Rattle.sitaungo.specs.Readable.{Readable};
 
 use choices::Choices;
+use fields::refusal::Refusal;
 use listing::recording::list;
-use writing::convert::{Converted, convert};
+use writing::convert::{Report, convert};
 
 // Whether the recording was accepted; document 01's refusal with number and place where it was not, else 0; the report's seven counts where
 // it was, else 0.
 #[repr(C)]
-#[derive(Drop)]
+#[derive(Default, Drop)]
 pub struct Outcome {
     pub accepted: bool,
     pub number: u64,
@@ -33,6 +34,58 @@ pub struct Outcome {
     pub data_blocks: u64,
     pub metadata_size: u64,
     pub file_size: u64,
+}
+
+impl From<Report> for Outcome {
+    ghost use Rattle.base.specs.Checked.{ok};
+    ghost use Rattle.writing.specs.Answer.{report_of};
+    ghost use Rattle.sitaungo.specs.Answer.{numbers_of};
+
+    ghost from_gives = { λ report outcome. outcome ≡ numbers_of (ok (report_of report)) };
+
+    fn from(report: Report) -> Outcome {
+        Outcome {
+            accepted: true,
+            source_groups: report.source_groups,
+            time_groups: report.time_groups,
+            signal_groups: report.signal_groups,
+            shared_time_groups: report.shared_time_groups,
+            data_blocks: report.data_blocks,
+            metadata_size: report.metadata_size,
+            file_size: report.file_size,
+            ..Outcome::default()
+        }
+    }
+}
+
+impl From<Refusal> for Outcome {
+    ghost use Rattle.base.specs.Checked.{refused};
+    ghost use Rattle.fields.specs.Answer.{number_of, place_of};
+    ghost use Rattle.sitaungo.specs.Answer.{numbers_of};
+
+    ghost from_gives = { λ refusal outcome. outcome ≡ numbers_of (refused (number_of refusal) (place_of refusal)) };
+
+    fn from(refusal: Refusal) -> Outcome {
+        Outcome {
+            number: refusal.number(),
+            place: refusal.place(),
+            ..Outcome::default()
+        }
+    }
+}
+
+impl From<Result<Report, Refusal>> for Outcome {
+    ghost use Rattle.writing.specs.Answer.{answer_of};
+    ghost use Rattle.sitaungo.specs.Answer.{numbers_of};
+
+    ghost from_gives = { λ answer outcome. outcome ≡ numbers_of (answer_of answer) };
+
+    fn from(answer: Result<Report, Refusal>) -> Outcome {
+        match answer {
+            Ok(report) => Outcome::from(report),
+            Err(refusal) => Outcome::from(refusal),
+        }
+    }
 }
 
 // Every element of a slice is a byte.
@@ -52,6 +105,25 @@ pub struct ColumnOptions {
     pub unit: u64,
     pub share: bool,
     pub photos: bool,
+}
+
+// By what is built in: unit 8.
+const BUILT_IN: ColumnOptions = ColumnOptions {
+    unit: 8,
+    share: false,
+    photos: false,
+};
+
+impl ColumnOptions {
+    fn choices(self) -> Choices
+        ensures { result ≡ record { unit = self.unit; share = self.share; photos = self.photos } }
+    {
+        Choices {
+            unit: self.unit,
+            share: self.share,
+            photos: self.photos,
+        }
+    }
 }
 
 // One recording into one file, by what is chosen: `convert` of the crate writing. `types` is the table of treatments: no bytes, or a count n
@@ -86,17 +158,13 @@ pub extern "C" fn sitaungo_convert_with(
 {
     are_bytes(image);
     are_bytes(ident);
-    let answer = convert(
+    Outcome::from(convert(
         image,
         size,
         ident,
         text,
         time,
-        Choices {
-            unit: options.unit,
-            share: options.share,
-            photos: options.photos,
-        },
+        options.choices(),
         types,
         source,
         fragments,
@@ -104,33 +172,7 @@ pub extern "C" fn sitaungo_convert_with(
         copies,
         out,
         list,
-    );
-    match answer {
-        Converted::Refused { number, place } => Outcome {
-            accepted: false,
-            number,
-            place,
-            source_groups: 0,
-            time_groups: 0,
-            signal_groups: 0,
-            shared_time_groups: 0,
-            data_blocks: 0,
-            metadata_size: 0,
-            file_size: 0,
-        },
-        Converted::Done(r) => Outcome {
-            accepted: true,
-            number: 0,
-            place: 0,
-            source_groups: r.source_groups,
-            time_groups: r.time_groups,
-            signal_groups: r.signal_groups,
-            shared_time_groups: r.shared_time_groups,
-            data_blocks: r.data_blocks,
-            metadata_size: r.metadata_size,
-            file_size: r.file_size,
-        },
-    }
+    ))
 }
 
 // One recording into one file, by what is built in: unit 8, no table.
@@ -160,22 +202,7 @@ pub extern "C" fn sitaungo_convert(
         (four source.old fragments.old columns.old copies.old) out.new }
 {
     sitaungo_convert_with(
-        image,
-        size,
-        ident,
-        text,
-        time,
-        ColumnOptions {
-            unit: 8,
-            share: false,
-            photos: false,
-        },
-        b"",
-        source,
-        fragments,
-        columns,
-        copies,
-        out,
+        image, size, ident, text, time, BUILT_IN, b"", source, fragments, columns, copies, out,
         list,
     )
 }
@@ -208,11 +235,7 @@ pub extern "C" fn sitaungo_list_with(
         size,
         ident,
         text,
-        Choices {
-            unit: options.unit,
-            share: options.share,
-            photos: options.photos,
-        },
+        options.choices(),
         types,
         out,
         list_words,
@@ -243,22 +266,7 @@ pub extern "C" fn sitaungo_list(
         result lines.new (four source.new fragments.new columns.new copies.new) }
 {
     sitaungo_list_with(
-        image,
-        size,
-        ident,
-        text,
-        ColumnOptions {
-            unit: 8,
-            share: false,
-            photos: false,
-        },
-        b"",
-        out,
-        list_words,
-        source,
-        fragments,
-        columns,
-        copies,
-        lines,
+        image, size, ident, text, BUILT_IN, b"", out, list_words, source, fragments, columns,
+        copies, lines,
     )
 }

@@ -5,16 +5,39 @@ ghost use Rattle.arranging.specs.Answered.{four};
 ghost use Rattle.thinning.specs.Answer.{Promised};
 ghost use Rattle.sitaungo.specs.TakingOut.{left_by, exported_taken};
 
-use thinning::take::{Taken, take_out};
+use fields::refusal::Refusal;
+use thinning::take::take_out;
 
 // Whether the call was accepted; a refusal's number and place where it was not, else 0; the bytes of the new file where it was, else 0.
 #[repr(C)]
-#[derive(Drop)]
+#[derive(Default, Drop)]
 pub struct TakenColumns {
     pub accepted: bool,
     pub number: u64,
     pub place: u64,
     pub bytes: u64,
+}
+
+impl From<Result<u64, Refusal>> for TakenColumns {
+    ghost use Rattle.thinning.specs.Answer.{taken_as};
+    ghost use Rattle.sitaungo.specs.TakingOut.{taken_numbers};
+
+    ghost from_gives = { λ answer taken. taken ≡ taken_numbers (taken_as answer) };
+
+    fn from(answer: Result<u64, Refusal>) -> TakenColumns {
+        match answer {
+            Ok(bytes) => TakenColumns {
+                accepted: true,
+                bytes,
+                ..TakenColumns::default()
+            },
+            Err(refusal) => TakenColumns {
+                number: refusal.number(),
+                place: refusal.place(),
+                ..TakenColumns::default()
+            },
+        }
+    }
 }
 
 // A file with the other columns in order, at the front of the output: `take_out` of the crate thinning.
@@ -35,21 +58,7 @@ pub extern "C" fn sitaungo_take_out(
     ensures promised { Promised unit image.now numbers.now (length out.old)
         (four source.old fragments.old columns.old copies.old) out.new }
 {
-    let answer = take_out(
+    TakenColumns::from(take_out(
         image, unit, numbers, source, fragments, columns, copies, out,
-    );
-    match answer {
-        Taken::Refused { number, place } => TakenColumns {
-            accepted: false,
-            number,
-            place,
-            bytes: 0,
-        },
-        Taken::Done { bytes } => TakenColumns {
-            accepted: true,
-            number: 0,
-            place: 0,
-            bytes,
-        },
-    }
+    ))
 }

@@ -1,11 +1,10 @@
 -- Bookkeeping: the parts of what a conversion in steps holds.
-use Rattle.std.specs.Prelude.{ℕ, List}
+use Rattle.std.specs.Prelude.{ℕ, List, [], ◌∷◌, get_or}
 use Rattle.result.specs.Result.{Args}
 use Rattle.writing.specs.Answer.{args}
 use Rattle.choices.specs.declared.Choices.{Choices}
 use Rattle.stores.specs.Stores.{steps_of}
 use Rattle.placing.specs.declared.layout.Numbers.{Numbers}
-use Rattle.positions.specs.declared.Four.{Four}
 use Rattle.positions.specs.declared.Positions.{Positions}
 use Rattle.window_file.specs.declared.Held.{Held}
 use Rattle.steps.specs.declared.conversion.Conversion.{Conversion}
@@ -33,8 +32,8 @@ abbrev pub positions_of : Conversion → Positions
 positions_of k = record {
   next = k.next;
   count = k.count;
-  names = record { a = k.name_a; b = k.name_b; c = k.name_c; d = k.name_d };
-  places = record { a = k.place_a; b = k.place_b; c = k.place_c; d = k.place_d };
+  names = k.name_a ∷ k.name_b ∷ k.name_c ∷ k.name_d ∷ [];
+  places = k.place_a ∷ k.place_b ∷ k.place_c ∷ k.place_d ∷ [];
 }
 
 -- the call, with the slices that are lent again
@@ -65,14 +64,14 @@ at_positions k p = record {
   steps = k.steps;
   next = p.next;
   count = p.count;
-  name_a = p.names.a;
-  name_b = p.names.b;
-  name_c = p.names.c;
-  name_d = p.names.d;
-  place_a = p.places.a;
-  place_b = p.places.b;
-  place_c = p.places.c;
-  place_d = p.places.d;
+  name_a = get_or p.names 0 0;
+  name_b = get_or p.names 1 0;
+  name_c = get_or p.names 2 0;
+  name_d = get_or p.names 3 0;
+  place_a = get_or p.places 0 0;
+  place_b = get_or p.places 1 0;
+  place_c = get_or p.places 2 0;
+  place_d = get_or p.places 3 0;
 }
 
 -- and with another next store

@@ -1,12 +1,7 @@
 -- Bookkeeping: which bytes of the file a store has.
-use Rattle.std.specs.Prelude.{ℕ, ◌+◌, ◌*◌, ◌-◌, ◌≤◌, ◌<◌, min, max, Bool, true, false, ◌≡◌}
+use Rattle.std.specs.Prelude.{ℕ, ◌+◌, ◌*◌, ◌≤◌, ◌<◌, min, max, ◌≡◌}
 use Rattle.stores.specs.Stores.{pages}
 use Rattle.steps.specs.declared.span.Span.{Span}
-
--- whether a file of so many bytes has page number k
-pub record IsPage (k size : ℕ) (r : Bool) : Type 0 where
-  pub yes : r ≡ true → k < pages size
-  pub no : r ≡ false → pages size ≤ k
 
 -- page number k of a file of so many bytes but for its bytes below 8, or the first eight bytes past the last page
 pub record PageAt (k size : ℕ) (r : Span) : Type 0 where

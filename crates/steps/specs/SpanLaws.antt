@@ -1,52 +1,27 @@
 -- Laws of which bytes a store has.
-use Rattle.std.specs.Prelude.{ℕ, ◌+◌, ◌*◌, ◌-◌, ◌/◌, ◌≤◌, ◌<◌, min, max, Bool, true, false, ◌≡◌, refl, leb}
-use Rattle.std.proofs.lemmas.Bool.{false≢true}
-use Rattle.std.proofs.Common.{sym, ap, ◌∙◌, leb-true, leb-false}
+use Rattle.std.specs.Prelude.{ℕ, ◌+◌, ◌*◌, ◌≤◌, ◌<◌, min, max, ◌≡◌, refl}
+use Rattle.std.proofs.Common.{ap, ◌∙◌}
 use native.Mathlib.Omega.{arith}
 use Rattle.stores.specs.Stores.{pages}
 use Rattle.steps.specs.declared.span.Span.{Span}
-use Rattle.steps.specs.Span.{IsPage, PageAt, Clipped, SpanOf}
+use Rattle.steps.specs.Span.{PageAt, Clipped, SpanOf}
 
-pub no_page : (k size : ℕ) → size ≡ 0 → IsPage k size false
+-- a page of the file, or what is stored past the last
+pub page-there : (k size : ℕ) {from first past : ℕ} → from ≡ k * 4096 → from < size → first ≡ max from 8 → past ≡ min (from + 4096) size
+    → PageAt k size (record { first = first; past = past })
 unfolding pages
-no_page k size e = record { yes = λ q. absurd (false≢true q); no = λ q. omega (arith, e) }
-
-pub page_is : (k size : ℕ) → (size ≡ 0 → ⊥) → IsPage k size (leb k ((size - 1) / 4096))
-unfolding pages
-page_is k size e = record {
-  yes = λ q. let h = leb-true k ((size - 1) / 4096) q in omega (arith, h, e);
-  no = λ q. let h = leb-false k ((size - 1) / 4096) q in omega (arith, h, e);
+page-there k size e h f g = record {
+  page = λ l. (omega (arith, e, f), omega (arith, e, g));
+  last = λ l. absurd (omega (arith, h, e, l));
+  few = omega (arith, f, g);
 }
 
-module _ (k size : ℕ) (h : k < pages size) where
-  pub page_before : 4096 * k ≤ size
-  unfolding pages
-  page_before = omega (arith, h)
-
-  pub page-first_whole : 4096 * k ≡ 0 → 4096 < size → PageAt k size (record { first = 8; past = 4096 })
-  unfolding pages
-  page-first_whole e f = record { page = λ g. (omega (arith, e), omega (arith, e, f)); last = λ g. absurd (omega (arith, h, g)); few = omega arith }
-
-  pub page-first : 4096 * k ≡ 0 → size ≤ 4096 → PageAt k size (record { first = 8; past = size })
-  unfolding pages
-  page-first e f = record { page = λ g. (omega (arith, e), omega (arith, e, f)); last = λ g. absurd (omega (arith, h, g)); few = omega (arith, f) }
-
-  pub page_whole : {p : ℕ} → (4096 * k ≡ 0 → ⊥) → 4096 < size - 4096 * k → p ≡ 4096 * k + 4096 → PageAt k size (record { first = 4096 * k; past = p })
-  unfolding pages
-  page_whole e f i = record { page = λ g. (omega (arith, e), omega (arith, f, i)); last = λ g. absurd (omega (arith, h, g)); few = omega (arith, i) }
-
-  pub page-rest : (4096 * k ≡ 0 → ⊥) → size - 4096 * k ≤ 4096 → PageAt k size (record { first = 4096 * k; past = size })
-  unfolding pages
-  page-rest e f = record { page = λ g. (omega (arith, e), omega (arith, f, h)); last = λ g. absurd (omega (arith, h, g)); few = omega (arith, f) }
+pub pages_by : (k size : ℕ) → size ≤ k * 4096 → pages size ≤ k
+unfolding pages
+pages_by k size h = omega (arith, h)
 
 pub page-none : (k size : ℕ) → pages size ≤ k → PageAt k size (record { first = 0; past = 8 })
 page-none k size h = record { page = λ g. absurd (omega (arith, h, g)); last = λ g. (refl, refl); few = omega arith }
-
-pub clip_none : (s : Span) (room : ℕ) → (s.first ≤ s.past → s.past ≤ room → ⊥) → Clipped s room (record { first = 0; past = 0 })
-clip_none s room n = record { same = λ h g. absurd (n h g); order = omega arith; inside = omega arith; few = λ h. omega arith }
-
-pub clip_same : (s : Span) (room : ℕ) → s.first ≤ s.past → s.past ≤ room → Clipped s room s
-clip_same s room h g = record { same = λ p q. refl; order = h; inside = g; few = λ e. e }
 
 pub span_is : {k size room : ℕ} {s r : Span} → PageAt k size s → Clipped s room r → SpanOf k size room r
 unfolding pages

@@ -1,23 +1,23 @@
 -- A conversion in steps: what stands in state and words between two calls, and what each call leaves. The definitions of stores, positions and calls
 -- are those of `stores`.
-use Rattle.std.specs.Prelude.{ℕ, ◌+◌, ◌*◌, ◌≤◌, ◌<◌, List, [], ◌≡◌, length, take, replicate}
+use Rattle.std.specs.Prelude.{ℕ, ◌+◌, ◌*◌, ◌≤◌, ◌<◌, List, [], ◌≡◌, length, take, replicate, Result, Ok, Err}
 use Rattle.base.specs.Blit.{blit}
 use Rattle.base.specs.Checked.{Checked, ok, refused}
 use Rattle.plan.specs.Columns.{omission_words}
 use Rattle.result.specs.Result.{Args, Decided, decided}
 use Rattle.stores.specs.Stores.{steps_of, stored, Running, State, step, does}
 use Rattle.placing.specs.Decision.{four}
+use Rattle.fields.specs.declared.refusal.Refusal.{Refusal}
+use Rattle.fields.specs.Answer.{number_of, place_of}
 use Rattle.positions.specs.Held.{state_of, at_first}
 use Rattle.writing.specs.Answer.{file_for}
 use Rattle.writing.specs.Data.{Kept}
 use Rattle.choices.specs.declared.Choices.{Choices}
 use Rattle.writing.specs.declared.begin.Beginning.{Beginning}
-use Rattle.writing.specs.declared.begin.Beginning.TheVariants as before
 use Rattle.writing.specs.Beginning.{RefusedCall, AcceptedCall}
 use Rattle.window_file.specs.Window.{StandsAs}
 use Rattle.steps.specs.declared.conversion.Conversion.{Conversion}
 use Rattle.steps.specs.declared.begin.Started.{Started}
-use Rattle.steps.specs.declared.begin.Started.TheVariants.{Refused, Done}
 use Rattle.steps.specs.declared.position.Position.{Position}
 use Rattle.steps.specs.Conversion.{numbers_of, held_of, positions_of, call_of, at_positions, at_next, begun_as}
 
@@ -41,9 +41,9 @@ pub record Holds (x : Args) (k : Conversion) (v f w m p q : List ℕ) : Type 0 w
 -- ---- begun
 
 -- bookkeeping: what was decided, as the state before the first store
-abbrev pub started_as : ℕ → ℕ → Choices → Beginning → Started
-started_as size time chosen (before.Refused number place) = Refused number place
-started_as size time chosen (before.Done items pieces columns omissions n r) = Done (begun_as size time chosen items pieces columns omissions n) r
+abbrev pub started_as : ℕ → ℕ → Choices → Result Beginning Refusal → Result Started Refusal
+started_as size time chosen (Err r) = Err r
+started_as size time chosen (Ok b) = Ok (record { conversion = begun_as size time chosen b.items b.fragments b.columns b.omissions b.numbers; report = b.report })
 
 -- an accepted call: nothing stored, nothing named; its report
 pub record Begins (x : Args) (out list : ℕ) (ws : List (List ℕ)) (k : Conversion) (v f w m p q : List ℕ) : Type 0 where
@@ -54,12 +54,12 @@ pub record Begins (x : Args) (out list : ℕ) (ws : List (List ℕ)) (k : Conver
   pub list_fits : 2 * k.omissions + 1 ≤ list
 
 -- a refusal leaves what the conversion in one go would leave in its four slices; the two that keep places are cleared whatever is answered
-abbrev pub Starts : Args → ℕ → ℕ → List ℕ → List ℕ → List ℕ → List ℕ → List ℕ → List ℕ → Started → List ℕ → List ℕ → List ℕ → List ℕ → List ℕ → List ℕ → Type 0
-Starts x out list a b c d p q (Refused number place) a' b' c' d' p' q' =
-    RefusedCall x out list number place (four a b c d) (four a' b' c' d') × (p' ≡ cleared p) × (q' ≡ cleared q)
-Starts x out list a b c d p q (Done k r) a' b' c' d' p' q' =
-    AcceptedCall x out list k.items k.pieces k.columns k.omissions (numbers_of k) r (four a b c d) a' b' c' d'
-    × Begins x out list (four a b c d) k a' b' c' d' p' q' × (p' ≡ cleared p) × (q' ≡ cleared q)
+abbrev pub Starts : Args → ℕ → ℕ → List ℕ → List ℕ → List ℕ → List ℕ → List ℕ → List ℕ → Result Started Refusal → List ℕ → List ℕ → List ℕ → List ℕ → List ℕ → List ℕ → Type 0
+Starts x out list a b c d p q (Err r) a' b' c' d' p' q' =
+    RefusedCall x out list (number_of r) (place_of r) (four a b c d) (four a' b' c' d') × (p' ≡ cleared p) × (q' ≡ cleared q)
+Starts x out list a b c d p q (Ok s) a' b' c' d' p' q' =
+    AcceptedCall x out list s.conversion.items s.conversion.pieces s.conversion.columns s.conversion.omissions (numbers_of s.conversion) s.report (four a b c d) a' b' c' d'
+    × Begins x out list (four a b c d) s.conversion a' b' c' d' p' q' × (p' ≡ cleared p) × (q' ≡ cleared q)
 
 -- ---- a step
 

@@ -2,61 +2,52 @@
 use Prim.Native.Nat.{ℕ, zero, suc, ◌+◌, ◌*◌, ◌-◌, ◌/◌, ◌%◌, ◌≤◌, ◌<◌, min, max}
 use mathlib.Core.List.{List, [], ◌∷◌, ◌++◌, append_assoc}
 use Rattle.std.proofs.Math.Logic.{⊎_elim}
-use Rattle.std.specs.Prelude.{◌≡◌, length, get_or, take, drop, replicate}
+use Rattle.std.specs.Prelude.{◌≡◌, length, get_or, take, drop, replicate, Result, Ok, Err}
 use Rattle.std.proofs.Math.Path.{refl, ap}
 use Rattle.std.proofs.Common.{sym, subst, ◌∙◌, arith, drop-drop}
 use borrow.Rule.Slice.PartMut.{put_mid, mid_of, mid_len}
 use Rattle.base.specs.Blit.{blit, part}
 use Rattle.base.specs.BlitLaws.{blit_is}
-use Rattle.base.specs.Choice.{if_lt, if_eq}
 use Rattle.base.specs.ChoiceLaws.{lt_yes, lt_no, eq_yes, eq_no}
-use Rattle.base.specs.Checked.{Checked, ok, refused, and_then}
+use Rattle.base.specs.Checked.{Checked, ok, and_then}
 use Rattle.base.specs.CheckedLaws.{then_ok}
-use Rattle.plan.specs.Columns.{omission_words}
-use Rattle.result.specs.Result.{Args, Decided, decided, answer, work_in, file_of}
+use Rattle.result.specs.Result.{Args, Decided, decided, answer, work_in}
 use Rattle.plan_laws.specs.Decision.{answer_accepted}
 use Rattle.plan_laws.specs.Known.{Known, decided-known}
 use Rattle.stores.specs.Cases.{lt_or_le}
 use Rattle.stores.specs.Over.{over}
 use Rattle.stores.specs.OverLaws.{over-part}
-use Rattle.stores.specs.Stores.{pages, steps_of, stored, listed, State, Running, onward, step, does, naming, recalling}
+use Rattle.stores.specs.Stores.{pages, steps_of, stored, listed, Named, onward, does}
 use Rattle.stores.proofs.StoresLaws.{stored-first, page-lent, last_lent}
 use Rattle.stores_laws.specs.Steps.{file-length, file_least}
 use Rattle.placing.specs.declared.layout.Numbers.{Numbers}
 use Rattle.choices.specs.declared.Choices.{Choices}
-use Rattle.positions.specs.declared.Moved.{Moved}
 use Rattle.positions.specs.declared.Positions.{Positions}
-use Rattle.positions.specs.Held.{held_from, state_of, at_first, MovedAs}
+use Rattle.positions.specs.Held.{held_from, state_of, at_first}
 use Rattle.writing.specs.declared.convert.Report as counted
 use Rattle.writing.specs.Answer.{args, file_for}
-use Rattle.writing.specs.Own.{groups_at, words_at}
 use Rattle.writing.specs.Data.{Kept}
 use Rattle.writing.specs.Omissions as omissions
 use Rattle.writing.specs.FinishLaws.{stands_omissions, stands_words, stands_long, stands_listed}
 use Rattle.writing.specs.declared.begin.Beginning.{Beginning}
-use Rattle.writing.specs.declared.begin.Beginning.TheVariants as before
+use Rattle.fields.specs.declared.refusal.Refusal.{Refusal}
 use Rattle.writing.specs.Beginning as beginning
 use Rattle.writing.specs.Beginning.{AcceptedCall}
 use Rattle.choices.specs.Chosen.{rules}
 use Rattle.placing.specs.Decision.{four}
 use Rattle.steps.specs.declared.begin.Started.{Started}
 use Rattle.window_file.specs.declared.Held.{Held}
-use Rattle.window_file.specs.Window.{StandsAs, WritesWindow}
+use Rattle.window_file.specs.Window.{WritesWindow}
 use Rattle.steps.specs.declared.conversion.Conversion.{Conversion}
-use Rattle.steps.specs.declared.position.Position.{Position}
 use Rattle.steps.specs.declared.span.Span.{Span}
-use Rattle.steps.specs.Conversion.{numbers_of, held_of, choices_of, positions_of, call_of, at_positions, at_next, begun_as}
+use Rattle.steps.specs.Conversion.{held_of, choices_of, positions_of, call_of, at_positions, at_next, begun_as}
 use Rattle.steps.specs.Span.{SpanOf}
-use Rattle.steps.specs.Steps.{cleared, list_for, Holds, started_as, Begins, Starts, running_of, stepped, Stores, Steps, OneStore, Lent, lent, all_cleared, Bounded, PositionAs}
+use Rattle.steps.specs.Steps.{cleared, list_for, Holds, started_as, Begins, Starts, running_of, stepped, OneStore, Lent, lent, all_cleared, Bounded}
 
 -- ---- how many steps
-pub steps_whole : (n : ℕ) → n % 4096 ≡ 0 → n / 4096 + 2 ≡ steps_of n
+pub steps_by : (n : ℕ) → n / 4096 + min 1 (n % 4096) + 2 ≡ steps_of n
 unfolding steps_of pages
-steps_whole n e = omega (arith, e)
-
-pub steps_more : (n : ℕ) → (n % 4096 ≡ 0 → ⊥) → n / 4096 + 3 ≡ steps_of n
-unfolding steps_of pages
-steps_more n e = omega (arith, e)
+steps_by n = omega arith
 
 -- ---- words of zeros keep no places
 first-zero : (p : List ℕ) → get_or (cleared p) 0 0 ≡ 0
@@ -95,13 +86,13 @@ begins_done x out list items pieces columns omitted n chosen ws p q {v} {f} e c 
       list_fits = omega (arith, t.list_fits, stands_words st);
     })
 
-pub starts_as : (image : List ℕ) (size : ℕ) (ident text : List ℕ) (time : ℕ) (chosen : Choices) (table : List ℕ) (out list : ℕ) (a b c d p q : List ℕ) (r : Beginning)
-    (a' b' c' d' : List ℕ) {p' q' : List ℕ} {y : Started} → y ≡ started_as size time chosen r
+pub starts_as : (image : List ℕ) (size : ℕ) (ident text : List ℕ) (time : ℕ) (chosen : Choices) (table : List ℕ) (out list : ℕ) (a b c d p q : List ℕ) (r : Result Beginning Refusal)
+    (a' b' c' d' : List ℕ) {p' q' : List ℕ} {y : Result Started Refusal} → y ≡ started_as size time chosen r
     → beginning.Begins (args image size ident text time (rules chosen table)) out list a b c d r a' b' c' d' → p' ≡ cleared p → q' ≡ cleared q
     → Starts (args image size ident text time (rules chosen table)) out list a b c d p q y a' b' c' d' p' q'
-starts_as image size ident text time chosen table out list a b c d p q (before.Refused number place) a' b' c' d' e h i j = rw e (h, i, j)
-starts_as image size ident text time chosen table out list a b c d p q (before.Done items pieces columns omitted n r) a' b' c' d' e h i j =
-    rw e (h, begins_done (args image size ident text time (rules chosen table)) out list items pieces columns omitted n chosen (four a b c d) p q refl refl h i j, i, j)
+starts_as image size ident text time chosen table out list a b c d p q (Err x) a' b' c' d' e h i j = rw e (h, i, j)
+starts_as image size ident text time chosen table out list a b c d p q (Ok s) a' b' c' d' e h i j =
+    rw e (h, begins_done (args image size ident text time (rules chosen table)) out list s.items s.fragments s.columns s.omissions s.numbers chosen (four a b c d) p q refl refl h i j, i, j)
 
 -- ---- a store
 
@@ -259,19 +250,20 @@ pub holds_named : {x : Args} {k r : Conversion} {v f w m p q : List ℕ} → Hol
 holds_named h e = rw e (record { stands = h.stands; kept = h.kept; steps = h.steps })
 
 -- ---- positions
-pub position_as : (s : Checked State) (k : Conversion) (m : Moved) (r : Position) → MovedAs s (positions_of k) m → r.number ≡ m.number
-    → r.conversion ≡ at_positions k m.positions → PositionAs s k r
-position_as (ok s) k m r h e c =
-    (e ∙ h.0, ap (λ (z : Conversion). state_of (positions_of z)) c ∙ h.1, c ∙ ap (λ (z : Conversion). at_positions k (positions_of z)) (sym c))
-position_as (refused number place) k m r h e c = (e ∙ h.0, c ∙ ap (at_positions k) h.1)
+-- four names and positions, taken apart
+held_four : (ns ps : List ℕ) (k : ℕ) → k ≤ 4
+    → held_from (get_or ns 0 0 ∷ get_or ns 1 0 ∷ get_or ns 2 0 ∷ get_or ns 3 0 ∷ []) (get_or ps 0 0 ∷ get_or ps 1 0 ∷ get_or ps 2 0 ∷ get_or ps 3 0 ∷ []) 0 k
+    ≡ held_from ns ps 0 k
+unfolding held_from
+held_four ns ps zero h = refl
+held_four ns ps (suc zero) h = refl
+held_four ns ps (suc (suc zero)) h = refl
+held_four ns ps (suc (suc (suc zero))) h = refl
+held_four ns ps (suc (suc (suc (suc zero)))) h = refl
+held_four ns ps (suc (suc (suc (suc (suc k))))) h = absurd (omega (arith, h))
 
-pub name_as : (k : Conversion) (n : ℕ) (p : Positions) (m : Moved) (r : Position) → p ≡ positions_of k → MovedAs (naming k.steps n (state_of p)) p m
-    → r.number ≡ m.number → r.conversion ≡ at_positions k m.positions → PositionAs (naming k.steps n (state_of (positions_of k))) k r
-name_as k n p m r i h = position_as (naming k.steps n (state_of (positions_of k))) k m r (subst (λ (z : Positions). MovedAs (naming k.steps n (state_of z)) z m) i h)
-
-pub recall_as : (k : Conversion) (n : ℕ) (p : Positions) (m : Moved) (r : Position) → p ≡ positions_of k → MovedAs (recalling k.steps n (state_of p)) p m
-    → r.number ≡ m.number → r.conversion ≡ at_positions k m.positions → PositionAs (recalling k.steps n (state_of (positions_of k))) k r
-recall_as k n p m r i h = position_as (recalling k.steps n (state_of (positions_of k))) k m r (subst (λ (z : Positions). MovedAs (recalling k.steps n (state_of z)) z m) i h)
+pub moved_as : (k : Conversion) (p : Positions) → state_of (positions_of (at_positions k p)) ≡ state_of p
+moved_as k p = ap (λ (hs : List Named). record { next = p.next; held = hs }) (held_four p.names p.places (min p.count 4) (omega arith))
 
 -- ---- of any state
 pub all-cleared : (v f w m p q : List ℕ) {v' f' w' m' p' q' : List ℕ} → v' ≡ cleared v → f' ≡ cleared f → w' ≡ cleared w → m' ≡ cleared m → p' ≡ cleared p → q' ≡ cleared q

@@ -3,64 +3,46 @@ ghost use Rattle.std.specs.Prelude.{◌≡◌};
 ghost use Rattle.choices.specs.Chosen.{rules};
 ghost use Rattle.stores.specs.Stores.{steps_of};
 ghost use Rattle.writing.specs.Answer.{args};
-ghost use Rattle.steps.specs.Steps.{started_as, Starts};
+ghost use Rattle.steps.specs.Steps.{Starts};
 ghost use Rattle.steps.specs.Conversion.{begun_as};
 
 use crate::conversion::Conversion;
 use choices::Choices;
-use placing::layout::Numbers;
+use fields::refusal::Refusal;
 use reading::recording::clear;
 use writing::begin::Beginning;
 use writing::convert::Report;
 
-// Document 01's refusal with number and place; or the state before the first store, and the report.
-#[derive(Drop)]
-pub enum Started {
-    Refused {
-        number: u64,
-        place: u64,
-    },
-    Done {
-        conversion: Conversion,
-        report: Report,
-    },
+// The state before the first store, and the report.
+#[derive(Clone, Copy)]
+pub struct Started {
+    pub conversion: Conversion,
+    pub report: Report,
 }
 
 // How many steps a file of so many bytes takes: the first, one a page, the last.
 pub fn steps_of(size: u64) -> u64
     ensures { result ≡ steps_of size }
 {
-    let whole = size / 4096;
-    if size % 4096 == 0 {
-        return whole + 2;
-    }
-    whole + 3
+    size.div_ceil(4096) + 2
 }
 
-// The state before the first store.
-fn begun(
-    size: u64,
-    time: u64,
-    choices: Choices,
-    items: u64,
-    pieces: u64,
-    columns: u64,
-    omissions: u64,
-    n: Numbers,
-) -> Conversion
-    ensures { result ≡ begun_as size time choices items pieces columns omissions n }
+// What was decided, as the state before the first store.
+fn begun(size: u64, time: u64, choices: Choices, decided: Beginning) -> Conversion
+    ensures { result ≡ begun_as size time choices decided.items decided.fragments decided.columns
+        decided.omissions decided.numbers }
 {
-    let steps = steps_of(n.file_size);
+    let n = decided.numbers;
     Conversion {
         block_size: size,
         time,
         unit: choices.unit,
         share: choices.share,
         photos: choices.photos,
-        items,
-        pieces,
-        columns,
-        omissions,
+        items: decided.items,
+        pieces: decided.fragments,
+        columns: decided.columns,
+        omissions: decided.omissions,
         history: n.history,
         chain: n.chain,
         md: n.md,
@@ -70,7 +52,7 @@ fn begun(
         attachments: n.attachments,
         metadata_end: n.metadata_end,
         file_size: n.file_size,
-        steps,
+        steps: steps_of(n.file_size),
         next: 0,
         count: 0,
         name_a: 0,
@@ -81,26 +63,6 @@ fn begun(
         place_b: 0,
         place_c: 0,
         place_d: 0,
-    }
-}
-
-// What was decided, as the state before the first store.
-fn as_started(answer: Beginning, size: u64, time: u64, choices: Choices) -> Started
-    ensures { result ≡ started_as size time choices answer }
-{
-    match answer {
-        Beginning::Refused { number, place } => Started::Refused { number, place },
-        Beginning::Done {
-            items,
-            fragments: pieces,
-            columns: n,
-            omissions,
-            numbers,
-            report,
-        } => {
-            let conversion = begun(size, time, choices, items, pieces, n, omissions, numbers);
-            Started::Done { conversion, report }
-        }
     }
 }
 
@@ -122,15 +84,18 @@ pub fn begin(
     copies: &mut [u64],
     stretches: &mut [u64],
     offsets: &mut [u64],
-) -> Started
+) -> Result<Started, Refusal>
     ensures { Starts (args image.now size ident.now text.now time (rules choices table.now)) out list
         source.old fragments.old columns.old copies.old stretches.old offsets.old result
         source.new fragments.new columns.new copies.new stretches.new offsets.new }
 {
     clear(stretches);
     clear(offsets);
-    let answer = writing::begin::begin(
+    let decided = writing::begin::begin(
         image, size, ident, text, choices, table, out, list, source, fragments, columns, copies,
-    );
-    as_started(answer, size, time, choices)
+    )?;
+    Ok(Started {
+        conversion: begun(size, time, choices, decided),
+        report: decided.report,
+    })
 }

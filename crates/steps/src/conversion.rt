@@ -4,13 +4,13 @@ ghost use Rattle.steps.specs.Conversion.{held_of, choices_of, positions_of, at_p
 
 use choices::Choices;
 use placing::layout::Numbers;
-use positions::{Four, Positions};
+use positions::Positions;
 use window_file::Held;
 
 // The call's numbers; what was decided, in numbers; how many steps there are; the number of the next store, and the names that are held, so many,
 // with the position of each.
 #[repr(C)]
-#[derive(Clone, Copy)]
+#[derive(Clone, Copy, Default)]
 pub struct Conversion {
     pub block_size: u64,
     pub time: u64,
@@ -82,23 +82,11 @@ pub(crate) fn choices_of(k: Conversion) -> Choices
 pub(crate) fn positions_of(k: Conversion) -> Positions
     ensures { result ≡ positions_of k }
 {
-    let names = Four {
-        a: k.name_a,
-        b: k.name_b,
-        c: k.name_c,
-        d: k.name_d,
-    };
-    let places = Four {
-        a: k.place_a,
-        b: k.place_b,
-        c: k.place_c,
-        d: k.place_d,
-    };
     Positions {
         next: k.next,
         count: k.count,
-        names,
-        places,
+        names: [k.name_a, k.name_b, k.name_c, k.name_d],
+        places: [k.place_a, k.place_b, k.place_c, k.place_d],
     }
 }
 
@@ -106,37 +94,19 @@ pub(crate) fn positions_of(k: Conversion) -> Positions
 pub(crate) fn at_positions(k: Conversion, p: Positions) -> Conversion
     ensures { result ≡ at_positions k p }
 {
-    let names = p.names;
-    let places = p.places;
+    let [name_a, name_b, name_c, name_d] = p.names;
+    let [place_a, place_b, place_c, place_d] = p.places;
     Conversion {
-        block_size: k.block_size,
-        time: k.time,
-        unit: k.unit,
-        share: k.share,
-        photos: k.photos,
-        items: k.items,
-        pieces: k.pieces,
-        columns: k.columns,
-        omissions: k.omissions,
-        history: k.history,
-        chain: k.chain,
-        md: k.md,
-        fh: k.fh,
-        metadata: k.metadata,
-        copies: k.copies,
-        attachments: k.attachments,
-        metadata_end: k.metadata_end,
-        file_size: k.file_size,
-        steps: k.steps,
         next: p.next,
         count: p.count,
-        name_a: names.a,
-        name_b: names.b,
-        name_c: names.c,
-        name_d: names.d,
-        place_a: places.a,
-        place_b: places.b,
-        place_c: places.c,
-        place_d: places.d,
+        name_a,
+        name_b,
+        name_c,
+        name_d,
+        place_a,
+        place_b,
+        place_c,
+        place_d,
+        ..k
     }
 }

@@ -5,9 +5,8 @@ ghost use Rattle.writing.specs.Omissions.{listed};
 ghost use Rattle.steps.specs.Conversion.{call_of, at_next};
 ghost use Rattle.steps.specs.Steps.{Holds, Steps, Bounded, lent, all_cleared};
 
-use crate::conversion::{Conversion, at_positions, positions_of};
+use crate::conversion::Conversion;
 use crate::store::store;
-use positions::Positions;
 use reading::recording::clear;
 use writing::omissions::put_list;
 
@@ -15,10 +14,7 @@ use writing::omissions::put_list;
 pub fn left(k: Conversion) -> u64
     ensures { result ≡ k.steps - k.next }
 {
-    if k.steps <= k.next {
-        return 0;
-    }
-    k.steps - k.next
+    k.steps.saturating_sub(k.next)
 }
 
 // The state after a store.
@@ -26,18 +22,10 @@ fn after(k: Conversion) -> Conversion
     requires { k.next < k.steps }
     ensures { result ≡ at_next k (k.next + 1) }
 {
-    let p = positions_of(k);
-    let names = p.names;
-    let places = p.places;
-    at_positions(
-        k,
-        Positions {
-            next: k.next + 1,
-            count: k.count,
-            names,
-            places,
-        },
-    )
+    Conversion {
+        next: k.next + 1,
+        ..k
+    }
 }
 
 // The list of n omissions, then every word zero.

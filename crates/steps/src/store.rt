@@ -5,7 +5,7 @@ ghost use Rattle.steps.specs.Steps.{Stores, OneStore};
 use crate::conversion::{Conversion, choices_of, held_of};
 use crate::span::span_of;
 use puts::zero;
-use window_file::write_window;
+use window_file::{Call, write_window};
 
 // Store number next over the file: eight zeros, a page, or the first eight bytes. Only its own bytes are lent to what writes them.
 pub(crate) fn store(
@@ -32,26 +32,27 @@ pub(crate) fn store(
         return;
     }
     let s = span_of(k.next - 1, k.file_size, file.len() as u64);
-    let chosen = choices_of(k);
-    let h = held_of(k);
     let p = s.first as usize;
     let q = s.past as usize;
+    let call = Call {
+        image,
+        size: k.block_size,
+        ident,
+        text,
+        time: k.time,
+        choices: choices_of(k),
+        table,
+    };
     write_window(
         &mut file[p..q],
         s.first,
-        image,
-        k.block_size,
-        ident,
-        text,
-        k.time,
-        chosen,
-        table,
+        &call,
         source,
         fragments,
         columns,
         copies,
         stretches,
         offsets,
-        h,
+        held_of(k),
     );
 }

@@ -1,6 +1,6 @@
 -- What all calls of a conversion in steps leave together, by their contracts alone: whatever calls are made, state, file and list are those of the
 -- definition, and so document 02's sentences hold of them.
-use Rattle.std.specs.Prelude.{ℕ, zero, suc, ◌+◌, ◌*◌, ◌≤◌, ◌<◌, min, List, [], ◌∷◌, ◌++◌, ◌≡◌, refl, replicate}
+use Rattle.std.specs.Prelude.{ℕ, zero, suc, ◌+◌, ◌*◌, ◌≤◌, ◌<◌, min, List, [], ◌∷◌, ◌++◌, ◌≡◌, refl, replicate, Ok}
 use Rattle.std.proofs.Math.Logic.{⊎_elim}
 use Rattle.std.proofs.Common.{sym, ap, ◌∙◌, arith}
 use Rattle.std.proofs.Math.Path.{subst}
@@ -28,7 +28,6 @@ use Rattle.writing.specs.Answer.{file_for}
 use Rattle.writing.specs.FinishLaws.{stands_words}
 use Rattle.steps.specs.declared.conversion.Conversion.{Conversion}
 use Rattle.steps.specs.declared.position.Position.{Position}
-use Rattle.steps.specs.declared.begin.Started.TheVariants.{Done}
 use Rattle.writing.specs.declared.convert.Report.{Report}
 use Rattle.placing.specs.Decision.{four}
 use Rattle.steps.specs.Conversion.{positions_of, at_positions}
@@ -41,7 +40,7 @@ abbrev between : Conversion → Lent → List ℕ → List ℕ → Between
 between k l file list = record { conversion = k; words = l; file = file; list = list }
 
 module _ (x : Args) (file list : List ℕ) (v f w m p q : List ℕ) where
-  pub begun-by : (a b c d e i : List ℕ) (k : Conversion) (r : Report) → Starts x (length file) (length list) a b c d e i (Done k r) v f w m p q
+  pub begun-by : (a b c d e i : List ℕ) (k : Conversion) (r : Report) → Starts x (length file) (length list) a b c d e i (Ok (record { conversion = k; report = r })) v f w m p q
       → Begun x (between k (lent v f w m p q) file list)
   begun-by a b c d e i k r h = record { work = four a b c d; accepted = h.1 }
 

@@ -1,12 +1,11 @@
 -- What is left of the columns gives what all give.
-use Rattle.std.specs.Prelude.{ℕ, zero, suc, ◌+◌, ◌-◌, ◌≤◌, ◌<◌, ◌≡◌, refl}
-use Rattle.std.proofs.Common.{◌∙◌, sub-one}
+use Rattle.std.specs.Prelude.{ℕ, zero, suc, ◌+◌, ◌-◌, ◌≤◌, ◌<◌, ◌≡◌, Result, Ok, Err, ⊤}
+use Rattle.std.proofs.Common.{sub-one}
 use Rattle.std.proofs.Math.Nat.{sub-zero}
 use native.Mathlib.Omega.{arith}
-use Rattle.base.specs.Checked.{refused, and_then, Verdict, fine}
-use Rattle.fields.specs.declared.Check.{Check}
-use Rattle.fields.specs.declared.Check.TheVariants as check
-use Rattle.fields.specs.Answer.{verdict_of}
+use Rattle.base.specs.Checked.{and_then, Verdict, fine}
+use Rattle.fields.specs.declared.refusal.Refusal.{Refusal}
+use Rattle.fields.specs.Answer.{verdict_of, refused_by}
 use Rattle.blocks.specs.AnswerLaws.{so_fine, so_refused}
 use Rattle.taking.specs.Each.{each}
 
@@ -27,9 +26,9 @@ module _ (f : ℕ → Verdict) (n k : ℕ) {v : Verdict} (i : each f (n - k) k �
     there : and_then (f k) (λ _. each f (n - (k + 1)) (k + 1)) ≡ v
     there = let d : n - k - 1 ≡ n - (k + 1) = omega arith in rw (each_open f (n - k) k (omega arith), d) at i
 
-    module _ {r : Check} (e : verdict_of r ≡ f k) where
-      pub each_refused : {x p : ℕ} → r ≡ check.Refused x p → refused x p ≡ v
+    module _ {r : Result ⊤ Refusal} (e : verdict_of r ≡ f k) where
+      pub each_refused : {x : Refusal} → r ≡ Err x → refused_by x ≡ v
       each_refused q = rw (so_refused e q) at there
 
-      pub each_next : r ≡ check.Fine → each f (n - (k + 1)) (k + 1) ≡ v
+      pub each_next : {u : ⊤} → r ≡ Ok u → each f (n - (k + 1)) (k + 1) ≡ v
       each_next q = rw (so_fine e q) at there

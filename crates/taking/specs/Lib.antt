@@ -1,3 +1,4 @@
+pub mod Opened
 pub mod Each
 pub mod EachLaws
 pub mod Sound

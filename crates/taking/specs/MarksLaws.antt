@@ -1,77 +1,58 @@
 -- The list by marks.
-use Rattle.std.specs.Prelude.{ℕ, zero, suc, ◌+◌, ◌-◌, ◌≤◌, ◌<◌, List, [], ◌∷◌, Bool, true, false, ◌≡◌, refl, eqb, ltb, length, drop, set, get_or, replicate}
-use Rattle.std.proofs.Math.Option.{Option, none, some}
-use Rattle.std.proofs.Common.{sym, ap, ◌∙◌, add-one, arith, ltb-true, ltb-false, eqb-true, length-set, drop-cons, get_or-set_same, get_or-set_other}
+use Rattle.std.specs.Prelude.{ℕ, zero, suc, ◌+◌, ◌-◌, ◌≤◌, ◌<◌, List, [], ◌∷◌, Bool, true, false, ◌≡◌, refl, eqb, ltb, length, drop, set, get_or, replicate, Some, None}
+use Rattle.std.specs.Prelude as std
+use Rattle.std.proofs.Math.Option.{none, some}
+use Rattle.std.proofs.Common.{sym, ◌∙◌, add-one, arith, ltb-true, ltb-false, eqb-true, length-set, drop-cons, get_or-set_same, get_or-set_other}
 use Rattle.std.proofs.lemmas.Bool.{eqb-false}
 use Rattle.std.proofs.lemmas.List.{get_or-replicate, length-replicate}
 use Rattle.std.proofs.Math.ListN.{get_or-eq_default}
 use Rattle.std.proofs.Math.Seq.{drop-length}
 use Rattle.base.specs.Choice.{pick, if_lt}
 use Rattle.base.specs.ChoiceLaws.{lt_yes, lt_no}
-use Rattle.base.specs.Checked.{ok, refused, and_then, Verdict, fine}
+use Rattle.base.specs.Checked.{refused, and_then, Verdict, fine}
 use Rattle.mdf.specs.Chain.{is_in}
 use Rattle.plan.specs.Photos.{photos_in}
 use Rattle.file.specs.Form.{FileColumn}
 use Rattle.ranges.specs.Open.{column_at, columns_of}
 use Rattle.sheet.specs.Sheet.{master_of}
-use Rattle.sheets.specs.declared.line.Found.{Found}
-use Rattle.sheets.specs.declared.line.Found.TheVariants as found
 use Rattle.sheets.specs.Line.{found_as}
 use Rattle.thin.specs.Kept.{numbers_in, is_taken, masters_kept, kept_column, kept_from, photos_kept}
 use Rattle.taking.specs.Each.{each}
 use Rattle.taking.specs.Marks.{Marked, master_at, photos_at}
 
 -- ---- marks
-zero-at : (n k : ℕ) → ◌≡◌ {A = ℕ} (get_or (replicate n 0) k 0) 0
-zero-at n k = go (ltb k n) refl
+none-at : (n k : ℕ) → get_or (replicate n false) k false ≡ false
+none-at n k = go (ltb k n) refl
   where
-    go : (t : Bool) → ltb k n ≡ t → ◌≡◌ {A = ℕ} (get_or (replicate n 0) k 0) 0
-    go true q = get_or-replicate n k 0 0 (omega (arith, ltb-true k n q))
-    go false q = get_or-eq_default (replicate n 0) 0 (rw length-replicate (ltb-false k n q))
+    go : (t : Bool) → ltb k n ≡ t → get_or (replicate n false) k false ≡ false
+    go true q = get_or-replicate n k false false (omega (arith, ltb-true k n q))
+    go false q = get_or-eq_default (replicate n false) false (rw length-replicate (ltb-false k n q))
 
-none_marked : (n : ℕ) → Marked [] (replicate n 0)
+none_marked : (n : ℕ) → Marked [] (replicate n false)
 unfolding is_in
-none_marked n = record { out = λ k h. absurd (h (zero-at n k)); kept = λ k h. refl }
+none_marked n = record { is = λ k. none-at n k }
 
-one_marked : (a : ℕ) (ns m : List ℕ) → Marked ns m → a < length m → Marked (a ∷ ns) (set m a 1)
+one_marked : (a : ℕ) (ns : List ℕ) (m : List Bool) → Marked ns m → a < length m → Marked (a ∷ ns) (set m a true)
 unfolding is_in
-one_marked a ns m r h =
-    record {
-      out = λ k x. out k x (eqb a k) refl;
-      kept = λ k x. kept k x (eqb a k) refl;
-    }
+one_marked a ns m r h = record { is = λ k. go k (eqb a k) refl }
   where
-    out : (k : ℕ) → (get_or (set m a 1) k 0 ≡ 0 → ⊥) → (t : Bool) → eqb a k ≡ t → pick t true (is_in k ns) ≡ true
-    out k x true q = refl
-    out k x false q = r.out k (λ z. x (get_or-set_other m a k 1 0 (λ e. eqb-false a k q (sym e)) ∙ z))
-
-    kept : (k : ℕ) → get_or (set m a 1) k 0 ≡ 0 → (t : Bool) → eqb a k ≡ t → pick t true (is_in k ns) ≡ false
-    kept k x true q =
-        let z : get_or (set m a 1) a 0 ≡ 0 = ap (λ (i : ℕ). get_or (set m a 1) i 0) (eqb-true a k q) ∙ x in
-        let o = get_or-set_same m a 1 0 h in
-        absurd (omega arith)
-    kept k x false q = r.kept k (sym (get_or-set_other m a k 1 0 (λ e. eqb-false a k q (sym e))) ∙ x)
-
-module _ (ns m : List ℕ) (k : ℕ) {x : ℕ} (e : x ≡ get_or m k 0) (r : Marked ns m) where
-  pub is_kept : x ≡ 0 → false ≡ is_in k ns
-  is_kept h = sym (r.kept k (sym e ∙ h))
-
-  pub is_out_lem : (x ≡ 0 → ⊥) → true ≡ is_in k ns
-  is_out_lem h = sym (r.out k (λ z. h (e ∙ z)))
+    go : (k : ℕ) (t : Bool) → eqb a k ≡ t → get_or (set m a true) k false ≡ pick t true (is_in k ns)
+    go k true q = rw (sym (eqb-true a k q)) (get_or-set_same m a true false h)
+    go k false q = get_or-set_other m a k true false (λ e. eqb-false a k q (sym e)) ∙ r.is k
 
 -- ---- 33: what stands behind number i of the list is marked
-pub record Marking (n : ℕ) (ns : List ℕ) (i : ℕ) (m : List ℕ) : Type 0 where
+pub record Marking (n : ℕ) (ns : List ℕ) (i : ℕ) (m : List Bool) : Type 0 where
   pub within : i ≤ length ns
   pub room : length m ≡ 512
   pub passed : numbers_in n (drop i ns) ≡ fine
   pub marked : Marked (drop i ns) m
 
-pub mark_begin : (n : ℕ) (ns m : List ℕ) → m ≡ replicate 512 0 → Marking n ns (length ns) m
+pub mark_begin : (n : ℕ) (ns : List ℕ) (m : List Bool) → m ≡ replicate 512 false → Marking n ns (length ns) m
 unfolding numbers_in
 mark_begin n ns m e =
     record {
       within = omega arith;
-      room = rw e (length-replicate {A = ℕ} 512 0);
+      room = rw e (length-replicate 512 false);
       passed = rw (drop-length ns);
       marked = rw (drop-length ns, e) (none_marked 512);
     }
@@ -88,7 +69,7 @@ later n (k ∷ ns) (suc j) e = rw (later n ns j e) (go (ltb k n) (is_in k ns))
     go true false = refl
     go false u = refl
 
-module _ {n : ℕ} {ns : List ℕ} {i : ℕ} {m : List ℕ} (t : Marking n ns i m) where
+module _ {n : ℕ} {ns : List ℕ} {i : ℕ} {m : List Bool} (t : Marking n ns i m) where
   pub mark_end : i ≤ 0 → (numbers_in n ns ≡ fine) × Marked ns m
   mark_end h =
       let z : i ≡ 0 = omega arith in
@@ -104,28 +85,28 @@ module _ {n : ℕ} {ns : List ℕ} {i : ℕ} {m : List ℕ} (t : Marking n ns i 
     unfolding numbers_in
     mark-over g = later n ns (i - 1) (rw cons (sym (lt_no _ _ _ _ g refl)))
 
-    module _ (g : get_or ns (i - 1) 0 < n) {r : Bool} (e : r ≡ is_in (get_or ns (i - 1) 0) (drop i ns)) where
-      pub mark-again : r ≡ true → numbers_in n ns ≡ refused 33 0
+    module _ (g : get_or ns (i - 1) 0 < n) where
+      pub mark-again : get_or m (get_or ns (i - 1) 0) false ≡ true → numbers_in n ns ≡ refused 33 0
       unfolding numbers_in
-      mark-again q = later n ns (i - 1) (rw cons (sym (lt_yes _ _ _ _ g (rw (← e, q)))))
+      mark-again q = later n ns (i - 1) (rw cons (sym (lt_yes _ _ _ _ g (rw (← t.marked.is (get_or ns (i - 1) 0), q)))))
 
-      pub mark-next : {m' : List ℕ} → r ≡ false → n ≤ 512 → m' ≡ set m (get_or ns (i - 1) 0) 1 → Marking n ns (i - 1) m'
+      pub mark-next : get_or m (get_or ns (i - 1) 0) false ≡ false → n ≤ 512 → Marking n ns (i - 1) (set m (get_or ns (i - 1) 0) true)
       unfolding numbers_in
-      mark-next q few f =
+      mark-next q few =
           record {
             within = let x = t.within in omega arith;
-            room = rw f (length-set m (get_or ns (i - 1) 0) 1 ∙ t.room);
-            passed = rw cons (sym (lt_yes _ _ _ _ g (rw (← e, q) (sym t.passed))));
-            marked = rw (cons, f) (one_marked (get_or ns (i - 1) 0) (drop i ns) m t.marked (let x = t.room in omega arith));
+            room = length-set m (get_or ns (i - 1) 0) true ∙ t.room;
+            passed = rw cons (sym (lt_yes _ _ _ _ g (rw (← t.marked.is (get_or ns (i - 1) 0), q) (sym t.passed))));
+            marked = rw cons (one_marked (get_or ns (i - 1) 0) (drop i ns) m t.marked (let x = t.room in omega arith));
           }
 
 -- ---- 34
-module _ (s : List ℕ) (all : List FileColumn) (g : ℕ) (ns : List ℕ) {r : Found} (e : found_as r ≡ master_of s all g) where
-  pub taken_none : r ≡ found.Nothing → false ≡ is_taken (master_of s all g) ns
-  taken_none q = let o : none ≡ master_of s all g = rw q at e in rw (← o)
+module _ (s : List ℕ) (all : List FileColumn) (ns : List ℕ) {h g : ℕ} (i : g ≡ h) {r : std.Option ℕ} (e : found_as r ≡ master_of s all g) where
+  pub taken_none : r ≡ None → false ≡ is_taken (master_of s all h) ns
+  taken_none q = let o : none ≡ master_of s all h = rw (q, i) at e in rw (← o)
 
-  pub taken-some : {k : ℕ} {b : Bool} → r ≡ found.Column k → b ≡ is_in k ns → b ≡ is_taken (master_of s all g) ns
-  taken-some {k} q f = let o : some k ≡ master_of s all g = rw q at e in rw (← o) f
+  pub taken-some : {k : ℕ} {b : Bool} → r ≡ Some k → b ≡ is_in k ns → b ≡ is_taken (master_of s all h) ns
+  taken-some {k} q f = let o : some k ≡ master_of s all h = rw (q, i) at e in rw (← o) f
 
 module _ (s w : List ℕ) (all : List FileColumn) (ns : List ℕ) (k : ℕ) {b : Bool} (e : b ≡ is_in k ns) where
   pub master_out : b ≡ true → fine ≡ master_at s w all ns k
@@ -162,9 +143,9 @@ module _ (s w ns : List ℕ) (k : ℕ) {b : Bool} (e : b ≡ is_in k ns) where
   unfolding photos_at
   photos_out q = rw (← e, q)
 
-  pub photos_stay : {v : Verdict} → b ≡ false → v ≡ photos_in true s (column_at s w k).cn → v ≡ photos_at s w ns k
+  pub photos_stay : {v : Verdict} {c : ℕ} → b ≡ false → c ≡ (column_at s w k).cn → v ≡ photos_in true s c → v ≡ photos_at s w ns k
   unfolding photos_at
-  photos_stay q f = rw (← e, q) f
+  photos_stay q i f = rw (← e, q, ← i) f
 
 pub photos_each : (s w : List ℕ) (all : List FileColumn) (ns : List ℕ) (n k : ℕ)
     → each (photos_at s w ns) n k ≡ photos_kept s (kept_from s ns all k (columns_of s w n k))

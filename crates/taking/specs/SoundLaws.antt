@@ -1,6 +1,7 @@
 -- The tests of every column, in the order of the code.
-use Rattle.std.specs.Prelude.{ℕ, zero, suc, ◌+◌, List, ◌≡◌}
-use Rattle.std.proofs.Math.Option.{Option, none, some}
+use Rattle.std.specs.Prelude.{ℕ, zero, suc, ◌+◌, List, ◌≡◌, Some, None, Result, Ok, Err, ⊤}
+use Rattle.std.specs.Prelude as std
+use Rattle.std.proofs.Math.Option.{none, some}
 use Rattle.std.proofs.Math.Path.{refl}
 use Rattle.std.proofs.Common.{sym, ◌∙◌}
 use Rattle.base.specs.ChoiceLaws.{eq_yes, eq_no}
@@ -9,17 +10,14 @@ use Rattle.mdf.specs.Block.{kind_sd, kind_at, link_at, header_in, length_in}
 use Rattle.mdf.specs.Records.{most64}
 use Rattle.plan.specs.Channel.{channel_type}
 use Rattle.plan.specs.Columns.{remote_link}
-use Rattle.fields.specs.declared.Check.{Check}
-use Rattle.fields.specs.declared.Check.TheVariants as check
-use Rattle.fields.specs.Answer.{verdict_of}
+use Rattle.fields.specs.declared.refusal.Refusal.{Refusal}
+use Rattle.fields.specs.Answer.{verdict_of, refused_by}
 use Rattle.blocks.specs.AnswerLaws.{so_fine, so_refused}
 use Rattle.file.specs.Form.{FileColumn}
 use Rattle.ranges.specs.Open.{column_at, columns_of}
 use Rattle.sheet.specs.Sheet.{master_of}
-use Rattle.sheets.specs.declared.line.Found.{Found}
-use Rattle.sheets.specs.declared.line.Found.TheVariants as found
 use Rattle.sheets.specs.Line.{found_as}
-use Rattle.thin.specs.Kept.{signal_place, is_signal, signal_sound, on_number, master_sound, columns_sound}
+use Rattle.thin.specs.Kept.{signal_place, is_signal, signal_sound, master_sound, columns_sound}
 use Rattle.taking.specs.Each.{each}
 use Rattle.taking.specs.Sound.{sound_at}
 
@@ -33,17 +31,17 @@ module _ (s : List ℕ) (c : ℕ) {t : ℕ} (e : t ≡ channel_type s c) where
   unfolding signal_place
   place_other h = eq_no _ _ _ _ (λ x. h (e ∙ x)) refl
 
-module _ (s : List ℕ) (a : ℕ) {h : Check} (e : verdict_of h ≡ header_in s a) where
-  pub signal_header : {n p : ℕ} → h ≡ check.Refused n p → refused n p ≡ is_signal s a
+module _ (s : List ℕ) (a : ℕ) {h : Result ⊤ Refusal} (e : verdict_of h ≡ header_in s a) where
+  pub signal_header : {x : Refusal} → h ≡ Err x → refused_by x ≡ is_signal s a
   unfolding is_signal
   signal_header q = rw (so_refused e q)
 
-  module _ (f : h ≡ check.Fine) {l : Check} (g : verdict_of l ≡ length_in most64 s a) where
-    pub signal_length : {n p : ℕ} → l ≡ check.Refused n p → refused n p ≡ is_signal s a
+  module _ {u : ⊤} (f : h ≡ Ok u) {l : Result ⊤ Refusal} (g : verdict_of l ≡ length_in most64 s a) where
+    pub signal_length : {x : Refusal} → l ≡ Err x → refused_by x ≡ is_signal s a
     unfolding is_signal
     signal_length q = rw (so_fine e f, so_refused g q)
 
-    module _ (i : l ≡ check.Fine) {k : ℕ} (j : k ≡ kind_at s a) where
+    module _ {w : ⊤} (i : l ≡ Ok w) {k : ℕ} (j : k ≡ kind_at s a) where
       pub signal_sd : k ≡ kind_sd → fine ≡ is_signal s a
       unfolding is_signal
       signal_sd q = rw (so_fine e f, so_fine g i) (eq_yes _ _ _ _ (sym j ∙ q) refl)
@@ -67,24 +65,24 @@ module _ (s : List ℕ) (all : List FileColumn) (g : ℕ) {l : ℕ} (e : l ≡ r
   unfolding master_sound
   master_free z = eq_yes _ _ _ _ (sym e ∙ z) refl
 
-  module _ (z : l ≡ 0 → ⊥) {r : Found} (f : found_as r ≡ master_of s all g) where
-    pub master_lost : r ≡ found.Nothing → refused 24 0 ≡ master_sound s all g
+  module _ (z : l ≡ 0 → ⊥) {r : std.Option ℕ} (f : found_as r ≡ master_of s all g) where
+    pub master_lost : r ≡ None → refused 24 0 ≡ master_sound s all g
     unfolding master_sound
     master_lost q = let o : none ≡ master_of s all g = rw q at f in eq_no _ _ _ _ (λ x. z (e ∙ x)) (rw (← o))
 
-    pub master_known : {k : ℕ} → r ≡ found.Column k → fine ≡ master_sound s all g
+    pub master_known : {k : ℕ} → r ≡ Some k → fine ≡ master_sound s all g
     unfolding master_sound
     master_known {k} q = let o : some k ≡ master_of s all g = rw q at f in eq_no _ _ _ _ (λ x. z (e ∙ x)) (rw (← o))
 
 -- ---- a column, and all
-module _ (s w : List ℕ) (all : List FileColumn) (k : ℕ) {h : Check} (e : verdict_of h ≡ signal_sound s (column_at s w k).cn) where
-  pub column_refused : {n p : ℕ} → h ≡ check.Refused n p → refused n p ≡ sound_at s w all k
+module _ (s w : List ℕ) (all : List FileColumn) (k : ℕ) {c : ℕ} (i : c ≡ (column_at s w k).cn) {h : Result ⊤ Refusal} (e : verdict_of h ≡ signal_sound s c) where
+  pub column_refused : {x : Refusal} → h ≡ Err x → refused_by x ≡ sound_at s w all k
   unfolding sound_at
-  column_refused q = rw (so_refused e q)
+  column_refused q = rw (← i, so_refused e q)
 
-  pub column_master : {v : Verdict} → h ≡ check.Fine → v ≡ master_sound s all (column_at s w k).cg → v ≡ sound_at s w all k
+  pub column_master : {v : Verdict} {g : ℕ} {u : ⊤} → h ≡ Ok u → g ≡ (column_at s w k).cg → v ≡ master_sound s all g → v ≡ sound_at s w all k
   unfolding sound_at
-  column_master q f = rw (so_fine e q) f
+  column_master q j f = rw (← i, so_fine e q, ← j) f
 
 pub sound-each : (s w : List ℕ) (all : List FileColumn) (n k : ℕ) → each (sound_at s w all) n k ≡ columns_sound s all (columns_of s w n k)
 unfolding each sound_at columns_sound columns_of

@@ -1,5 +1,5 @@
 -- What is answered of a file whose columns are taken out, before anything is placed.
-use Rattle.std.specs.Prelude.{ℕ, ◌≤◌, List, true, ◌≡◌, length}
+use Rattle.std.specs.Prelude.{ℕ, ◌≤◌, List, true, ◌≡◌, length, Result, Ok, Err}
 use Rattle.base.specs.Checked.{Checked, ok, refused, and_then}
 use Rattle.plan.specs.Columns.{Column}
 use Rattle.plan.specs.Photos.{photos_first}
@@ -7,8 +7,8 @@ use Rattle.file.specs.Form.{FileColumn}
 use Rattle.file.specs.Opened.{opened}
 use Rattle.ranges.specs.Open.{columns_of}
 use Rattle.thin.specs.Kept.{columns_sound, numbers_in, masters_kept, kept_columns, photos_kept}
-use Rattle.taking.specs.declared.take.Taken.{Taken}
-use Rattle.taking.specs.declared.take.Taken.TheVariants.{Refused, Kept}
+use Rattle.fields.specs.declared.refusal.Refusal.{Refusal}
+use Rattle.fields.specs.Answer.{number_of, place_of}
 use Rattle.taking.specs.Words.{ColumnsPut}
 
 -- ---- the part of `arranged` between the file's length and the placement
@@ -38,11 +38,11 @@ pub record KeptAs (v : Checked (List Column)) (ks : List Column) (n : ℕ) (b b'
   pub put : ColumnsPut ks n b b' c c'
 
 -- after a refusal the words are not said
-abbrev pub TakenAs : Checked (List Column) → List Column → Taken → List ℕ → List ℕ → List ℕ → List ℕ → Type 0
-TakenAs v ks (Refused number place) b b' c c' = v ≡ refused number place
-TakenAs v ks (Kept n) b b' c c' = KeptAs v ks n b b' c c'
+abbrev pub TakenAs : Checked (List Column) → List Column → Result ℕ Refusal → List ℕ → List ℕ → List ℕ → List ℕ → Type 0
+TakenAs v ks (Err x) b b' c c' = v ≡ refused (number_of x) (place_of x)
+TakenAs v ks (Ok n) b b' c c' = KeptAs v ks n b b' c c'
 
-pub record TakesAs (v : Checked (List Column)) (ks : List Column) (r : Taken) (b b' c c' : List ℕ) : Type 0 where
+pub record TakesAs (v : Checked (List Column)) (ks : List Column) (r : Result ℕ Refusal) (b b' c c' : List ℕ) : Type 0 where
   pub answer : TakenAs v ks r b b' c c'
 
 -- the columns of the file, which words named by their addresses
@@ -52,6 +52,6 @@ pub record KeptOf (s numbers : List ℕ) (n : ℕ) (b b' c c' : List ℕ) : Type
   pub is_all : opened s ≡ ok (columns_of s source count 0)
   pub kept : KeptAs (taken_of s numbers) (kept_columns s numbers (columns_of s source count 0)) n b b' c c'
 
-abbrev pub Takes : List ℕ → List ℕ → Taken → List ℕ → List ℕ → List ℕ → List ℕ → Type 0
-Takes s numbers (Refused number place) b b' c c' = taken_of s numbers ≡ refused number place
-Takes s numbers (Kept n) b b' c c' = KeptOf s numbers n b b' c c'
+abbrev pub Takes : List ℕ → List ℕ → Result ℕ Refusal → List ℕ → List ℕ → List ℕ → List ℕ → Type 0
+Takes s numbers (Err x) b b' c c' = taken_of s numbers ≡ refused (number_of x) (place_of x)
+Takes s numbers (Ok n) b b' c c' = KeptOf s numbers n b b' c c'

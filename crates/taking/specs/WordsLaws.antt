@@ -1,9 +1,10 @@
 -- The words of the kept columns, one column after the other.
 use Prim.Native.Nat.{ℕ, zero, suc, ◌+◌, ◌*◌, ◌-◌, ◌≤◌, ◌<◌}
-use mathlib.Core.List.{List, [], ◌∷◌, ◌++◌}
-use Rattle.std.specs.Prelude.{Bool, eqb, set}
+use mathlib.Core.List.{List, [], ◌∷◌}
+use Rattle.std.specs.Prelude.{Bool, eqb, set, get_or, Some, None}
+use Rattle.std.specs.Prelude as std
 use Rattle.std.proofs.Math.Bool.{true, false}
-use Rattle.std.proofs.Math.Option.{Option, none, some}
+use Rattle.std.proofs.Math.Option.{none, some}
 use Rattle.std.proofs.Math.Path.{◌≡◌, refl}
 use Rattle.std.proofs.Common.{sym, ap, ◌∙◌}
 use Rattle.std.proofs.Math.Nat.{sub-zero}
@@ -13,8 +14,8 @@ use Rattle.std.proofs.Math.ListN.{length}
 use Rattle.base.specs.Blit.{blit}
 use Rattle.base.specs.BlitLaws.{blit-append}
 use Rattle.base.specs.Choice.{pick, if_eq}
-use Rattle.base.specs.ChoiceLaws.{eq_yes, eq_no, eq_first, le-first}
-use Rattle.base.specs.Checked.{ok, refused, and_then, Verdict, fine}
+use Rattle.base.specs.ChoiceLaws.{eq_yes, eq_no, le-first}
+use Rattle.base.specs.Checked.{Verdict, fine}
 use Rattle.base.specs.CheckedLaws.{refused≢ok, then_fine}
 use Rattle.mdf.specs.Block.{size_at, header_in}
 use Rattle.mdf.specs.Chain.{dt, fragment, is_in}
@@ -23,18 +24,16 @@ use Rattle.plan.specs.Columns.{remote_link, Column, Signal, no_signal, signal_da
 use Rattle.work_words.specs.Words.{fragment_words}
 use Rattle.work_words.specs.PlanWords.{time_word, master_word, signal_word, column_words, columns_words, fragments_in, signal_fragments}
 use Rattle.chains.specs.KeptLaws.{length-words, words_append}
-use Rattle.planning.specs.WordLaws.{put_eight}
 use Rattle.file.specs.Form.{FileColumn, cycles}
 use Rattle.ranges.specs.Open.{column_at, columns_of}
 use Rattle.sheet.specs.Sheet.{number_at, master_of}
-use Rattle.sheets.specs.declared.line.Found.{Found}
-use Rattle.sheets.specs.declared.line.Found.TheVariants as found
 use Rattle.sheets.specs.Line.{found_as}
 use Rattle.sheets.specs.LineLaws.{columns_open}
-use Rattle.thin.specs.Kept.{signal_place, is_signal, signal_sound, master_sound, columns_sound, new_number, new_master, signal_kept, kept_column, kept_from, kept_columns}
+use Rattle.thin.specs.Kept.{signal_place, is_signal, signal_sound, master_sound, columns_sound, new_number, new_master, signal_kept, kept_column, kept_from}
 use Rattle.taking.specs.Each.{each}
 use Rattle.taking.specs.Sound.{sound_at}
 use Rattle.taking.specs.SoundLaws.{sound-each}
+use Rattle.taking.specs.Marks.{Marked}
 use Rattle.taking.specs.Words.{SoundSignal, SignalPut, ColumnPut, ColumnsPut}
 
 -- ---- after 24 every SD begins in the file
@@ -65,20 +64,18 @@ all_inside s w all n e k h =
     sound_inside s (column_at s w k).cn (then_fine (signal_sound s (column_at s w k).cn) (λ _. master_sound s all (column_at s w k).cg) x).0
 
 -- ---- the number among those kept
-module _ (ns : List ℕ) (k : ℕ) {b : Bool} (e : b ≡ is_in k ns) where
-  pub one_out : b ≡ true → ◌≡◌ {A = ℕ} 0 (pick (is_in k ns) 0 1)
-  one_out q = rw (← e, q)
-
-  pub one_kept : b ≡ false → ◌≡◌ {A = ℕ} 1 (pick (is_in k ns) 0 1)
-  one_kept q = rw (← e, q)
-
 pub new_begin : (ns : List ℕ) → 0 ≡ new_number ns 0
 unfolding new_number
 new_begin ns = refl
 
-pub new_next : (ns : List ℕ) (k : ℕ) {count r : ℕ} → count ≡ new_number ns k → r ≡ pick (is_in k ns) 0 1 → count + r ≡ new_number ns (k + 1)
-unfolding new_number
-new_next ns k e q = rw (add-one k, ← e, ← q) (omega arith)
+module _ (ns : List ℕ) (k : ℕ) {m : List Bool} (r : Marked ns m) {count : ℕ} (e : count ≡ new_number ns k) where
+  pub new_out : get_or m k false ≡ true → count ≡ new_number ns (k + 1)
+  unfolding new_number
+  new_out q = rw (add-one k, ← e, ← r.is k, q) (omega arith)
+
+  pub new_kept : get_or m k false ≡ false → count + 1 ≡ new_number ns (k + 1)
+  unfolding new_number
+  new_kept q = rw (add-one k, ← e, ← r.is k, q) (omega arith)
 
 pub new_end : (ns : List ℕ) {k m count : ℕ} → k ≤ m → m ≤ k → count ≡ new_number ns k → count ≡ new_number ns m
 new_end ns {k} {m} g h e = let z : k ≡ m = omega arith in e ∙ rw z
@@ -104,11 +101,11 @@ unfolding columns_of
 length-columns s w zero k = refl
 length-columns s w (suc n) k = ap suc (length-columns s w n (k + 1))
 
-module _ (s w : List ℕ) (n g : ℕ) {r : Found} (e : found_as r ≡ master_of s (columns_of s w n 0) g) where
-  pub master_zero : (ns : List ℕ) → r ≡ found.Nothing → 0 ≡ master_word (new_master ns (master_of s (columns_of s w n 0) g))
+module _ (s w : List ℕ) (n g : ℕ) {r : std.Option ℕ} (e : found_as r ≡ master_of s (columns_of s w n 0) g) where
+  pub master_zero : (ns : List ℕ) → r ≡ None → 0 ≡ master_word (new_master ns (master_of s (columns_of s w n 0) g))
   master_zero ns q = let o : none ≡ master_of s (columns_of s w n 0) g = rw q at e in rw (← o)
 
-  module _ {k : ℕ} (q : r ≡ found.Column k) where
+  module _ {k : ℕ} (q : r ≡ Some k) where
     some_master : some k ≡ master_of s (columns_of s w n 0) g
     some_master = rw q at e
 
@@ -124,13 +121,6 @@ module _ (s w : List ℕ) (n g : ℕ) {r : Found} (e : found_as r ≡ master_of 
     master_new ns z = rw (← some_master, z)
 
 -- ---- signal data
-put_three : (i a b c : ℕ) (w : List ℕ) {w1 w2 w3 : List ℕ} → w1 ≡ set w i a → w2 ≡ set w1 (i + 1) b → w3 ≡ set w2 (i + 2) c → w3 ≡ blit i (a ∷ b ∷ c ∷ []) w
-unfolding blit
-put_three i a b c w e f g =
-    let x : i + 1 ≡ suc i = omega arith in
-    let y : i + 2 ≡ suc (suc i) = omega arith in
-    g ∙ rw (f, e, x, y)
-
 pub signal_room : {s : List ℕ} {c a : ℕ} → SoundSignal s c → a ≡ signal_place s c → (a ≡ 0 → ⊥) → a + 24 ≤ length s
 signal_room r e z = rw e (r.inside (λ x. z (e ∙ x)))
 
@@ -141,12 +131,11 @@ module _ (s : List ℕ) (n c : ℕ) {a : ℕ} (e : a ≡ signal_place s c) where
       let o : no_signal ≡ signal_kept s c = eq_yes _ _ _ _ (sym e ∙ z) refl in
       record { count = rw (← o); few = omega arith; words = rw (← o) }
 
-  pub signal_some : (b : List ℕ) {x : ℕ} {b1 b2 b3 : List ℕ} → (a ≡ 0 → ⊥) → x ≡ size_at s a - 24 → b1 ≡ set b (3 * n) (a + 24)
-      → b2 ≡ set b1 (3 * n + 1) x → b3 ≡ set b2 (3 * n + 2) 0 → SignalPut s n c 1 b b3
+  pub signal_some : (b : List ℕ) {x : ℕ} {b' : List ℕ} → (a ≡ 0 → ⊥) → x ≡ size_at s a - 24 → b' ≡ blit (3 * n) ((a + 24) ∷ x ∷ 0 ∷ []) b → SignalPut s n c 1 b b'
   unfolding signal_kept fragment_words
-  signal_some b {x} z q f g h =
+  signal_some b {x} z q f =
       let o : signal_data (record { offset = a + 24; size = x; kind = dt } ∷ []) ≡ signal_kept s c = eq_no _ _ _ _ (λ y. z (e ∙ y)) (rw (q, e)) in
-      record { count = rw (← o); few = omega arith; words = rw (← o) (put_three (3 * n) (a + 24) x 0 b f g h) }
+      record { count = rw (← o); few = omega arith; words = rw (← o) f }
 
 pub word_of : (s : List ℕ) (n c : ℕ) {r x : ℕ} → r ≡ size_of_signal (signal_kept s c) → x ≡ if_eq r 0 0 (n + 1) → x ≡ signal_word n (signal_kept s c)
 unfolding signal_kept if_eq
@@ -158,19 +147,21 @@ word_of s n c e f = f ∙ rw e (go (eqb (signal_place s c) 0))
     go false = refl
 
 -- ---- a column
-pub column_put : (s ns : List ℕ) (all : List FileColumn) (c : FileColumn) (j n : ℕ) {own records time master signal : ℕ} {b b' w w1 w2 : List ℕ}
-    → SignalPut s n c.cn own b b' → records ≡ cycles s c.cg → w1 ≡ blit (8 * j) (c.cn ∷ c.cg ∷ c.dg ∷ records ∷ []) w
-    → time ≡ time_word (is_master_type s c.cn) → master ≡ master_word (new_master ns (master_of s all c.cg))
-    → signal ≡ if_eq own 0 0 (n + 1) → w2 ≡ blit (8 * j + 4) (time ∷ master ∷ signal ∷ own ∷ []) w1
-    → ColumnPut (kept_column s ns all c) j n (n + own) b b' w w2
+column_at_once : (s ns : List ℕ) (all : List FileColumn) (c : FileColumn) (j n : ℕ) {own records time master signal : ℕ} {b b' w w' : List ℕ}
+    → SignalPut s n c.cn own b b' → records ≡ cycles s c.cg → time ≡ time_word (is_master_type s c.cn)
+    → master ≡ master_word (new_master ns (master_of s all c.cg)) → signal ≡ if_eq own 0 0 (n + 1)
+    → w' ≡ blit (8 * j) (c.cn ∷ c.cg ∷ c.dg ∷ records ∷ time ∷ master ∷ signal ∷ own ∷ []) w → ColumnPut (kept_column s ns all c) j n (n + own) b b' w w'
 unfolding column_words
-column_put s ns all c j n {own} {records} {time} {master} {signal} {w = w} p q f t m g h =
+column_at_once s ns all c j n {signal = signal} p q t m g h =
     let z : signal ≡ signal_word n (signal_kept s c.cn) = word_of s n c.cn p.count g in
-    record {
-      count = rw p.count;
-      fragments = p.words;
-      words = put_eight (8 * j) c.cn c.cg c.dg records time master signal own w f h ∙ rw (q, t, m, z, p.count);
-    }
+    record { count = rw p.count; fragments = p.words; words = h ∙ rw (q, t, m, z, p.count) }
+
+pub column_put : (s ns : List ℕ) (all : List FileColumn) (c : FileColumn) (j n : ℕ) {cn cg dg own records time master signal : ℕ} {b b' w w' : List ℕ}
+    → cn ≡ c.cn → cg ≡ c.cg → dg ≡ c.dg → SignalPut s n cn own b b' → records ≡ cycles s cg → time ≡ time_word (is_master_type s cn)
+    → master ≡ master_word (new_master ns (master_of s all cg)) → signal ≡ if_eq own 0 0 (n + 1)
+    → w' ≡ blit (8 * j) (cn ∷ cg ∷ dg ∷ records ∷ time ∷ master ∷ signal ∷ own ∷ []) w → ColumnPut (kept_column s ns all c) j n (n + own) b b' w w'
+column_put s ns all c j n x y z p q t m g h =
+    column_at_once s ns all c j n (rw x at p) (rw y at q) (rw x at t) (rw y at m) g (rw (x, y, z) at h)
 
 -- ---- all: what is left of the columns, put from here on, gives what all give
 pub record Putting (s w ns : List ℕ) (all : List FileColumn) (n k j m : ℕ) (b₀ b c₀ c : List ℕ) : Type 0 where

@@ -6,7 +6,7 @@ use Rattle.base.specs.ChoiceLaws.{eq_yes, eq_no}
 use Rattle.base.specs.Field.{le}
 use Rattle.base.specs.Blit.{part, blit}
 use Rattle.base.specs.BlitLaws.{length-blit, blit-append, part-blit}
-use Rattle.result.specs.Listing.{digits_of, decimal, refusal_text}
+use Rattle.result.specs.Listing.{digits_of}
 use Rattle.texts.specs.Laid.{Laid}
 
 pub laid_none : {at most : ℕ} {d : List ℕ} → Laid at [] most d d at
@@ -75,11 +75,3 @@ digits_more (suc k) n {at} {p} {r} {d} {e} {f} h q a b =
 -- the list keeps its length
 pub laid-length : {at m r : ℕ} {xs d e : List ℕ} → Laid at xs m d e r → length e ≡ length d
 laid-length {at} {xs = xs} {d = d} a = rw a.is (length-blit at xs d)
-
--- ---- a refusal: the texts and numbers one after the other
-pub refusal_laid : (number place : ℕ) {p q r : ℕ} {d₀ d₁ d₂ d₃ d₄ d₅ : List ℕ}
-    → d₁ ≡ blit 0 (part 0 8 (114 ∷ 101 ∷ 102 ∷ 117 ∷ 115 ∷ 101 ∷ 100 ∷ 32 ∷ [])) d₀ → Laid 8 (decimal number) 20 d₁ d₂ p
-    → d₃ ≡ blit p (part 0 7 (32 ∷ 112 ∷ 108 ∷ 97 ∷ 99 ∷ 101 ∷ 32 ∷ [])) d₂ → Laid (p + 7) (decimal place) 20 d₃ d₄ q → Laid q (10 ∷ []) 1 d₄ d₅ r
-    → Laid 0 (refusal_text number place) 56 d₀ d₅ r
-refusal_laid number place a b c e f =
-    laid_then (laid_then (laid_then (laid_then (laid-text {most = 8} a refl (omega arith)) b) (laid-text {most = 7} c refl (omega arith))) e) f

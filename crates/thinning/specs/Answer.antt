@@ -1,5 +1,5 @@
 -- What the whole call answers and leaves, and what it promises of the new file.
-use Rattle.std.specs.Prelude.{ℕ, ◌<◌, List, ◌≡◌, get_or}
+use Rattle.std.specs.Prelude.{ℕ, ◌<◌, List, ◌≡◌, get_or, Result, Ok, Err}
 use Rattle.base.specs.Checked.{Checked, ok, refused, and_then}
 use Rattle.plan.specs.Layout.{Layout}
 use Rattle.result.specs.Result.{work_in}
@@ -7,20 +7,20 @@ use Rattle.file.specs.Form.{FileColumn}
 use Rattle.file.specs.Opened.{opened}
 use Rattle.thin.specs.TakenOut.{answer, Outcome}
 use Rattle.thin.specs.Guarantee.{TakenOut}
-use Rattle.thinning.specs.declared.take.Taken.{Taken}
-use Rattle.thinning.specs.declared.take.Taken.TheVariants.{Refused, Done}
+use Rattle.fields.specs.declared.refusal.Refusal.{Refusal}
+use Rattle.fields.specs.Answer.{number_of, place_of}
 
 -- the elements of an image are bytes
 pub record Bytes (s : List ℕ) : Type 0 where
   pub all : (i : ℕ) → get_or s i 0 < 256
 
 -- document 02's numbers and values for each answer
-abbrev pub taken_as : Taken → Checked ℕ
-taken_as (Refused number place) = refused number place
-taken_as (Done bytes) = ok bytes
+abbrev pub taken_as : Result ℕ Refusal → Checked ℕ
+taken_as (Ok bytes) = ok bytes
+taken_as (Err x) = refused (number_of x) (place_of x)
 
 -- the answer with what the call left in output and work slices
-abbrev pub left : Taken → List ℕ → List (List ℕ) → Outcome
+abbrev pub left : Result ℕ Refusal → List ℕ → List (List ℕ) → Outcome
 left r out work = record { answered = taken_as r; output = out; work = work }
 
 -- the final bytes of whatever was accepted

@@ -1,26 +1,26 @@
 -- Laws of a kept column's numbers.
-use Rattle.std.specs.Prelude.{ℕ, ◌+◌, ◌*◌, ◌-◌, ◌≤◌, ◌<◌, List, Bool, true, false, ◌≡◌, get_or}
+use Rattle.std.specs.Prelude.{ℕ, ◌+◌, ◌*◌, ◌-◌, ◌≤◌, ◌<◌, List, Bool, true, false, not, ◌≡◌, eqb, get_or}
 use Rattle.std.proofs.Math.Path.{refl}
 use Rattle.std.proofs.Common.{arith}
-use Rattle.base.specs.Choice.{if_eq}
+use Rattle.base.specs.Choice.{pick, if_eq}
 use Rattle.base.specs.ChoiceLaws.{lt_yes, lt_no, eq_yes, eq_no}
 use Rattle.base.specs.Field.{Field}
 use Rattle.mdf.specs.Block.{link_at, data_at}
-use Rattle.copies_laws.specs.AnswerLaws.{on_eq}
 use Rattle.plan.specs.Photos.{photo_count}
 use Rattle.work_words.specs.CopyWords.{placed_at}
 use Rattle.file.specs.Form.{equal_length}
-use Rattle.ranges.specs.Blocks.{links_of}
+use Rattle.arranging.specs.Sized.{blocks_in, cg_bytes}
+use Rattle.arranging.specs.SizedLaws.{cg_least}
 use Rattle.thinning.specs.Column.{is_set, master_place, next_place, column_by}
 
 -- ---- words
-pub set_no : (w : ℕ) → w ≡ 0 → false ≡ is_set w
-unfolding is_set
-set_no w e = eq_yes _ _ _ _ e refl
-
-pub set_yes : (w : ℕ) → (w ≡ 0 → ⊥) → true ≡ is_set w
-unfolding is_set
-set_yes w e = eq_no _ _ _ _ e refl
+pub set-is : (w : ℕ) → not (eqb w 0) ≡ is_set w
+unfolding is_set if_eq
+set-is w = go (eqb w 0)
+  where
+    go : (b : Bool) → not b ≡ pick b false true
+    go true = refl
+    go false = refl
 
 module _ (memo : List ℕ) (n : ℕ) where
   pub master_no : (w : ℕ) → w ≡ 0 → 0 ≡ master_place memo n w
@@ -44,17 +44,14 @@ module _ (memo : List ℕ) (n : ℕ) where
   next_yes k h = lt_yes _ _ _ _ h refl
 
 -- ---- a column's numbers
-cg_near : (w : ℕ) → if_eq w 0 104 112 ≤ 112
-cg_near w = on_eq (λ (x : ℕ). x ≤ 112) w 0 104 112 (λ _. omega arith) (λ _. omega arith)
-
-pub cn_near : (d w : ℕ) {x : ℕ} → x ≡ if_eq w 0 104 112 → d + 64 + x ≤ d + 176
-cn_near d w e = omega (arith, e, cg_near w)
+pub cn_near : (d w : ℕ) {x : ℕ} → x ≡ cg_bytes w → d + 64 + x ≤ d + 176
+cn_near d w e = omega (arith, cg_least w e)
 
 module _ (s columns memo : List ℕ) (n k : ℕ) where
   pub column-made : {remote : Bool} {master x sd dl blocks photos payload : ℕ} → remote ≡ is_set (get_or columns (8 * k + 5) 0)
-      → master ≡ master_place memo n (get_or columns (8 * k + 5) 0) → x ≡ if_eq (get_or columns (8 * k + 5) 0) 0 104 112
+      → master ≡ master_place memo n (get_or columns (8 * k + 5) 0) → x ≡ cg_bytes (get_or columns (8 * k + 5) 0)
       → sd ≡ if_eq (get_or columns (8 * k + 6) 0) 0 0 (get_or memo (placed_at + 3 * k + 2) 0) → dl ≡ link_at s (get_or columns (8 * k + 2) 0) 2
-      → blocks ≡ links_of s dl - 1 → photos ≡ photo_count s (get_or columns (8 * k) 0) → Field 8 s (data_at s dl + 8) payload
+      → blocks ≡ blocks_in s (get_or columns (8 * k + 2) 0) → photos ≡ photo_count s (get_or columns (8 * k) 0) → Field 8 s (data_at s dl + 8) payload
       → record {
         channel = get_or columns (8 * k) 0;
         group = get_or columns (8 * k + 1) 0;
@@ -70,5 +67,5 @@ module _ (s columns memo : List ℕ) (n k : ℕ) where
         payload = payload;
       }
       ≡ column_by s columns memo n k
-  unfolding column_by equal_length
+  unfolding column_by equal_length cg_bytes blocks_in
   column-made a b c d e f g h = rw (a, b, c, d, f, g, h.is, e)

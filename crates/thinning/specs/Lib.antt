@@ -1,3 +1,4 @@
+pub mod Led
 pub mod Touching
 pub mod TouchingLaws
 pub mod Column

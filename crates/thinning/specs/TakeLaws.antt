@@ -1,5 +1,5 @@
 -- A refusal leaves the output, an accepted call the new file at its front; the work slices are as the definition says.
-use Rattle.std.specs.Prelude.{ℕ, ◌≤◌, List, [], ◌∷◌, ◌≡◌, refl, replicate}
+use Rattle.std.specs.Prelude.{ℕ, ◌≤◌, List, [], ◌∷◌, ◌≡◌, refl, replicate, Result, Ok, Err}
 use Rattle.std.proofs.Common.{sym, subst, ◌∙◌, arith}
 use Rattle.std.proofs.Math.Path.{ap}
 use Rattle.std.proofs.Math.ListN.{length}
@@ -18,22 +18,20 @@ use Rattle.thin.specs.Fill.{file_kept}
 use Rattle.thin.specs.TakenOut.{answer, Outcome, outcome, take_out}
 use Rattle.thin.specs.Guarantee.{TakenOut}
 use Rattle.thin_guarantee.specs.Theorem.{takes_out}
+use Rattle.fields.specs.declared.refusal.Refusal.{Refusal}
+use Rattle.fields.specs.Answer.{number_of, place_of}
 use Rattle.arranging.specs.declared.decide.Numbers.{Numbers}
-use Rattle.arranging.specs.declared.decide.Arranged.{Arranged}
-use Rattle.arranging.specs.declared.decide.Arranged.TheVariants as arranged
 use Rattle.arranging.specs.Answered.{four, ArrangedIn, RefusedIn, Arranges}
-use Rattle.thinning.specs.declared.take.Taken.{Taken}
-use Rattle.thinning.specs.declared.take.Taken.TheVariants.{Refused, Done}
 use Rattle.thinning.specs.Whole.{Stands}
 use Rattle.thinning.specs.Answer.{Bytes, taken_as, left, Promised}
 
 -- ---- what was arranged
-module _ {u : ℕ} {s numbers : List ℕ} {out : ℕ} {a b c d a' b' c' d' : List ℕ} {r : Arranged} (h : Arranges u s numbers out a b c d r a' b' c' d') where
-  pub arranges_refused : {number place : ℕ} → r ≡ arranged.Refused number place → RefusedIn u s numbers out number place (four a b c d) (four a' b' c' d')
-  arranges_refused e = subst (λ (q : Arranged). Arranges u s numbers out a b c d q a' b' c' d') e h
+module _ {u : ℕ} {s numbers : List ℕ} {out : ℕ} {a b c d a' b' c' d' : List ℕ} {r : Result Numbers Refusal} (h : Arranges u s numbers out a b c d r a' b' c' d') where
+  pub arranges_refused : {x : Refusal} → r ≡ Err x → RefusedIn u s numbers out (number_of x) (place_of x) (four a b c d) (four a' b' c' d')
+  arranges_refused e = subst (λ (q : Result Numbers Refusal). Arranges u s numbers out a b c d q a' b' c' d') e h
 
-  pub arranges_done : {n : Numbers} → r ≡ arranged.Done n → ArrangedIn u s numbers out n a b c d a' b' c' d'
-  arranges_done e = subst (λ (q : Arranged). Arranges u s numbers out a b c d q a' b' c' d') e h
+  pub arranges_done : {n : Numbers} → r ≡ Ok n → ArrangedIn u s numbers out n a b c d a' b' c' d'
+  arranges_done e = subst (λ (q : Result Numbers Refusal). Arranges u s numbers out a b c d q a' b' c' d') e h
 
 -- ---- what the writer asks for
 pub writer_asks : {u : ℕ} {s numbers : List ℕ} (out : List ℕ) {n : Numbers} {a b c d a' b' c' d' : List ℕ} → Bytes s
@@ -55,10 +53,10 @@ writer_asks {u} {s} {numbers} out {c = c} {d = d} bytes r =
     }
 
 -- ---- what is left
-pub refused_left : {u : ℕ} {s numbers : List ℕ} (out : List ℕ) {number place : ℕ} {ws ws' : List (List ℕ)}
-    → RefusedIn u s numbers (length out) number place ws ws' → left (Refused number place) out ws' ≡ take_out u s numbers out ws
+pub refused_left : {u : ℕ} {s numbers : List ℕ} (out : List ℕ) (x : Refusal) {ws ws' : List (List ℕ)}
+    → RefusedIn u s numbers (length out) (number_of x) (place_of x) ws ws' → left (Err x) out ws' ≡ take_out u s numbers out ws
 unfolding take_out
-refused_left out r =
+refused_left out x r =
     rw (r.is, r.words)
 
 enough : (a b c d : List ℕ) → 8192 ≤ length a → 8192 ≤ length b → 8192 ≤ length c → 8192 ≤ length d → work_in (four a b c d) ≡ fine
@@ -85,7 +83,7 @@ module _ {u : ℕ} {s numbers : List ℕ} (out : List ℕ) {n : Numbers} {a b c 
 
   pub done_left : {out' a'' b'' c'' d'' : List ℕ} → out' ≡ blit 0 (file_kept s r.told) out
       → a'' ≡ replicate (length a') 0 → b'' ≡ replicate (length b') 0 → c'' ≡ replicate (length c') 0 → d'' ≡ replicate (length d') 0
-      → left (Done n.file_size) out' (four a'' b'' c'' d'') ≡ take_out u s numbers out (four a b c d)
+      → left (Ok n.file_size) out' (four a'' b'' c'' d'') ≡ take_out u s numbers out (four a b c d)
   unfolding take_out zeros
   done_left e ea eb ec ed = rw (work_fine, r.is, e, ea, eb, ec, ed, long-a, long-b, long-c, long-d, r.numbered.file_size_lem)
 

@@ -6,6 +6,7 @@ ghost use Rattle.thin.specs.Fill.{moved_blocks};
 ghost use Rattle.write_copies.specs.Wrote.{Wrote};
 ghost use Rattle.thinning.specs.Data.{sd_bytes, data_in, data_from, MovedRoom, DataRoom, DataReady};
 
+use crate::decided::Decided;
 use blocks::block::{SD, link_at};
 use ranges::block::links_of;
 use thin_blocks::anew::{put_anew, put_moved};
@@ -36,47 +37,31 @@ fn write_sd(out: &mut [u8], at: usize, image: &[u8], x: u64, sd: usize) -> usize
 }
 
 // Of column number k: zeros and its data blocks, zeros and its SD; the answer is past them.
-fn write_column(
-    out: &mut [u8],
-    at: usize,
-    image: &[u8],
-    columns: &[u64],
-    memo: &[u64],
-    k: u64,
-) -> usize
-    requires { DataRoom image.now columns.now memo.now k at (length out.old) }
-    ensures { Wrote at (data_in image.now columns.now memo.now k) result out.old out.new }
+fn write_column(out: &mut [u8], at: usize, file: &Decided, k: u64) -> usize
+    requires { DataRoom file.now.image.now file.now.columns.now file.now.memo.now k at (length out.old) }
+    ensures { Wrote at (data_in file.now.image.now file.now.columns.now file.now.memo.now k) result out.old out.new }
 {
     let i = (8 * k) as usize;
     let j = (6656 + 3 * k) as usize;
-    let a = link_at(image, columns[i + 2], 2);
-    let links = links_of(image, a);
-    let to = write_moved(out, at, image, a, links, memo[j + 1] as usize);
-    if columns[i + 6] == 0 {
+    let a = link_at(file.image, file.columns[i + 2], 2);
+    let links = links_of(file.image, a);
+    let to = write_moved(out, at, file.image, a, links, file.memo[j + 1] as usize);
+    if file.columns[i + 6] == 0 {
         return to;
     }
-    let x = link_at(image, columns[i], 5);
-    write_sd(out, to, image, x, memo[j + 2] as usize)
+    let x = link_at(file.image, file.columns[i], 5);
+    write_sd(out, to, file.image, x, file.memo[j + 2] as usize)
 }
 
-// Of n columns, from at on; the answer is past them.
-pub(crate) fn write_data(
-    out: &mut [u8],
-    at: usize,
-    image: &[u8],
-    columns: &[u64],
-    memo: &[u64],
-    n: u64,
-) -> usize
-    requires { DataReady image.now columns.now memo.now n at (length out.old) }
-    ensures { Wrote at (data_from image.now columns.now memo.now 0 n) result
+// Of all columns, from at on; the answer is past them.
+pub(crate) fn write_data(out: &mut [u8], at: usize, file: &Decided) -> usize
+    requires { DataReady file.now.image.now file.now.columns.now file.now.memo.now file.now.numbers.columns at (length out.old) }
+    ensures { Wrote at (data_from file.now.image.now file.now.columns.now file.now.memo.now 0 file.now.numbers.columns) result
         out.old out.new }
 {
-    let mut k: u64 = 0;
     let mut p = at;
-    while k < n {
-        p = write_column(out, p, image, columns, memo, k);
-        k += 1;
+    for k in 0..file.numbers.columns {
+        p = write_column(out, p, file, k);
     }
     p
 }

@@ -17,10 +17,7 @@ pub(crate) fn first_column(memo: &[u64], n: u64) -> u64
     requires { 8192 ≤ length memo.now }
     ensures { result ≡ if_eq n 0 0 (get_or memo.now 6656 0) }
 {
-    if n == 0 {
-        return 0;
-    }
-    memo[6656]
+    if n == 0 { 0 } else { memo[6656] }
 }
 
 // The place of the copy of the history's first block, 0 without history.
@@ -29,17 +26,17 @@ pub(crate) fn first_history(memo: &[u64], used: u64, chain: u64) -> u64
     ensures { result ≡ if_eq chain 0 0 (new_link (copies_in memo.now used) (get_or memo.now 4352 0)) }
 {
     if chain == 0 {
-        return 0;
+        0
+    } else {
+        new_link(memo, used, memo[4352])
     }
-    new_link(memo, used, memo[4352])
 }
 
 // The place of the copy of the HD's comment.
 pub(crate) fn comment_of(image: &[u8], memo: &[u64], used: u64) -> u64
     ensures { result ≡ new_link (copies_in memo.now used) (link_at image.now 64 5) }
 {
-    let a = link_at(image, 64, 5);
-    new_link(memo, used, a)
+    new_link(memo, used, link_at(image, 64, 5))
 }
 
 // The image's first 64 bytes and the HD at the front of out; the index past them, 168.

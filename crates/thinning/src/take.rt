@@ -4,16 +4,11 @@ ghost use Rattle.thin.specs.TakenOut.{take_out};
 ghost use Rattle.arranging.specs.Answered.{four};
 ghost use Rattle.thinning.specs.Answer.{Bytes, left, Promised};
 
+use crate::decided::Decided;
 use crate::whole::write_file;
-use arranging::decide::{Arranged, arrange};
+use arranging::decide::arrange;
+use fields::refusal::Refusal;
 use reading::recording::clear;
-
-// A refusal with number and place, or the bytes of the new file.
-#[derive(Drop)]
-pub enum Taken {
-    Refused { number: u64, place: u64 },
-    Done { bytes: u64 },
-}
 
 // Every element of the image is a byte.
 fn are_bytes(image: &[u8])
@@ -24,7 +19,7 @@ fn are_bytes(image: &[u8])
     }
 }
 
-// The file with the other columns in order, at the front of the output.
+// The file with the other columns in order, at the front of the output; answers how many bytes it has.
 pub fn take_out(
     image: &[u8],
     unit: u64,
@@ -34,7 +29,7 @@ pub fn take_out(
     columns: &mut [u64],
     memo: &mut [u64],
     out: &mut [u8],
-) -> Taken
+) -> Result<u64, Refusal>
     ensures done { left result out.new (four source.new fragments.new columns.new memo.new)
         ≡ take_out unit image.now numbers.now out.old
         (four source.old fragments.old columns.old memo.old) }
@@ -51,17 +46,17 @@ pub fn take_out(
         fragments,
         columns,
         memo,
-    );
-    match arranged {
-        Arranged::Refused { number, place } => Taken::Refused { number, place },
-        Arranged::Done(n) => {
-            let bytes = n.file_size;
-            write_file(out, image, columns, memo, n);
-            clear(source);
-            clear(fragments);
-            clear(columns);
-            clear(memo);
-            Taken::Done { bytes }
-        }
-    }
+    )?;
+    let file = Decided {
+        image,
+        columns,
+        memo,
+        numbers: arranged,
+    };
+    write_file(out, &file);
+    clear(source);
+    clear(fragments);
+    clear(columns);
+    clear(memo);
+    Ok(arranged.file_size)
 }

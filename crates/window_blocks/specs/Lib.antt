@@ -4,5 +4,4 @@ pub mod Sizes
 pub mod SizesLaws
 pub mod Tail
 pub mod TailLaws
-pub mod TimesLaws
 pub mod TextLaws

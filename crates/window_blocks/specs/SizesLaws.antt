@@ -1,9 +1,10 @@
 -- How many bytes each block of the result has, also where the image ends inside the data that it is made from.
 use Rattle.std.specs.Prelude.{◌≡◌, ℕ, ◌+◌, ◌-◌, ◌<◌, ◌≤◌, min, Bool, true, false, List, [], length, refl}
-use Rattle.std.proofs.Common.{zero-add, arith, length-append}
+use Rattle.std.proofs.Common.{⊎_elim, zero-add, ◌∙◌, arith, length-append}
 use Rattle.std.proofs.Math.Nat.{min-le_left}
 use Rattle.base.specs.FieldLaws.{length-le}
 use Rattle.base.specs.Blit.{part}
+use Rattle.stores.specs.Cases.{lt_or_le}
 use Rattle.mdf.specs.Block.{data_at}
 use Rattle.result.specs.FillLaws.{length-header}
 use Rattle.filling.specs.Blocks.{dg_from, cg_from, cg_header, cg_front, cg_counts, cg_data_from, cn_links, cn_front, cn_types, cn_rest, cn_data_from}
@@ -19,11 +20,17 @@ unfolding cn_front cn_links
 length_front size links name source conversion sd unit comment = simp (length-append, length-header, length-le)
 
 -- ---- the bytes of a block's data that the image has
-pub none_there : (b i n D : ℕ) (s : List ℕ) → b ≡ min D (length s) → length s - b ≤ i → 0 ≡ length (part (D + i) n s)
+none_there : (b i n D : ℕ) (s : List ℕ) → b ≡ min D (length s) → length s - b ≤ i → 0 ≡ length (part (D + i) n s)
 none_there b i n D s e h = rw zero-add at (laid_none 0 b i n 0 D s [] e h (omega arith)).past
 
-pub some_there : (b i n k D : ℕ) (s : List ℕ) → b ≡ min D (length s) → i < length s - b → k ≡ min n (length s - (b + i)) → k ≡ length (part (D + i) n s)
+some_there : (b i n k D : ℕ) (s : List ℕ) → b ≡ min D (length s) → i < length s - b → k ≡ min n (length s - (b + i)) → k ≡ length (part (D + i) n s)
 some_there b i n k D s e h m = simp zero-add at (laid-part 0 b i n k (0 + n) D s [] _ e h refl m (omega arith)).past
+
+pub length_there : (b i n D : ℕ) (s : List ℕ) → b ≡ min D (length s) → min n (length s - b - i) ≡ length (part (D + i) n s)
+length_there b i n D s e =
+    ⊎_elim (λ h. some_there b i n _ D s e h (let z : length s - (b + i) ≡ length s - b - i = omega arith in rw z refl))
+    (λ h. let z : min n (length s - b - i) ≡ 0 = omega arith in z ∙ none_there b i n D s e h)
+    (lt_or_le i (length s - b))
 
 few_there : (i n : ℕ) (s : List ℕ) → length (part i n s) ≤ n
 few_there i n s = rw length-part-min (min-le_left n (length s - i))

@@ -1,6 +1,6 @@
 -- An MD over a window that begins before it, or inside it.
-use Rattle.std.specs.Prelude.{◌≡◌, ℕ, zero, suc, ◌+◌, ◌-◌, ◌*◌, ◌/◌, ◌%◌, ◌^◌, ◌≤◌, List, ◌++◌, length, take, drop, replicate, refl}
-use Rattle.std.proofs.Common.{sym, ap, ◌∙◌, arith, length-append, take_all}
+use Rattle.std.specs.Prelude.{◌≡◌, ℕ, zero, suc, ◌+◌, ◌-◌, ◌*◌, min, ◌/◌, ◌%◌, ◌^◌, ◌≤◌, List, ◌++◌, length, take, drop, replicate, refl}
+use Rattle.std.proofs.Common.{⊎_elim, sym, ap, ◌∙◌, arith, length-append, take_all}
 use Rattle.std.proofs.Math.Nat.{sub-zero, zero-sub, suc-sub-suc}
 use Rattle.base.specs.Field.{le}
 use Rattle.base.specs.Blit.{blit, part}
@@ -12,8 +12,8 @@ use Rattle.result.specs.FillLaws.{length-header}
 use Rattle.copies_laws.specs.LengthLaws.{length_md}
 use Rattle.filling.specs.BlocksLaws.{md_size_lem, md_pad, header_wrap}
 use Rattle.stores.specs.Over.{over}
-use Rattle.stores.specs.OverLaws.{over-append, over_before}
-use Rattle.windows.specs.LayLaws.{lay_after}
+use Rattle.stores.specs.Cases.{lt_or_le}
+use Rattle.stores.specs.OverLaws.{over-append, over_before, blit-past}
 
 -- cs laid just past bs
 over-next : (a at p : ℕ) (bs cs u v w : List ℕ) → v ≡ over a at bs u → w ≡ over a p cs v → p ≡ at + length bs → w ≡ over a at (bs ++ cs) u
@@ -39,19 +39,18 @@ drop-zeros zero n = rw sub-zero
 drop-zeros (suc i) zero = rw zero-sub
 drop-zeros (suc i) (suc n) = rw suc-sub-suc (drop-zeros i n)
 
-zeros-over : (a at i n : ℕ) (w : List ℕ) → at ≤ a → i ≡ n - (a - at) → blit 0 (replicate i 0) w ≡ over a at (replicate n 0) w
+-- an index past the end for another
+blit_min : (i m : ℕ) (bs w : List ℕ) → length w ≤ m → blit (min i m) bs w ≡ blit i bs w
+blit_min i m bs w h =
+    ⊎_elim (λ l. let e : min i m ≡ i = omega arith in rw e refl)
+    (λ l. blit-past bs (min i m) w (omega arith) ∙ sym (blit-past bs i w (omega arith)))
+    (lt_or_le i m)
+
+-- those that end a text of n bytes, as far as they lie in a window that begins skip bytes past where the MD begins; no index of it is over m
+pub zeros_over : (skip n m : ℕ) (w : List ℕ) → length w ≤ m
+    → blit (min (n - (skip - 24) + (24 - skip)) m) (replicate (8 - n % 8 - (skip - 24 - n)) 0) w ≡ over skip (24 + n) (replicate (8 - n % 8) 0) w
 unfolding over
-zeros-over a at i n w h e = let z : at - a ≡ 0 = omega arith in rw (e, z, drop-zeros (a - at) n)
-
--- those that end a text of n bytes: some are left, or none
-pub zeros-left : (skip n : ℕ) (v w : List ℕ) → 24 + n ≤ skip → v ≡ blit 0 (replicate (8 - n % 8 - (skip - 24 - n)) 0) w
-    → v ≡ over skip (24 + n) (replicate (8 - n % 8) 0) w
-zeros-left skip n v w h e = e ∙ zeros-over skip (24 + n) (8 - n % 8 - (skip - 24 - n)) (8 - n % 8) w h (omega arith)
-
-pub zeros-none : (skip n : ℕ) (w : List ℕ) → 24 + n ≤ skip → 8 - n % 8 ≤ skip - 24 - n → w ≡ over skip (24 + n) (replicate (8 - n % 8) 0) w
-unfolding blit
-zeros-none skip n w h k = zeros-over skip (24 + n) 0 (8 - n % 8) w h (omega arith)
-
--- bytes that begin in the window, at index p of it
-pub begin_in : (a at p : ℕ) (bs w : List ℕ) → a ≤ at → p ≡ at - a → blit p bs w ≡ over a at bs w
-begin_in a at p bs w h e = rw e (lay_after a at bs w h)
+zeros_over skip n m w h =
+    let e : n - (skip - 24) + (24 - skip) ≡ 24 + n - skip = omega arith in
+    let f : skip - 24 - n ≡ skip - (24 + n) = omega arith in
+    blit_min (n - (skip - 24) + (24 - skip)) m _ w h ∙ rw (e, f, drop-zeros (skip - (24 + n)) (8 - n % 8)) refl

@@ -1,5 +1,7 @@
 // Each block of the result, laid over a window of the file that begins at index a; the block stands at index at. What lies outside the window is left
 // out, so each takes any window, any index and any number, and a block apart from the window costs a test.
+#![tactic(auto)]
+
 ghost use Rattle.std.specs.Prelude.{◌≡◌, ◌+◌, ◌-◌, ◌*◌, ◌%◌, ◌^◌, ◌≤◌, true, length, replicate};
 ghost use Rattle.base.specs.Blit.{blit, part};
 ghost use Rattle.mdf.specs.Block.{data_at};
@@ -12,7 +14,7 @@ ghost use Rattle.window_blocks.specs.Tail.{dl_data, dl_tail};
 
 use blocks::block::{MD, data_at};
 use filling::{put_cg, put_cn, put_cn_data, put_dg, put_dl, put_dl_data, put_fh, put_hd, put_md};
-use puts::{least, put_u64, zero};
+use puts::{put_u64, zero};
 use windows::{lay, lay_header, lay_u64};
 
 // Whether n bytes at index at lie apart from a window of so many bytes from a on.
@@ -20,15 +22,10 @@ pub fn apart(room: usize, a: u64, at: u64, n: u64) -> bool
     ensures { result ≡ true → Apart room a at n }
 {
     if at <= a {
-        if a - at < n {
-            return false;
-        }
-        return true;
+        n <= a - at
+    } else {
+        room as u64 <= at - a
     }
-    if at - a < room as u64 {
-        return false;
-    }
-    true
 }
 
 // The new FH.
@@ -82,10 +79,7 @@ fn data_there(image: &[u8], g: u64, i: u64, n: u64) -> u64
 {
     let all = image.len() as u64;
     let from = data_at(image, g);
-    if all - from <= i {
-        return 0;
-    }
-    least(n, all - (from + i))
+    n.min((all - from).saturating_sub(i))
 }
 
 // How many bytes a column's CG has that is made from the CG at g.
@@ -185,18 +179,6 @@ pub fn lay_cn_data(
     lay(w, a, at, &block, 0, n);
 }
 
-// The product modulo 2^64.
-fn times(x: u64, y: u64) -> u64
-    ensures { result ≡ x * y % 2 ^ 64 }
-{
-    let low = x % 0x1_0000_0000;
-    let high = x / 0x1_0000_0000;
-    let less = y % 0x1_0000_0000;
-    let more = y / 0x1_0000_0000;
-    let mid = (high * less % 0x1_0000_0000 + low * more % 0x1_0000_0000) % 0x1_0000_0000;
-    std::num::wrapping_add_u64(low * less, mid * 0x1_0000_0000)
-}
-
 // The data of a DL of n blocks.
 fn lay_dl_data(w: &mut [u8], a: u64, at: u64, payload: u64, n: u64)
     ensures { w.new ≡ over a at (dl_data payload n) w.old }
@@ -216,18 +198,16 @@ fn put_tail(w: &mut [u8], at: usize, payload: u64, n: u64, k: u64, b: u64)
     if w.len() <= at {
         return;
     }
-    let step = std::num::wrapping_add_u64(24, payload);
-    let mut left = k;
+    let step = payload.wrapping_add(24);
     let mut p = at;
     let mut next = b;
-    while 0 < left {
+    for _i in 0..k {
         put_u64(w, p, next);
         if w.len() - p <= 8 {
             return;
         }
         p += 8;
-        next = std::num::wrapping_add_u64(next, step);
-        left -= 1;
+        next = next.wrapping_add(step);
     }
     lay_dl_data(w, 0, p as u64, payload, n);
 }
@@ -242,10 +222,10 @@ fn lay_tail(w: &mut [u8], skip: u64, payload: u64, n: u64, first: u64)
         lay_dl_data(w, skip - 8 * n, 0, payload, n);
         return;
     }
-    let step = std::num::wrapping_add_u64(24, payload);
-    let b = std::num::wrapping_add_u64(first, times(i, step));
+    let step = payload.wrapping_add(24);
+    let b = first.wrapping_add(i.wrapping_mul(step));
     lay_u64(w, skip % 8, 0, b);
-    let next = std::num::wrapping_add_u64(b, step);
+    let next = b.wrapping_add(step);
     put_tail(w, (8 - skip % 8) as usize, payload, n, n - i - 1, next);
 }
 
@@ -284,28 +264,12 @@ pub fn lay_dl(w: &mut [u8], a: u64, at: u64, payload: u64, n: u64, first: u64)
 fn lay_padding(w: &mut [u8], skip: u64, n: u64)
     ensures { w.new ≡ over skip (24 + n) (replicate (8 - n % 8) 0) w.old }
 {
-    let k = 8 - n % 8;
-    if skip < 24 {
-        let front = 24 - skip;
-        let room = w.len() as u64;
-        if room < front {
-            return;
-        }
-        if room - front < n {
-            return;
-        }
-        zero(w, (front + n) as usize, k);
-        return;
-    }
-    let past = skip - 24;
-    if past <= n {
-        zero(w, (n - past) as usize, k);
-        return;
-    }
-    if k <= past - n {
-        return;
-    }
-    zero(w, 0, k - (past - n));
+    let past = skip.saturating_sub(24);
+    let to = n
+        .saturating_sub(past)
+        .saturating_add(24u64.saturating_sub(skip));
+    let cut = past.saturating_sub(n);
+    zero(w, to as usize, (8 - n % 8).saturating_sub(cut));
 }
 
 // The MD with the history text, over a window that begins skip bytes past where it begins.
@@ -313,7 +277,7 @@ fn lay_md_from(w: &mut [u8], skip: u64, text: &[u8])
     ensures { w.new ≡ over skip 0 (md_bytes text.now) w.old }
 {
     let n = text.len() as u64;
-    lay_header(w, skip, 0, MD, std::num::wrapping_add_u64(n / 8 * 8, 32), 0);
+    lay_header(w, skip, 0, MD, (n / 8 * 8).wrapping_add(32), 0);
     lay(w, skip, 24, text, 0, n);
     lay_padding(w, skip, n);
 }
@@ -331,10 +295,8 @@ pub fn lay_md(w: &mut [u8], a: u64, at: u64, text: &[u8])
         return;
     }
     let skip = a - at;
-    if 32 <= skip {
-        if text.len() as u64 <= skip - 32 {
-            return;
-        }
+    if 32 <= skip && text.len() as u64 <= skip - 32 {
+        return;
     }
     lay_md_from(w, skip, text);
 }

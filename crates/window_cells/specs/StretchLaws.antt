@@ -1,8 +1,9 @@
 -- The cells of records at equal distances over a window: those before it, those in it, those past it.
-use Rattle.std.specs.Prelude.{ℕ, zero, suc, ◌+◌, ◌-◌, ◌*◌, ◌/◌, ◌%◌, ◌≤◌, ◌<◌, Bool, true, false, ◌≡◌, refl, ◌⊎◌, length}
-use mathlib.Core.List.{List, [], ◌∷◌, ◌++◌, append-nil}
-use Rattle.std.proofs.Common.{sym, ap, subst, ◌∙◌, inl, inr, ⊎_elim, zero-mul, one-mul, suc-mul, add-zero, add-mul, mul-le-mul_right, div-mul-le_self, div-lt_iff_lt-mul, arith}
-use Rattle.base.specs.Blit.{blit, part}
+use Rattle.std.specs.Prelude.{ℕ, zero, suc, ◌+◌, ◌-◌, ◌*◌, ◌/◌, ◌≤◌, ◌<◌, ◌≡◌, refl, ◌⊎◌, length}
+use mathlib.Core.List.{List, ◌++◌, append-nil}
+use Rattle.std.proofs.Common.{sym, ap, subst, ◌∙◌, inl, inr, ⊎_elim, zero-mul, one-mul, suc-mul, add-mul, mul-le-mul_right, div-lt_iff_lt-mul, arith}
+use Rattle.std.proofs.Math.Nat.{zero-div}
+use Rattle.base.specs.Blit.{blit}
 use Rattle.base.specs.BlitLaws.{length-blit}
 use Rattle.base.specs.ChoiceLaws.{le_yes, le_no}
 use Rattle.mdf.specs.Records.{most64, joined, size_of}
@@ -17,7 +18,6 @@ use Rattle.stores.specs.Over.{over}
 use Rattle.stores.specs.OverLaws.{over-append, over_before, length_over}
 use Rattle.cells.specs.declared.cell.Shape.{Shape}
 use Rattle.cells.specs.Spot.{Readable}
-use Rattle.cells.specs.Strided.{Lying}
 use Rattle.cells.specs.SpotLaws.{cells-size, product_below}
 use Rattle.windows.specs.LayLaws.{lay_after}
 use Rattle.windows.specs.WindowedLaws.{over-past}
@@ -173,13 +173,12 @@ room-left room w m z e =
     let k = (div-lt_iff_lt-mul {k = w} {x = room} {y = suc m} z).0 (omega (arith, e)) in
     omega (arith, k, suc-mul m w)
 
-pub passed_none : (a at w : ℕ) → a ≤ at → 0 ≡ passed_of a at w
+pub passed-is : (a at w : ℕ) → (a - at) / w ≡ passed_of a at w
 unfolding passed_of
-passed_none a at w k = le_yes _ _ _ _ k refl
-
-pub passed-some : (a at w : ℕ) → at < a → (a - at) / w ≡ passed_of a at w
-unfolding passed_of
-passed-some a at w k = le_no _ _ _ _ k refl
+passed-is a at w = ⊎_elim
+    (λ l. le_no _ _ _ _ l refl)
+    (λ l. let z : a - at ≡ 0 = omega arith in rw z (zero-div w ∙ le_yes _ _ _ _ l refl))
+    (lt_or_le at a)
 
 -- ---- what the code does, case by case
 module _ {s ws : List ℕ} {h : Shape} (d : Readable s ws h) (r : Run) (l : LyingIn ws h r) where

@@ -32,14 +32,13 @@ pub fn lay_cell(
 )
     ensures { LaysCell image.now fragments.now h a at offset w.old w.new }
 {
-    if 18446744073709551615 - offset < h.first {
+    let Some(from) = offset.checked_add(h.first) else {
         return;
-    }
-    if 18446744073709551615 - at < h.bytes {
+    };
+    let Some(place) = at.checked_add(h.bytes) else {
         return;
-    }
-    let place = at + h.bytes;
-    lay_joined(w, a, at, image, fragments, offset + h.first, h.bytes);
+    };
+    lay_joined(w, a, at, image, fragments, from, h.bytes);
     if !h.keep {
         return;
     }

@@ -22,9 +22,9 @@ pub fn lay_joined(
     if v.count == 0 {
         return;
     }
-    if 18446744073709551615 - offset < v.skip {
+    let Some(from) = offset.checked_add(v.skip) else {
         return;
-    }
-    let k = reach(fragments, begin(), offset + v.skip);
+    };
+    let k = reach(fragments, begin(), from);
     copy_joined(w, v.to as usize, image, fragments, k.cursor, v.count);
 }

@@ -20,16 +20,10 @@ pub struct Run {
 fn is_laid(h: Shape, r: Run) -> bool
     ensures { (result ≡ true → Lain h r) × (Lain h r → result ≡ true) }
 {
-    if r.n == 0 {
-        return false;
-    }
-    if h.width == 0 {
-        return false;
-    }
-    if !product_within(r.n, h.width, 18446744073709551615 - r.at) {
-        return false;
-    }
-    product_within(r.n - 1, r.stride, 18446744073709551615 - r.first)
+    r.n != 0
+        && h.width != 0
+        && product_within(r.n, h.width, u64::MAX - r.at)
+        && product_within(r.n - 1, r.stride, u64::MAX - r.first)
 }
 
 // The records past the first i.
@@ -50,10 +44,7 @@ fn passed(a: u64, at: u64, w: u64) -> u64
     requires { 0 < w }
     ensures { result ≡ passed_of a at w }
 {
-    if a <= at {
-        return 0;
-    }
-    (a - at) / w
+    a.saturating_sub(at) / w
 }
 
 // The cells of a run that begins in the window or past it: those that lie whole in it, and the one that is cut off at its end.

@@ -1,19 +1,16 @@
 -- The data of all columns over a window: what is left to lay, laid, gives the whole.
-use Rattle.std.specs.Prelude.{ℕ, zero, suc, ◌+◌, ◌-◌, ◌*◌, ◌≤◌, ◌<◌, List, [], ◌∷◌, ◌++◌, ◌≡◌, refl, length}
+use Rattle.std.specs.Prelude.{ℕ, ◌+◌, ◌-◌, ◌≤◌, ◌<◌, List, [], ◌∷◌, ◌++◌, ◌≡◌, refl, length}
 use Rattle.std.proofs.Common.{⊎_elim, sym, ap, subst, ◌∙◌}
 use native.Mathlib.Omega.{arith}
-use Rattle.base.specs.Checked.{fine}
-use Rattle.mdf.specs.Records.{most64, ranges_in}
-use Rattle.work_words.specs.Words.{fragments_of}
+use Rattle.mdf.specs.Records.{most64}
 use Rattle.result.specs.Fill.{Block}
 use Rattle.result.specs.Ordered.{Ordered}
 use Rattle.copies_laws.specs.OrderLaws.{ordered-ends}
-use Rattle.stores.specs.Over.{over}
 use Rattle.windows.specs.Windowed.{over_all}
 use Rattle.windows.specs.WindowedLaws.{over-two}
 use Rattle.window_order.specs.PassedLaws.{before_same, from_zero, back_ordered}
 use Rattle.writing.specs.declared.data.Entry.{Entry}
-use Rattle.writing.specs.Data.{entry_in, entry_blocks, signal_words, entry_signal, data_from, EntryReady, DataReady, Kept}
+use Rattle.writing.specs.Data.{entry_in, entry_blocks, entry_signal, data_from, DataReady, Kept}
 use Rattle.writing.specs.DataLaws.{data_open}
 use Rattle.window_columns.specs.Columns.{LaysEntry, LaysSD, SignalsIn, LaysData, HasBlocks, Begun}
 use Rattle.window_columns.specs.PassedLaws.{blocks_until, blocks-past, data_split}

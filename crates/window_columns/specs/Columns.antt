@@ -1,5 +1,5 @@
 -- Bookkeeping: the data blocks and signal data of columns over a window.
-use Rattle.std.specs.Prelude.{ℕ, ◌+◌, ◌-◌, ◌*◌, ◌≤◌, ◌<◌, true, false, List, ◌⊎◌, ◌≡◌, length}
+use Rattle.std.specs.Prelude.{ℕ, ◌+◌, ◌-◌, ◌*◌, ◌≤◌, ◌<◌, Option, Some, None, List, ◌⊎◌, ◌≡◌, length}
 use Rattle.base.specs.Checked.{fine}
 use Rattle.mdf.specs.Records.{most64, ranges_in}
 use Rattle.work_words.specs.Words.{fragments_of}
@@ -7,7 +7,6 @@ use Rattle.result.specs.Ordered.{Ordered}
 use Rattle.stores.specs.Over.{over}
 use Rattle.windows.specs.Windowed.{over_all}
 use Rattle.writing.specs.declared.data.Entry.{Entry}
-use Rattle.window_columns.specs.declared.Size.{Size}
 use Rattle.writing.specs.Data.{entry_in, entry_count, entry_bytes, entry_blocks, signal_words, entry_signal, data_from, EntryReady, DataReady, Kept}
 
 -- the blocks of a column are laid over a window that begins at index a of them, and the places that are kept stay right
@@ -17,9 +16,9 @@ LaysOwn s size w n fs nf e a p last-p q last-q v last =
     → Kept s w n fs nf last-p last-q × (last ≡ over a 0 (entry_bytes s size w n fs nf e) v)
 
 -- how many bytes b blocks have that hold x bytes of each of n records, or that it is no number
-pub record SizeOf (b x n : ℕ) (r : Size) : Type 0 where
-  pub yes : r.known ≡ true → r.bytes ≡ 24 * b + x * n
-  pub no : r.known ≡ false → most64 < 24 * b + x * n
+abbrev pub SizeOf : ℕ → ℕ → ℕ → Option ℕ → Type 0
+SizeOf b x n (Some m) = m ≡ 24 * b + x * n
+SizeOf b x n None = most64 < 24 * b + x * n
 
 -- the blocks of a column are laid over a window that begins at a
 abbrev pub LaysEntry : List ℕ → ℕ → List ℕ → ℕ → List ℕ → ℕ → Entry → ℕ → List ℕ → List ℕ → List ℕ → List ℕ → List ℕ → List ℕ → Type 0

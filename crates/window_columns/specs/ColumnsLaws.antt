@@ -1,7 +1,6 @@
 -- The data blocks and signal data of columns over a window.
-use Rattle.std.specs.Prelude.{ℕ, ◌+◌, ◌-◌, ◌*◌, ◌≤◌, ◌<◌, Bool, true, false, not, List, [], ◌∷◌, ◌++◌, ◌≡◌, length}
-use Rattle.std.proofs.lemmas.Bool.{false≢true}
-use Rattle.std.proofs.Common.{⊎_elim, mul_comm, sym, ap, ◌∙◌, arith}
+use Rattle.std.specs.Prelude.{ℕ, ◌+◌, ◌-◌, ◌*◌, ◌≤◌, ◌<◌, Option, Some, None, List, [], ◌∷◌, ◌≡◌, length}
+use Rattle.std.proofs.Common.{sym, ap, ◌∙◌, arith}
 use Rattle.std.proofs.Math.Path.{refl}
 use Rattle.base.specs.Checked.{fine}
 use Rattle.mdf.specs.Block.{kind_sd}
@@ -30,11 +29,8 @@ use Rattle.window_data.specs.Blocks.{LaysBlocks}
 use Rattle.writing.specs.declared.data.Entry.{Entry}
 use Rattle.writing.specs.declared.own.Own.{Own}
 use Rattle.writing.specs.Own.{OwnOf, own_words, own_groups, groups_at, words_at}
-use Rattle.writing.specs.Data.{entry_column, entry_records, entry_payloads, entry_kind, entry_bytes, entry_blocks, signal_words, entry_signal, EntryReady, Kept}
+use Rattle.writing.specs.Data.{entry_column, entry_records, entry_payloads, entry_kind, entry_bytes, entry_blocks, signal_words, entry_signal, EntryReady}
 use Rattle.writing.specs.DataLaws.{bytes_are, blocks_ready, count_is, size_is, bytes-room, no_signal_lem, signal_some, signal_room}
-use Rattle.places.specs.FacingLaws.{not-true}
-use Rattle.stores.specs.Cases.{lt_or_le}
-use Rattle.window_columns.specs.declared.Size.{Size}
 use Rattle.window_columns.specs.Columns.{SizeOf, LaysOwn}
 
 -- blocks one after the other are laid as one run of bytes
@@ -115,28 +111,9 @@ module _ (s fs : List ℕ) (e : Entry) (a : ℕ) (v : List ℕ) where
       omega (arith, h.1, length_framed kind_sd (joined s (fragments_of (signal_words fs e))), joined_length s (fragments_of (signal_words fs e)) r)
 
 -- ---- sizes
-said : {A : Type 0} {t : Bool} → not t ≡ true → (A → t ≡ true) → A → ⊥
-said {A} {t} e f a = false≢true (sym (not-true t e) ∙ f a)
-
-over_most : (m : ℕ) → (m ≤ most64 → ⊥) → most64 < m
-over_most m h = ⊎_elim (λ l. l) (λ l. absurd (h l)) (lt_or_le most64 m)
-
-pub size_heads : (b x n : ℕ) {t : Bool} → (b * 24 ≤ most64 → t ≡ true) → not t ≡ true → SizeOf b x n (record { known = false; bytes = 0 })
-size_heads b x n f e = record {
-  yes = λ z. absurd (false≢true z);
-  no = λ z. omega (arith, over_most (b * 24) (said e f), mul_comm b 24);
-}
-
-pub size-rest : (b x n heads : ℕ) {t : Bool} → heads ≡ b * 24 → heads ≤ most64 → (x * n ≤ most64 - heads → t ≡ true) → not t ≡ true
-    → SizeOf b x n (record { known = false; bytes = 0 })
-size-rest b x n heads h k f e = record {
-  yes = λ z. absurd (false≢true z);
-  no = λ z. ⊎_elim (λ l. omega (arith, l, h, k, mul_comm b 24)) (λ l. absurd (said e f l)) (lt_or_le (most64 - heads) (x * n));
-}
-
-pub size-known : (b x n heads : ℕ) → heads ≡ b * 24 → SizeOf b x n (record { known = true; bytes = heads + x * n })
-size-known b x n heads h = record { yes = λ z. omega (arith, h, mul_comm b 24); no = λ z. absurd (false≢true (sym z)) }
-
 -- a size that is no number is none of blocks that have room
-pub size_there : {b x n : ℕ} {r : Size} → SizeOf b x n r → not r.known ≡ true → 24 * b + x * n ≤ most64 → ⊥
-size_there {r = r} v e h = omega (arith, v.no (not-true r.known e), h)
+pub size_there : (b x n : ℕ) {o : Option ℕ} → SizeOf b x n o → o ≡ None → 24 * b + x * n ≤ most64 → ⊥
+size_there b x n s e h = let l : most64 < 24 * b + x * n = rw e at s in omega (arith, l, h)
+
+pub size_known : (b x n : ℕ) {m : ℕ} {o : Option ℕ} → SizeOf b x n o → o ≡ Some m → m ≡ 24 * b + x * n
+size_known b x n s e = rw e at s

@@ -1,10 +1,11 @@
 // The data blocks and signal data of columns over a window of the file.
+#![tactic(auto)]
+
 ghost use Rattle.std.specs.Prelude.{◌≡◌, true, ◌+◌, ◌-◌, ◌≤◌, length};
 ghost use Rattle.writing.specs.Own.{OwnOf};
 ghost use Rattle.writing.specs.Data.{Tables};
 ghost use Rattle.window_columns.specs.Columns.{SizeOf, LaysOwn, LaysEntry, LaysSD, LaysData, HasBlocks, Begun};
 
-use cells::run::product_within;
 use channels::{block_count, width_of};
 use data_blocks::column::Column;
 use window_blocks::apart;
@@ -13,24 +14,42 @@ use window_data::signal::lay_signal;
 use writing::data::{Entry, entry_of};
 use writing::own::{Own, own_of};
 
+// What was read of the recording: its image, the bytes that a data block may have, the words of its blocks, so many, and the fragments of its records.
+#[derive(Clone, Copy)]
+struct Recording<'a> {
+    image: &'a [u8],
+    size: u64,
+    source: &'a [u64],
+    n: u64,
+    fragments: &'a [u64],
+    nf: u64,
+    ghost tables: { Tables source.now fragments.now nf },
+}
+
+// The columns' words and those of their places, of so many columns.
+#[derive(Clone, Copy)]
+struct Columns<'a> {
+    columns: &'a [u64],
+    memo: &'a [u64],
+    number: u64,
+    ghost few: { number ≤ 512 },
+    ghost long: { 4096 ≤ length columns.now },
+    ghost placed: { 8192 ≤ length memo.now },
+}
+
 // The data blocks of column e, over a window that begins at index a of them; o is what is held of its DG.
 fn lay_own(
     w: &mut [u8],
     a: u64,
-    image: &[u8],
-    size: u64,
-    source: &[u64],
-    n: u64,
-    fragments: &[u64],
-    nf: u64,
+    r: &Recording<'_>,
     pool: &mut [u64],
     words: &mut [u64],
     e: Entry,
     o: Own,
 )
-    requires { Tables source.now fragments.now nf × OwnOf source.now n nf e.parent o }
-    ensures { LaysOwn image.now size source.now n fragments.now nf e a pool.old pool.new
-        words.old words.new w.old w.new }
+    requires { OwnOf r.now.source.now r.now.n r.now.nf e.parent o }
+    ensures { LaysOwn r.now.image.now r.now.size r.now.source.now r.now.n r.now.fragments.now r.now.nf e a
+        pool.old pool.new words.old words.new w.old w.new }
 {
     let p = (3 * o.begin) as usize;
     let q = (3 * o.end) as usize;
@@ -41,11 +60,11 @@ fn lay_own(
     lay_blocks(
         w,
         a,
-        image,
-        size,
-        &source[f..l],
-        &source[g..h],
-        &fragments[p..q],
+        r.image,
+        r.size,
+        &r.source[f..l],
+        &r.source[g..h],
+        &r.fragments[p..q],
         pool,
         words,
         Column {
@@ -58,98 +77,38 @@ fn lay_own(
 }
 
 // How many bytes blocks have, so many of them with x bytes of each of n records, if that is a number.
-#[derive(Drop)]
-pub struct Size {
-    pub known: bool,
-    pub bytes: u64,
-}
-
-fn size_of(count: u64, x: u64, n: u64) -> Size
+fn size_of(count: u64, x: u64, n: u64) -> Option<u64>
     ensures { SizeOf count x n result }
 {
-    let none = Size {
-        known: false,
-        bytes: 0,
-    };
-    if !product_within(count, 24, 18446744073709551615) {
-        return none;
-    }
-    let heads = count * 24;
-    if !product_within(x, n, 18446744073709551615 - heads) {
-        return none;
-    }
-    Size {
-        known: true,
-        bytes: heads + x * n,
-    }
+    count.checked_mul(24)?.checked_add(x.checked_mul(n)?)
 }
 
 // The data blocks of column e.
-fn lay_entry(
-    w: &mut [u8],
-    a: u64,
-    image: &[u8],
-    size: u64,
-    source: &[u64],
-    n: u64,
-    fragments: &[u64],
-    nf: u64,
-    pool: &mut [u64],
-    words: &mut [u64],
-    e: Entry,
-)
-    requires { Tables source.now fragments.now nf }
-    ensures { LaysEntry image.now size source.now n fragments.now nf e a pool.old pool.new
-        words.old words.new w.old w.new }
+fn lay_entry(w: &mut [u8], a: u64, r: &Recording<'_>, pool: &mut [u64], words: &mut [u64], e: Entry)
+    ensures { LaysEntry r.now.image.now r.now.size r.now.source.now r.now.n r.now.fragments.now r.now.nf e a
+        pool.old pool.new words.old words.new w.old w.new }
 {
-    let x = width_of(image, e.group, e.channel);
-    let count = block_count(size, x, e.records);
+    let x = width_of(r.image, e.group, e.channel);
+    let count = block_count(r.size, x, e.records);
     if count == 0 {
         return;
     }
-    let all = size_of(count, x, e.records);
-    if !all.known {
+    let Some(bytes) = size_of(count, x, e.records) else {
+        return;
+    };
+    if apart(w.len(), a, e.first, bytes) {
         return;
     }
-    if apart(w.len(), a, e.first, all.bytes) {
-        return;
-    }
-    let o = own_of(source, n, nf, e.parent);
+    let o = own_of(r.source, r.n, r.nf, e.parent);
     if e.first <= a {
-        lay_own(
-            w,
-            a - e.first,
-            image,
-            size,
-            source,
-            n,
-            fragments,
-            nf,
-            pool,
-            words,
-            e,
-            o,
-        );
+        lay_own(w, a - e.first, r, pool, words, e, o);
         return;
     }
     let skip = (e.first - a) as usize;
     if w.len() <= skip {
         return;
     }
-    lay_own(
-        &mut w[skip..],
-        0,
-        image,
-        size,
-        source,
-        n,
-        fragments,
-        nf,
-        pool,
-        words,
-        e,
-        o,
-    );
+    lay_own(&mut w[skip..], 0, r, pool, words, e, o);
 }
 
 // The SD of column e, if it has signal data.
@@ -161,10 +120,7 @@ fn lay_sd(w: &mut [u8], a: u64, image: &[u8], fragments: &[u64], e: Entry)
     }
     let all = fragments.len() as u64 / 3;
     let before = e.signal - 1;
-    if all < before {
-        return;
-    }
-    if all - before < e.pieces {
+    if all < before || all - before < e.pieces {
         return;
     }
     let p = (3 * before) as usize;
@@ -176,100 +132,77 @@ fn lay_sd(w: &mut [u8], a: u64, image: &[u8], fragments: &[u64], e: Entry)
 fn has_blocks(image: &[u8], size: u64, e: Entry) -> bool
     ensures { result ≡ true → HasBlocks image.now size e }
 {
-    let x = width_of(image, e.group, e.channel);
-    let count = block_count(size, x, e.records);
-    if count == 0 {
-        return false;
-    }
-    true
+    block_count(size, width_of(image, e.group, e.channel), e.records) != 0
 }
 
 // Whether it has data blocks and they begin by index a.
 fn begun(a: u64, image: &[u8], size: u64, e: Entry) -> bool
     ensures { result ≡ true → (e.first ≤ a) × HasBlocks image.now size e }
 {
-    if a < e.first {
-        return false;
-    }
-    has_blocks(image, size, e)
+    e.first <= a && has_blocks(image, size, e)
 }
 
 // Whether it has data blocks and they begin past a window of so many bytes from a on.
 fn past(room: usize, a: u64, image: &[u8], size: u64, e: Entry) -> bool
     ensures { result ≡ true → (a + room ≤ e.first) × HasBlocks image.now size e }
 {
-    if e.first < a {
-        return false;
-    }
-    if e.first - a < room as u64 {
-        return false;
-    }
-    has_blocks(image, size, e)
+    a <= e.first && room as u64 <= e.first - a && has_blocks(image, size, e)
 }
 
-// Of so many columns whose places ascend, the last whose first data block's place is at most a, 0 where there is none.
-fn near(memo: &[u64], number: u64, a: u64) -> u64
-    requires { (number ≤ 512) × (8192 ≤ length memo.now) }
-    ensures { result ≤ number - 1 }
-{
-    let mut low = 0;
-    let mut high = number;
-    while low + 1 < high {
-        let mid = (low + high) / 2;
-        if memo[(6657 + 3 * mid) as usize] <= a {
-            low = mid;
-        } else {
-            high = mid;
+impl Columns<'_> {
+    // The last column whose first data block's place is at most a, of columns whose places ascend; 0 where there is none.
+    fn near(&self, a: u64) -> u64
+        ensures { result ≤ self.now.number - 1 }
+    {
+        let mut low = 0;
+        let mut high = self.number;
+        while low + 1 < high {
+            let mid = (low + high) / 2;
+            if self.memo[(6657 + 3 * mid) as usize] <= a {
+                low = mid;
+            } else {
+                high = mid;
+            }
         }
+        low
     }
-    low
-}
 
-// The last column whose data blocks begin by index a, 0 where there is none: what is before it ends by a.
-fn first_needed(a: u64, image: &[u8], size: u64, columns: &[u64], memo: &[u64], number: u64) -> u64
-    requires { (number ≤ 512) × (4096 ≤ length columns.now) × (8192 ≤ length memo.now) }
-    ensures { Begun image.now size columns.now memo.now number a result }
-{
-    let mut k = near(memo, number, a);
-    while 0 < k {
-        let e = entry_of(columns, memo, k);
-        if begun(a, image, size, e) {
-            return k;
+    // The last column whose data blocks begin by index a, 0 where there is none: what is before it ends by a.
+    fn first_needed(&self, a: u64, image: &[u8], size: u64) -> u64
+        ensures { Begun image.now size self.now.columns.now self.now.memo.now self.now.number a result }
+    {
+        let mut k = self.near(a);
+        while 0 < k {
+            let e = entry_of(self.columns, self.memo, k);
+            if begun(a, image, size, e) {
+                return k;
+            }
+            k -= 1;
         }
-        k -= 1;
+        0
     }
-    0
 }
 
-// The data of so many columns: of those that may have a byte in the window.
+// The data of these columns: of those that may have a byte in the window.
 fn lay_columns(
     w: &mut [u8],
     a: u64,
-    image: &[u8],
-    size: u64,
-    source: &[u64],
-    n: u64,
-    fragments: &[u64],
-    nf: u64,
-    columns: &[u64],
-    memo: &[u64],
-    number: u64,
+    r: &Recording<'_>,
+    c: &Columns<'_>,
     pool: &mut [u64],
     words: &mut [u64],
 )
-    requires { Tables source.now fragments.now nf × (number ≤ 512) × (4096 ≤ length columns.now) × (8192 ≤ length memo.now) }
-    ensures { LaysData image.now size source.now n fragments.now nf columns.now memo.now number a
+    ensures { LaysData r.now.image.now r.now.size r.now.source.now r.now.n r.now.fragments.now r.now.nf
+        c.now.columns.now c.now.memo.now c.now.number a
         pool.old pool.new words.old words.new w.old w.new }
 {
-    let mut k = first_needed(a, image, size, columns, memo, number);
-    while k < number {
-        let e = entry_of(columns, memo, k);
-        if past(w.len(), a, image, size, e) {
+    for k in c.first_needed(a, r.image, r.size)..c.number {
+        let e = entry_of(c.columns, c.memo, k);
+        if past(w.len(), a, r.image, r.size, e) {
             return;
         }
-        lay_entry(w, a, image, size, source, n, fragments, nf, pool, words, e);
-        lay_sd(w, a, image, fragments, e);
-        k += 1;
+        lay_entry(w, a, r, pool, words, e);
+        lay_sd(w, a, r.image, r.fragments, e);
     }
 }
 
@@ -293,22 +226,24 @@ pub fn lay_data(
         → LaysData image.now size source.now n fragments.now nf columns.now memo.now number a
         pool.old pool.new words.old words.new w.old w.new }
 {
-    if 512 < number {
-        return;
-    }
-    if source.len() < 8192 {
+    if 512 < number || source.len() < 8192 || columns.len() < 4096 || memo.len() < 8192 {
         return;
     }
     if fragments.len() as u64 / 3 < nf {
         return;
     }
-    if columns.len() < 4096 {
-        return;
-    }
-    if memo.len() < 8192 {
-        return;
-    }
-    lay_columns(
-        w, a, image, size, source, n, fragments, nf, columns, memo, number, pool, words,
-    );
+    let r = Recording {
+        image,
+        size,
+        source,
+        n,
+        fragments,
+        nf,
+    };
+    let c = Columns {
+        columns,
+        memo,
+        number,
+    };
+    lay_columns(w, a, &r, &c, pool, words);
 }

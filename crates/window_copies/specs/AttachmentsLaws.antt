@@ -1,6 +1,8 @@
 -- Laws of the attachments that stand in lent words.
-use Rattle.std.specs.Prelude.{ℕ, zero, suc, ◌+◌, ◌-◌, ◌*◌, ◌≤◌, ◌<◌, List, [], ◌∷◌, ◌≡◌, refl, get_or}
-use Rattle.std.proofs.Common.{sym, ◌∙◌, sub-one, arith}
+use Rattle.std.specs.Prelude.{ℕ, zero, suc, ◌+◌, ◌-◌, ◌*◌, ◌≤◌, ◌<◌, List, [], ◌∷◌, ◌≡◌, refl, get_or, length}
+use Rattle.std.proofs.Common.{⊎_elim, sym, ◌∙◌, sub-one, arith}
+use Rattle.std.proofs.Math.ListN.{get_or-eq_default}
+use Rattle.stores.specs.Cases.{lt_or_le}
 use Rattle.base.specs.Choice.{if_lt}
 use Rattle.base.specs.ChoiceLaws.{lt_yes, lt_no}
 use Rattle.result.specs.Fill.{next_attachment}
@@ -28,3 +30,7 @@ next-some w i n h e = record { is = λ k. next_of w (4100 + 3 * i) k (n - i) (lt
 
 pub next-none : (w : List ℕ) (i n : ℕ) → n ≤ i → NextPlace w i n 0
 next-none w i n h = record { is = λ k. next_of w (4100 + 3 * i) k (n - i) (lt_no 0 (n - i) _ _ (omega arith) refl) }
+
+-- the place of an attachment whose words aren't there counts as 0
+pub next_past : (w : List ℕ) (i n : ℕ) → length w ≤ 4100 + 3 * i + 1 → NextPlace w i n 0
+next_past w i n l = ⊎_elim (λ h. next-some w i n h (sym (get_or-eq_default w 0 l))) (λ h. next-none w i n h) (lt_or_le i n)

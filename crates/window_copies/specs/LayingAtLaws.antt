@@ -1,17 +1,16 @@
 -- Laws of attachments laid over a window one after the other.
 use Prim.{tt}
-use Rattle.std.specs.Prelude.{ℕ, zero, suc, ◌+◌, ◌-◌, ◌*◌, ◌≤◌, ◌<◌, ◌≡◌, refl, get_or}
-use mathlib.Core.List.{List, [], ◌∷◌, ◌++◌}
+use Rattle.std.specs.Prelude.{ℕ, ◌+◌, ◌-◌, ◌*◌, ◌≤◌, ◌<◌, ◌≡◌, get_or}
+use mathlib.Core.List.{List, [], ◌∷◌}
 use Rattle.std.proofs.Common.{sym, ap, ◌∙◌, arith}
 use Rattle.std.proofs.Math.Path.{subst}
 use Rattle.std.proofs.Math.ListN.{length, length-append}
 use Rattle.base.specs.Blit.{part}
 use Rattle.mdf.specs.Block.{size_at}
 use Rattle.plan.specs.Copies.{Copy, Attachment}
-use Rattle.work_words.specs.CopyWords.{attachments_at}
 use Rattle.copier.specs.Standing.{copies_from, copies_in}
 use Rattle.copier.specs.StandingLaws.{length-copies}
-use Rattle.result.specs.Fill.{block, copied_blocks, next_attachment, at_bytes, attachment_blocks}
+use Rattle.result.specs.Fill.{copied_blocks, next_attachment, at_bytes, attachment_blocks}
 use Rattle.copies_laws.specs.AttachLaws.{Moved, LaidAt, own_copies}
 use Rattle.copies_laws.specs.LengthLaws.{length_at}
 use Rattle.stores.specs.Over.{over}

@@ -2,7 +2,7 @@
 use Prim.{tt}
 use Rattle.std.specs.Prelude.{ℕ, zero, suc, ◌+◌, ◌-◌, ◌*◌, ◌≤◌, ◌<◌, false, ◌≡◌, refl, ltb, length, get_or, take, drop}
 use mathlib.Core.List.{List, [], ◌∷◌}
-use Rattle.std.proofs.Common.{sym, ◌∙◌, sub-one, arith, ltb-false}
+use Rattle.std.proofs.Common.{sym, ◌∙◌, arith, ltb-false}
 use Rattle.std.proofs.Math.Path.{ap, subst}
 use Rattle.base.specs.Blit.{part}
 use Rattle.mdf.specs.Block.{size_at}
@@ -118,4 +118,16 @@ pub passed_turn : {s words : List ℕ} {a n to from i : ℕ} → Passed s words 
     → Apart s a n (get_or words (2 * i) 0) (get_or words (2 * i + 1) 0) → Passed s words a n to from (i + 1)
 passed_turn {s} {words} {a} {n} {to} {from} {i} p h o = record {
   passed = λ chain m fh g w k t. laying_turn (p.passed chain m fh g w k t) h (λ x. apart_copy s chain m fh a n _ _ w o k x);
+}
+
+-- past the last there are none
+pub passed_end : {s words : List ℕ} {a n to from i : ℕ} → Passed s words a n to from i → to ≤ i → Passed s words a n to from to
+passed_end {s} {words} {a} {n} {to} {from} {i} p h = record {
+  passed = λ chain m fh g w k t.
+      let u = p.passed chain m fh g w k t in
+      let e : copies_from words (2 * i) (to - i) ≡ copies_from words (2 * to) (to - to) = copies-none words i to h ∙ sym (copies-none words to to (omega arith)) in
+      record {
+        wholes = subst (λ (cs : List Copy). Wholes s cs) e u.wholes;
+        rest = subst (λ (cs : List Copy). over_all a (copied_blocks s chain m fh cs) w ≡ g) e u.rest;
+      };
 }

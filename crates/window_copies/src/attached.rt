@@ -14,6 +14,7 @@ ghost use Rattle.window_copies.specs.LayingAt.{AllMoved};
 use crate::copies::{lay_copies, lies};
 use crate::lay_at;
 use copier::memo::index_copies;
+use copying::Copies;
 
 // The AT made of the one at from, which stands at index at of the file, by an index made for it where it has a byte in the window.
 fn lay_moved(
@@ -31,19 +32,25 @@ fn lay_moved(
 {
     if lies(image, a, w.len() as u64, from, at) {
         let index = index_copies(memo, used);
-        lay_at(w, a, at, image, memo, &index, used, from, next);
+        let copies = Copies {
+            image,
+            memo,
+            index: &index,
+            used,
+        };
+        lay_at(w, a, at, copies, from, next);
     }
 }
 
-// The place of attachment number i of count, 0 past the last.
-fn next_place(memo: &[u64], i: u64, count: u64) -> u64
-    requires { (count ≤ 64) × (4292 ≤ length memo.now) }
+// The place of attachment number i of count, 0 past the last. A word past the end counts as 0.
+pub fn next_place(memo: &[u64], i: u64, count: u64) -> u64
     ensures { NextPlace memo.now i count result }
 {
-    if i < count {
-        return memo[(4100 + 3 * i) as usize + 1];
+    let all = memo.len();
+    if count <= i || all < 4102 || i > ((all - 4102) / 3) as u64 {
+        return 0;
     }
-    0
+    memo[(4100 + 3 * i) as usize + 1]
 }
 
 // The copies number own up to end, then the AT made of the one at from.
@@ -88,18 +95,11 @@ pub fn lay_attachments(
         → w.new ≡ over_all a (attachment_blocks image.now (part history_at chain memo.now) (copies_in memo.now used) fh
         (attachments_in memo.now first count)) w.old }
 {
-    if 2050 < first {
+    if 2050 < first || 64 < count || memo.len() < 4292 {
         return;
     }
-    if 64 < count {
-        return;
-    }
-    if memo.len() < 4292 {
-        return;
-    }
-    let mut i: u64 = 0;
     let mut own = first;
-    while i < count {
+    for i in 0..count {
         let j = (4100 + 3 * i) as usize;
         let made = memo[j + 2];
         if 2050 - own < made {
@@ -122,6 +122,5 @@ pub fn lay_attachments(
             next,
         );
         own = end;
-        i += 1;
     }
 }

@@ -15,37 +15,27 @@ use crate::lay_copied;
 use blocks::block::size_at;
 use copier::memo::index_copies;
 use copying::history::index_chain;
+use copying::{Copies, HistoryChain};
 
 // Whether the copy of the block at from, at index at of the file, has a byte in the window of n bytes from a on.
 pub(crate) fn lies(image: &[u8], a: u64, n: u64, from: u64, at: u64) -> bool
     ensures { result ≡ false → Apart image.now a n from at }
 {
     if a <= at {
-        return at - a < n;
+        at - a < n
+    } else {
+        a - at < size_at(image, from)
     }
-    a - at < size_at(image, from)
 }
 
 // The copy of the block at from, which stands at index at of the file.
-fn lay_copy(
-    w: &mut [u8],
-    a: u64,
-    at: u64,
-    image: &[u8],
-    memo: &[u64],
-    index: &[u16; 4096],
-    chained: &[u16; 4096],
-    used: u64,
-    chain: u64,
-    fh: u64,
-    from: u64,
-)
-    ensures { Indexes memo.now used index.now → ChainIndexes memo.now chain chained.now
-        → Whole image.now from → w.new ≡ over a at (copied_bytes image.now (part history_at chain memo.now)
-        (copies_in memo.now used) fh from) w.old }
+fn lay_copy(w: &mut [u8], a: u64, at: u64, copies: Copies<'_>, history: HistoryChain<'_>, from: u64)
+    ensures { Indexes copies.entry.memo.now copies.entry.used copies.entry.index.now → ChainIndexes copies.entry.memo.now history.entry.chain history.entry.chained.now
+        → Whole copies.entry.image.now from → w.new ≡ over a at (copied_bytes copies.entry.image.now (part history_at history.entry.chain copies.entry.memo.now)
+        (copies_in copies.entry.memo.now copies.entry.used) history.entry.fh from) w.old }
 {
-    if lies(image, a, w.len() as u64, from, at) {
-        lay_copied(w, a, at, image, memo, index, chained, used, chain, fh, from);
+    if lies(copies.image, a, w.len() as u64, from, at) {
+        lay_copied(w, a, at, copies, history, from);
     }
 }
 
@@ -54,43 +44,34 @@ pub(crate) fn first_in(image: &[u8], memo: &[u64], a: u64, n: u64, from: u64, to
     requires { (to ≤ 2050) × (4100 ≤ length memo.now) }
     ensures { Passed image.now memo.now a n to from result }
 {
-    let mut i = from;
-    while i < to {
+    for i in from..to {
         let j = (2 * i) as usize;
         if lies(image, a, n, memo[j], memo[j + 1]) {
             return i;
         }
-        i += 1;
     }
-    i
+    to
 }
 
 // The copies number from up to to of those in the words; their index and that of the history chain are there.
 pub(crate) fn lay_copies_by(
     w: &mut [u8],
     a: u64,
-    image: &[u8],
-    memo: &[u64],
-    index: &[u16; 4096],
-    chained: &[u16; 4096],
-    used: u64,
-    chain: u64,
-    fh: u64,
+    copies: Copies<'_>,
+    history: HistoryChain<'_>,
     from: u64,
     to: u64,
 )
-    requires { (to ≤ 2050) × (4100 ≤ length memo.now) }
-    ensures { (g : List ℕ) → Indexes memo.now used index.now → ChainIndexes memo.now chain chained.now
-        → Laying image.now memo.now (part history_at chain memo.now) (copies_in memo.now used) fh a to g
+    requires { (to ≤ 2050) × (4100 ≤ length copies.memo.now) }
+    ensures { (g : List ℕ) → Indexes copies.entry.memo.now copies.entry.used copies.entry.index.now → ChainIndexes copies.entry.memo.now history.entry.chain history.entry.chained.now
+        → Laying copies.entry.image.now copies.entry.memo.now (part history_at history.entry.chain copies.entry.memo.now) (copies_in copies.entry.memo.now copies.entry.used) history.entry.fh a to g
         from w.old → w.new ≡ g }
 {
-    let mut i = from;
-    while i < to {
+    for i in from..to {
         let j = (2 * i) as usize;
-        let b = memo[j];
-        let at = memo[j + 1];
-        lay_copy(w, a, at, image, memo, index, chained, used, chain, fh, b);
-        i += 1;
+        let b = copies.memo[j];
+        let at = copies.memo[j + 1];
+        lay_copy(w, a, at, copies, history, b);
     }
 }
 
@@ -111,10 +92,7 @@ pub fn lay_copies(
         → w.new ≡ over_all a (copied_blocks image.now (part history_at chain memo.now) (copies_in memo.now used) fh
         (part from (to - from) (copies_in memo.now used))) w.old }
 {
-    if 2050 < to {
-        return;
-    }
-    if memo.len() < 4100 {
+    if 2050 < to || memo.len() < 4100 {
         return;
     }
     let first = first_in(image, memo, a, w.len() as u64, from, to);
@@ -123,7 +101,16 @@ pub fn lay_copies(
     }
     let index = index_copies(memo, used);
     let chained = index_chain(memo, chain);
-    lay_copies_by(
-        w, a, image, memo, &index, &chained, used, chain, fh, first, to,
-    );
+    let copies = Copies {
+        image,
+        memo,
+        index: &index,
+        used,
+    };
+    let history = HistoryChain {
+        chained: &chained,
+        chain,
+        fh,
+    };
+    lay_copies_by(w, a, copies, history, first, to);
 }

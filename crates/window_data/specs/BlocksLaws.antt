@@ -10,7 +10,7 @@ use Rattle.offsets.specs.declared.kept.Offsets.{Offsets}
 use Rattle.stores.specs.Over.{over}
 use Rattle.data_blocks.specs.declared.column.Column.{Column}
 use Rattle.data_blocks.specs.declared.piece.Form.{Form}
-use Rattle.data_blocks.specs.declared.total.Total.{Total}
+use Rattle.std.specs.Prelude.{Option, None}
 use Rattle.data_blocks.specs.Region.{Formed}
 use Rattle.data_blocks.specs.Filled.{TotalOf}
 use Rattle.data_blocks.specs.Blocks.{column_records, PlacesKept}
@@ -92,8 +92,8 @@ module _ (a : ℕ) (s : List ℕ) (size : ℕ) (gs ws : List ℕ) (c : Column) (
       pub laid_full : (b : Bool) → IfRoom most64 f b → not b ≡ true → LaysBlocks a s size gs ws c p p q q w w
       laid_full b r n gs_of ws_of x y h d = absurd (r.no (not-true b n) (ready_room o z d))
 
-      pub laid_outside : {t : Total} → TotalOf s ws t → not t.known ≡ true → LaysBlocks a s size gs ws c p p q q w w
-      laid_outside {t} r n gs_of ws_of x y h d = absurd (ready_total o z d r (not-true t.known n))
+      pub laid_outside : {t : Option ℕ} → TotalOf s ws t → t ≡ None → LaysBlocks a s size gs ws c p p q q w w
+      laid_outside r n gs_of ws_of x y h d = absurd (ready_total o z d r n)
 
       -- all its records are laid: so are its blocks
       pub laid-blocks : {last-p last-q last : List ℕ} → LaysRecords a s gs ws c f p last-p q last-q w last

@@ -1,11 +1,10 @@
 -- Laws of the records of a group in the blocks of its column over a window, stretch by stretch.
-use Rattle.std.specs.Prelude.{ℕ, zero, suc, ◌+◌, ◌-◌, ◌*◌, ◌/◌, ◌%◌, ◌≤◌, ◌<◌, max, min, Bool, true, false, not, List, ◌∷◌, ◌++◌, ◌≡◌, length, get_or, take}
+use Rattle.std.specs.Prelude.{ℕ, ◌+◌, ◌-◌, ◌*◌, ◌/◌, ◌≤◌, ◌<◌, max, min, Bool, true, not, List, ◌++◌, ◌≡◌, length, take}
 use Rattle.std.proofs.Math.Logic.{⊎_elim}
 use Rattle.std.proofs.Math.Path.{refl, ap}
-use Rattle.std.proofs.Common.{sym, ◌∙◌, subst, mul_comm, mul_assoc, one-mul, mul-le-mul_left, mul-one, div-le_self, div-lt_iff_lt-mul, zero-mul, mod-lt, div-add-mod', add-one, arith, take_all}
+use Rattle.std.proofs.Common.{◌∙◌, subst, mul_comm, mul_assoc, one-mul, mul-le-mul_left, mul-one, div-lt_iff_lt-mul, add-one, arith, take_all}
 use Rattle.std.proofs.Math.Nat.{mul-add, add-mul, mul-le-mul_right, div-mul-le_self, suc-mul}
-use Rattle.base.specs.Checked.{fine}
-use Rattle.mdf.specs.Records.{most64, ranges_in, joined, size_of}
+use Rattle.mdf.specs.Records.{most64, size_of}
 use Rattle.work_words.specs.Words.{fragments_of}
 use Rattle.result.specs.Payload.{group_records}
 use Rattle.places.specs.declared.stretch.Stretch.{Stretch}
@@ -20,12 +19,12 @@ use Rattle.stores.specs.Over.{over}
 use Rattle.cells.specs.Shape.{Shaped}
 use Rattle.cells.specs.Spot.{Readable}
 use Rattle.data_blocks.specs.declared.piece.Form.{Form}
-use Rattle.data_blocks.specs.Region.{region_of, begun, filled_to, reach_to, Formed, Due, PieceIn, places_of, PieceOf}
+use Rattle.data_blocks.specs.Region.{region_of, begun, filled_to, reach_to, Formed, places_of, PieceOf}
 use Rattle.payload_laws.specs.GeometryLaws.{split_some}
-use Rattle.data_blocks.specs.RegionLaws.{to-first, piece_back, region_full}
+use Rattle.data_blocks.specs.RegionLaws.{piece_back, region_full}
 use Rattle.data_blocks.specs.Filled.{Usable, IfUsable, past_of}
 use Rattle.data_blocks.specs.FilledLaws.{not_usable, body_is, stretch_usable}
-use Rattle.window_data.specs.Region.{GrownIn, start_at, LaysPiece}
+use Rattle.window_data.specs.Region.{start_at, LaysPiece}
 use Rattle.window_data.specs.RegionLaws.{grown_past, grown_before, start_reached, reach_more}
 use Rattle.window_data.specs.Filled.{FormIn, FromOf, LaysRest, FilledIn, LaysAll}
 

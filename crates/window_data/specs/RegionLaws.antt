@@ -1,7 +1,7 @@
 -- The data blocks of a column over a window, piece by piece.
-use Prim.Native.Nat.{ℕ, zero, suc, ◌+◌, ◌*◌, ◌-◌, ◌/◌, ◌%◌, ◌≤◌, ◌<◌, min}
-use mathlib.Core.List.{List, [], ◌∷◌, ◌++◌}
-use Rattle.std.proofs.Common.{⊎_elim, ap, ◌∙◌, add-zero, zero-mul, zero-add, add-mul, mul-le-mul_right, div-mul-le_self, div-lt_iff_lt-mul, arith, length-append, drop_of_length-le, length-take, take_at, drop_at, take-add, take_all, length-take-le}
+use Prim.Native.Nat.{ℕ, ◌+◌, ◌*◌, ◌-◌, ◌/◌, ◌%◌, ◌≤◌, ◌<◌, min}
+use mathlib.Core.List.{List, [], ◌++◌}
+use Rattle.std.proofs.Common.{⊎_elim, ap, ◌∙◌, add-zero, zero-mul, add-mul, mul-le-mul_right, div-mul-le_self, div-lt_iff_lt-mul, arith, drop_of_length-le, length-take, drop_at, take-add, take_all, length-take-le}
 use Rattle.std.specs.Prelude.{◌≡◌, length, take, drop, replicate}
 use Rattle.std.proofs.Math.Path.{refl, sym}
 use Rattle.std.proofs.lemmas.List.{length-replicate}
@@ -21,7 +21,7 @@ use Rattle.stores.specs.OverLaws.{over-append, over_before, over_window, length_
 use Rattle.windows.specs.WindowedLaws.{over-past}
 use Rattle.cells.specs.Strided.{Lying}
 use Rattle.data_blocks.specs.declared.piece.Form.{Form}
-use Rattle.data_blocks.specs.Region.{region_of, begun, filled_to, reach_to, start_of, Formed, Due, PieceIn, places_of, PieceOf}
+use Rattle.data_blocks.specs.Region.{region_of, begun, filled_to, reach_to, start_of, Formed, Due, PieceIn, places_of}
 use Rattle.data_blocks.specs.RegionLaws.{to-first, to_inside, begin_room, grown_piece, front_records, piece_back, lying_past, lying_front, Piece}
 use Rattle.window_data.specs.Region.{GrownIn, start_at, BlockIn, LaysStart, LaysPiece}
 

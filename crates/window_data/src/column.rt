@@ -125,24 +125,13 @@ pub fn lay_blocks(
     if f.blocks == 0 {
         return;
     }
-    if !has_room(18446744073709551615, f) {
+    if !has_room(u64::MAX, f) {
         return;
     }
-    let total = total_of(image, fragments);
-    if !total.known {
+    let Some(bytes) = total_of(image, fragments) else {
         return;
-    }
+    };
     lay_records(
-        w,
-        a,
-        image,
-        groups,
-        counts,
-        fragments,
-        pool,
-        words,
-        c,
-        f,
-        total.bytes,
+        w, a, image, groups, counts, fragments, pool, words, c, f, bytes,
     );
 }

@@ -12,7 +12,6 @@ use data_blocks::by::usable;
 use data_blocks::piece::Form;
 use places::pool::find;
 use places::stretch::Stretch;
-use puts::least;
 
 // Of the group at g of the DG at d, from number r on, as far as kept stretches follow each other: up to which number.
 pub(crate) fn lay_pool(
@@ -44,10 +43,7 @@ pub(crate) fn lay_pool(
             return at;
         }
         let next = t.number + t.count;
-        if at < t.number {
-            return at;
-        }
-        if next <= at {
+        if at < t.number || next <= at {
             return at;
         }
         lay_rest(w, a, image, fragments, f, at, t);
@@ -76,15 +72,11 @@ pub(crate) fn lay_offsets(
         × ListFilledIn a image.now fragments.now f words.now first count r result w.old w.new }
 {
     let all = words.len() as u64;
-    if all < count {
+    let n = count.min(f.records);
+    if all < count || all - count < first || n <= r {
         return r;
     }
-    if all - count < first {
-        return r;
-    }
-    let n = least(count, f.records);
-    let mut at = r;
-    while at < n {
+    for at in r..n {
         if is_past(w.len() as u64, a, start_of(f, at)) {
             return f.records;
         }
@@ -98,7 +90,6 @@ pub(crate) fn lay_offsets(
             return at;
         }
         lay_piece(w, a, image, fragments, f, t);
-        at += 1;
     }
-    at
+    n
 }

@@ -7,7 +7,6 @@ ghost use Rattle.window_data.specs.Region.{start_at, BlockIn, LaysStart, LaysPie
 
 use data_blocks::piece::Form;
 use places::stretch::Stretch;
-use puts::least;
 use window_cells::stretch::{Run, lay_stretch};
 use windows::lay_header;
 
@@ -23,13 +22,7 @@ pub(crate) fn start_of(f: Form, at: u64) -> u64
 pub(crate) fn is_past(room: u64, a: u64, x: u64) -> bool
     ensures { result ≡ true → a + room ≤ x }
 {
-    if x < a {
-        return false;
-    }
-    if room <= x - a {
-        return true;
-    }
-    false
+    a <= x && room <= x - a
 }
 
 // The header, if record number at begins a block; the index of its cell.
@@ -41,7 +34,7 @@ fn lay_start(w: &mut [u8], a: u64, f: Form, at: u64) -> u64
     if 0 < at % f.per {
         return place + 24;
     }
-    let count = least(f.per, f.records - at);
+    let count = f.per.min(f.records - at);
     lay_header(w, a, place, f.kind, 24 + count * f.shape.width, 0);
     place + 24
 }
@@ -59,7 +52,7 @@ pub(crate) fn lay_piece(w: &mut [u8], a: u64, image: &[u8], fragments: &[u64], f
             return;
         }
         let body = lay_start(w, a, f, at);
-        let c = least(f.per - at % f.per, left);
+        let c = (f.per - at % f.per).min(left);
         let r = Run {
             at: body,
             first: offset,

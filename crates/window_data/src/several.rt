@@ -8,10 +8,9 @@ ghost use Rattle.window_data.specs.Filled.{FilledIn};
 
 use crate::piece::{is_past, start_of};
 use crate::sorted::lay_rest;
-use data_blocks::by::usable;
+use data_blocks::by::{START, usable};
 use data_blocks::piece::Form;
 use places::several::several_next;
-use places::stretch::Scan;
 use records::group::id_size;
 use records::table::make_tables;
 
@@ -37,13 +36,7 @@ pub(crate) fn lay_several(
     let mut hints = [0u64; 1536];
     make_tables(image, groups, &mut ids, &mut sizes, &mut hints);
     let n = id_size(image, d);
-    let mut scan = Scan {
-        at: 0,
-        position: 0,
-        left: 0,
-        offset: 0,
-        number: 0,
-    };
+    let mut scan = START;
     let mut at = 0;
     while at < f.records {
         if is_past(w.len() as u64, a, start_of(f, at)) {

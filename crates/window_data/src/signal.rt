@@ -9,17 +9,15 @@ use windows::lay_header;
 pub fn lay_signal(w: &mut [u8], a: u64, at: u64, image: &[u8], fragments: &[u64])
     ensures { LaysSignal image.now fragments.now a at w.old w.new }
 {
-    let total = total_of(image, fragments);
-    if !total.known {
+    let Some(bytes) = total_of(image, fragments) else {
         return;
-    }
-    if 18446744073709551615 - at < 24 {
+    };
+    let Some(from) = at.checked_add(24) else {
         return;
-    }
-    if 18446744073709551591 < total.bytes {
+    };
+    let Some(size) = bytes.checked_add(24) else {
         return;
-    }
-    let from = at + 24;
-    lay_header(w, a, at, 0x4453_2323, 24 + total.bytes, 0);
-    lay_joined(w, a, from, image, fragments, 0, total.bytes);
+    };
+    lay_header(w, a, at, 0x4453_2323, size, 0);
+    lay_joined(w, a, from, image, fragments, 0, bytes);
 }

@@ -7,11 +7,10 @@ ghost use Rattle.data_blocks.specs.Region.{Formed, PieceIn};
 ghost use Rattle.window_data.specs.Filled.{FormIn, FromOf, LaysRest, LaysAll};
 
 use crate::piece::lay_piece;
-use data_blocks::by::usable;
+use data_blocks::by::{START, past, usable};
 use data_blocks::piece::Form;
 use places::sorted::sorted_next;
-use places::stretch::{Scan, Stretch};
-use puts::least;
+use places::stretch::Stretch;
 
 // A record before which all lies before index a; of those of which that is so, one of the last.
 pub(crate) fn record_from(f: Form, a: u64) -> u64
@@ -29,7 +28,7 @@ pub(crate) fn record_from(f: Form, a: u64) -> u64
         return first;
     }
     let q = (inside - 24) / f.shape.width;
-    least(first + q, f.records)
+    (first + q).min(f.records)
 }
 
 // The records of a stretch from number r on.
@@ -52,14 +51,7 @@ pub(crate) fn lay_rest(
         lay_piece(w, a, image, fragments, f, t);
         return;
     }
-    let m = r - t.number;
-    let rest = Stretch {
-        number: t.number + m,
-        first: t.first + m * t.stride,
-        stride: t.stride,
-        count: t.count - m,
-    };
-    lay_piece(w, a, image, fragments, f, rest);
+    lay_piece(w, a, image, fragments, f, past(t, r - t.number));
 }
 
 // All records of the group at g that is alone in the DG at d, in data of so many bytes.
@@ -77,13 +69,7 @@ pub(crate) fn lay_sorted(
     ensures { LaysAll a image.now d 0 (g ∷ []) fragments.now f w.old w.new }
 {
     let r = record_from(f, a);
-    let mut scan = Scan {
-        at: 0,
-        position: 0,
-        left: 0,
-        offset: 0,
-        number: 0,
-    };
+    let mut scan = START;
     let mut at = 0;
     while at < f.records {
         let next = sorted_next(image, d, g, fragments, scan);

@@ -11,11 +11,17 @@ use Rattle.result.specs.Ordered.{Ordered}
 use Rattle.result.specs.Result.{Args, decided}
 use Rattle.windows.specs.Windowed.{over_all}
 use Rattle.window_copies.specs.Laying.{Wholes}
-use Rattle.writing.specs.Answer.{file_for}
 use Rattle.writing.specs.Data.{Kept}
 use Rattle.writing.specs.Finish.{Stands}
 use Rattle.writing.specs.FileLaws as file
+use Rattle.choices.specs.Chosen.{rules}
+use Rattle.writing.specs.Answer.{args, file_for}
 use Rattle.window_file.specs.declared.Held.{Held}
+use Rattle.window_file.specs.declared.Call.{Call}
+
+-- bookkeeping: what a call lends and chooses
+abbrev pub args_of : Call → Args
+args_of c = args c.image.now c.size c.ident.now c.text.now c.time (rules c.choices c.table.now)
 
 -- what was decided stands in these words
 abbrev pub StandsAs : Args → Held → List ℕ → List ℕ → List ℕ → List ℕ → Type 0

@@ -1,5 +1,5 @@
 -- Each part of the file over a window, from what stands in words.
-use Rattle.std.specs.Prelude.{ℕ, zero, suc, ◌+◌, ◌-◌, ◌≤◌, ◌<◌, ◌≡◌, get_or, take, drop}
+use Rattle.std.specs.Prelude.{ℕ, zero, suc, ◌+◌, ◌-◌, ◌≤◌, ◌≡◌, get_or, take, drop}
 use mathlib.Core.List.{List, [], ◌∷◌, ◌++◌, append_assoc}
 use Rattle.std.proofs.Math.Path.{refl, ap, subst}
 use Rattle.std.proofs.Common.{sym, ◌∙◌, le_refl, arith}
@@ -7,29 +7,27 @@ use Rattle.std.proofs.Math.ListN.{length, replicate, length-replicate}
 use Rattle.std.proofs.Math.Seq.{take_all}
 use Rattle.base.specs.Blit.{part, blit}
 use Rattle.base.specs.Choice.{if_eq}
-use Rattle.base.specs.ChoiceLaws.{eq_yes, eq_no}
+use Rattle.base.specs.ChoiceLaws.{eq_no}
 use Rattle.base.specs.Checked.{Checked, fine}
-use Rattle.mdf.specs.Block.{link_at}
 use Rattle.mdf.specs.Records.{most64, ranges_in}
-use Rattle.work_words.specs.Words.{fragments_of}
-use Rattle.plan.specs.Columns.{Signal, no_signal, signal_data, Column}
+use Rattle.plan.specs.Columns.{Signal, no_signal, signal_data}
 use Rattle.plan.specs.Layout.{Layout, md_size, past_copies}
 use Rattle.plan.specs.Data.{signal_in}
 use Rattle.work_words.specs.PlanWords.{fragments_in}
 use Rattle.work_words.specs.CopyWords.{history_at}
 use Rattle.result.specs.Fill.{Block, block, hd_bytes, md_bytes, fh_bytes, copied_blocks, structure_blocks, attachment_blocks}
 use Rattle.result.specs.Ordered.{Ordered}
-use Rattle.result.specs.Result.{Args, Decided, decided, memo_of, blocks_of, file_of, flat, hd_block}
+use Rattle.result.specs.Result.{Args, Decided, decided, memo_of, blocks_of, file_of, hd_block}
 use Rattle.copies_laws.specs.LengthLaws.{length-hd, length_md, length_fh}
 use Rattle.copies_laws.specs.OrderLaws.{ordered_cons, ordered-append, ordered-to}
-use Rattle.copies_laws.specs.LayoutLaws.{history-ordered, columns-ordered, structures_ordered, columns-placed}
+use Rattle.copies_laws.specs.LayoutLaws.{history-ordered, columns-ordered, structures_ordered}
 use Rattle.guarantee.specs.Theorem as theorem
 use Rattle.copier.specs.Standing.{copies_in}
 use Rattle.placing.specs.declared.layout.Numbers.{Numbers}
 use Rattle.stores.specs.Over.{over}
 use Rattle.stores.specs.OverLaws.{over_before, blit_hides}
 use Rattle.windows.specs.Windowed.{over_all}
-use Rattle.windows.specs.WindowedLaws.{over-two, window_is, length-all}
+use Rattle.windows.specs.WindowedLaws.{over-two, window_is}
 use Rattle.window_order.specs.PassedLaws.{before_same}
 use Rattle.window_copies.specs.Attachments.{attachments_in, NextPlace}
 use Rattle.window_copies.specs.AttachmentsLaws.{next-some, next-none}

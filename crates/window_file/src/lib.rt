@@ -1,10 +1,10 @@
 // A window of the file: zeros, over which every block is laid that has a byte in it; what lies elsewhere is passed over by a test.
+#![tactic(auto)]
+
 ghost use Rattle.std.specs.Prelude.{List, [], ◌∷◌, ◌≡◌, ℕ, ◌≤◌, length};
-ghost use Rattle.choices.specs.Chosen.{rules};
 ghost use Rattle.result.specs.Fill.{block, md_bytes, fh_bytes};
 ghost use Rattle.windows.specs.Windowed.{over_all};
-ghost use Rattle.writing.specs.Answer.{args};
-ghost use Rattle.window_file.specs.Window.{first_at, front_in, LaysHistory, LaysMetadata, WritesWindow};
+ghost use Rattle.window_file.specs.Window.{args_of, first_at, front_in, LaysHistory, LaysMetadata, WritesWindow};
 
 use choices::Choices;
 use placing::layout::Numbers;
@@ -28,14 +28,23 @@ pub struct Held {
     pub numbers: Numbers,
 }
 
+// What a call lends and chooses.
+#[derive(Clone, Copy)]
+pub struct Call<'a> {
+    pub image: &'a [u8],
+    pub size: u64,
+    pub ident: &'a [u8],
+    pub text: &'a [u8],
+    pub time: u64,
+    pub choices: Choices,
+    pub table: &'a [u8],
+}
+
 // The place of the first attachment of count, 0 for none.
 fn first_attachment(memo: &[u64], count: u64) -> u64
     ensures { result ≡ first_at memo.now count }
 {
-    if count == 0 {
-        return 0;
-    }
-    word(memo, 4101)
+    if count == 0 { 0 } else { word(memo, 4101) }
 }
 
 // The identification and the HD, of n columns.
@@ -72,40 +81,27 @@ fn lay_new(w: &mut [u8], a: u64, md: u64, fh: u64, text: &[u8], time: u64)
 }
 
 // All that stands before the data.
-fn lay_metadata(
-    w: &mut [u8],
-    a: u64,
-    image: &[u8],
-    size: u64,
-    ident: &[u8],
-    text: &[u8],
-    time: u64,
-    choices: Choices,
-    table: &[u8],
-    columns: &[u64],
-    copies: &[u64],
-    h: Held,
-)
-    ensures { LaysMetadata (args image.now size ident.now text.now time (rules choices table.now)) h
+fn lay_metadata(w: &mut [u8], a: u64, call: &Call<'_>, columns: &[u64], copies: &[u64], h: Held)
+    ensures { LaysMetadata (args_of call.now) h
         columns.now copies.now a w.old w.new }
 {
     let m = h.numbers;
     if m.metadata_end <= a {
         return;
     }
-    lay_front(w, a, image, ident, copies, h.columns, m);
-    lay_history(w, a, image, copies, m);
-    lay_new(w, a, m.md, m.fh, text, time);
+    lay_front(w, a, call.image, call.ident, copies, h.columns, m);
+    lay_history(w, a, call.image, copies, m);
+    lay_new(w, a, m.md, m.fh, call.text, call.time);
     lay_copies(
-        w, a, image, copies, m.copies, m.chain, m.fh, m.history, m.metadata,
+        w, a, call.image, copies, m.copies, m.chain, m.fh, m.history, m.metadata,
     );
     lay_structure(
         w,
         a,
-        image,
-        choices.photos,
-        table,
-        size,
+        call.image,
+        call.choices.photos,
+        call.table,
+        call.size,
         columns,
         copies,
         h.columns,
@@ -119,13 +115,7 @@ fn lay_metadata(
 pub fn write_window(
     w: &mut [u8],
     a: u64,
-    image: &[u8],
-    size: u64,
-    ident: &[u8],
-    text: &[u8],
-    time: u64,
-    choices: Choices,
-    table: &[u8],
+    call: &Call<'_>,
     source: &[u64],
     fragments: &[u64],
     columns: &[u64],
@@ -134,7 +124,7 @@ pub fn write_window(
     words: &mut [u64],
     h: Held,
 )
-    ensures { WritesWindow (args image.now size ident.now text.now time (rules choices table.now)) h
+    ensures { WritesWindow (args_of call.now) h
         source.now fragments.now columns.now copies.now a
         pool.old pool.new words.old words.new w.old w.new }
 {
@@ -144,14 +134,12 @@ pub fn write_window(
     let m = h.numbers;
     let n = w.len() as u64;
     zero(w, 0, n);
-    lay_metadata(
-        w, a, image, size, ident, text, time, choices, table, columns, copies, h,
-    );
+    lay_metadata(w, a, call, columns, copies, h);
     lay_data(
         w,
         a,
-        image,
-        size,
+        call.image,
+        call.size,
         source,
         h.items,
         &fragments[0..3072],
@@ -165,7 +153,7 @@ pub fn write_window(
     lay_attachments(
         w,
         a,
-        image,
+        call.image,
         copies,
         m.copies,
         m.chain,

@@ -1,4 +1,6 @@
 // A channel's references to attachments, led to the moved ones, laid over a window of the file.
+#![tactic(auto)]
+
 ghost use Rattle.std.specs.Prelude.{◌≡◌, ◌+◌, ◌≤◌, length};
 ghost use Rattle.base.specs.Blit.{blit};
 ghost use Rattle.plan.specs.Photos.{links_from};
@@ -16,29 +18,13 @@ fn sought(memo: &[u64], metadata: u64, attached: u64, a: u64) -> u64
     requires { (attached ≤ 64) × (8192 ≤ length memo.now) }
     ensures { result ≡ moved_to a (attachments_in memo.now metadata attached) }
 {
-    let mut p: usize = 4100;
-    let mut left = attached;
-    while 0 < left {
+    for i in 0..attached {
+        let p = (4100 + 3 * i) as usize;
         if memo[p] == a {
             return memo[p + 1];
         }
-        p += 3;
-        left -= 1;
     }
     0
-}
-
-// The same of any words, where there are as many as it takes.
-pub fn moved_to(memo: &[u64], metadata: u64, attached: u64, a: u64) -> u64
-    ensures { attached ≤ 64 → 8192 ≤ length memo.now → result ≡ moved_to a (attachments_in memo.now metadata attached) }
-{
-    if 64 < attached {
-        return 0;
-    }
-    if memo.len() < 8192 {
-        return 0;
-    }
-    sought(memo, metadata, attached, a)
 }
 
 // The references of the CN at c, which has n, from number from on, at index at of w.
@@ -60,9 +46,8 @@ fn put_photos(
     if w.len() <= at {
         return;
     }
-    let mut i = from;
     let mut p = at;
-    while i < n {
+    for i in from..n {
         let a = link_at(image, c, 8 + i);
         let to = sought(memo, metadata, attached, a);
         put_u64(w, p, to);
@@ -70,7 +55,6 @@ fn put_photos(
             return;
         }
         p += 8;
-        i += 1;
     }
 }
 
@@ -125,7 +109,7 @@ fn lay_known(
     );
 }
 
-// The same of any words, where there are as many as it takes.
+// The same of any words; nothing where they are too few, or the references or attachments too many.
 pub fn lay_photos(
     w: &mut [u8],
     a: u64,
@@ -141,13 +125,7 @@ pub fn lay_photos(
         → w.new ≡ over a at (words (photo_links (attachments_in memo.now metadata attached)
         (links_from image.now n (c + 88)))) w.old }
 {
-    if 65535 < n {
-        return;
-    }
-    if 64 < attached {
-        return;
-    }
-    if memo.len() < 8192 {
+    if 65535 < n || 64 < attached || memo.len() < 8192 {
         return;
     }
     lay_known(w, a, at, image, memo, metadata, attached, c, n);

@@ -17,13 +17,26 @@ use window_blocks::{apart, lay_cg, lay_cn, lay_cn_data, lay_dg, lay_dl};
 use window_photos::lay_photos;
 use writing::placed::PlacedColumn;
 
-// Link i of the block at x, led to its copy.
-fn link(image: &[u8], memo: &[u64], index: &[u16; 4096], used: u64, x: u64, i: u64) -> u64
-    requires { Indexes memo.now used index.now }
-    ensures { result ≡ new_link (copies_in memo.now used) (link_at image.now x i) }
-{
-    let to = link_at(image, x, i);
-    link_by(memo, index, used, to)
+// What was copied: the words of the copies, the index over so many of them, and where the attachments stand, so many.
+#[derive(Clone, Copy)]
+pub(crate) struct Copied<'a> {
+    pub(crate) memo: &'a [u64],
+    pub(crate) index: &'a [u16; 4096],
+    pub(crate) used: u64,
+    pub(crate) metadata: u64,
+    pub(crate) attached: u64,
+    ghost indexed: { Indexes memo.now used index.now },
+    ghost few: { attached ≤ 64 },
+    ghost long: { 8192 ≤ length memo.now },
+}
+
+impl Copied<'_> {
+    // Link i of the block at x, led to its copy.
+    fn link(&self, image: &[u8], x: u64, i: u64) -> u64
+        ensures { result ≡ new_link (copies_in self.now.memo.now self.now.used) (link_at image.now x i) }
+    {
+        link_by(self.memo, self.index, self.used, link_at(image, x, i))
+    }
 }
 
 // The place of the DL, 0 without data blocks.
@@ -32,9 +45,10 @@ fn dl_place(h: PlacedColumn) -> u64
     ensures { result ≡ if_eq h.blocks 0 0 (h.cn + cn_length h) }
 {
     if h.blocks == 0 {
-        return 0;
+        0
+    } else {
+        h.cn + (160 + 8 * h.photos)
     }
-    h.cn + (160 + 8 * h.photos)
 }
 
 // The DG.
@@ -42,43 +56,33 @@ fn lay_column_dg(
     w: &mut [u8],
     a: u64,
     image: &[u8],
-    memo: &[u64],
-    index: &[u16; 4096],
-    used: u64,
+    copied: &Copied<'_>,
     h: PlacedColumn,
     next: u64,
 )
-    requires { Bounded h × Indexes memo.now used index.now }
-    ensures { w.new ≡ over a h.dg (column_dg image.now (copies_in memo.now used) h next) w.old }
+    requires { Bounded h }
+    ensures { w.new ≡ over a h.dg (column_dg image.now (copies_in copied.now.memo.now copied.now.used) h next) w.old }
 {
     if apart(w.len(), a, h.dg, 64) {
         return;
     }
     let dl = dl_place(h);
-    let comment = link(image, memo, index, used, h.parent, 3);
+    let comment = copied.link(image, h.parent, 3);
     lay_dg(w, a, h.dg, next, h.dg + 64, dl, comment);
 }
 
 // The CG.
-fn lay_column_cg(
-    w: &mut [u8],
-    a: u64,
-    image: &[u8],
-    memo: &[u64],
-    index: &[u16; 4096],
-    used: u64,
-    h: PlacedColumn,
-)
-    requires { Bounded h × Indexes memo.now used index.now }
-    ensures { w.new ≡ over a (h.dg + 64) (column_cg image.now (copies_in memo.now used) h) w.old }
+fn lay_column_cg(w: &mut [u8], a: u64, image: &[u8], copied: &Copied<'_>, h: PlacedColumn)
+    requires { Bounded h }
+    ensures { w.new ≡ over a (h.dg + 64) (column_cg image.now (copies_in copied.now.memo.now copied.now.used) h) w.old }
 {
     let at = h.dg + 64;
     if apart(w.len(), a, at, 112) {
         return;
     }
-    let name = link(image, memo, index, used, h.group, 2);
-    let source = link(image, memo, index, used, h.group, 3);
-    let comment = link(image, memo, index, used, h.group, 5);
+    let name = copied.link(image, h.group, 2);
+    let source = copied.link(image, h.group, 3);
+    let comment = copied.link(image, h.group, 5);
     let bytes = channel_bytes(image, h.channel);
     let inval = keeps_inval(image, h.group, h.channel);
     lay_cg(
@@ -88,26 +92,18 @@ fn lay_column_cg(
 }
 
 // The CN up to its eighth link.
-fn lay_front(
-    w: &mut [u8],
-    a: u64,
-    image: &[u8],
-    memo: &[u64],
-    index: &[u16; 4096],
-    used: u64,
-    h: PlacedColumn,
-)
-    requires { Bounded h × Indexes memo.now used index.now }
-    ensures { w.new ≡ over a h.cn (column_front image.now (copies_in memo.now used) h) w.old }
+fn lay_front(w: &mut [u8], a: u64, image: &[u8], copied: &Copied<'_>, h: PlacedColumn)
+    requires { Bounded h }
+    ensures { w.new ≡ over a h.cn (column_front image.now (copies_in copied.now.memo.now copied.now.used) h) w.old }
 {
     if apart(w.len(), a, h.cn, 88) {
         return;
     }
-    let name = link(image, memo, index, used, h.channel, 2);
-    let source = link(image, memo, index, used, h.channel, 3);
-    let conversion = link(image, memo, index, used, h.channel, 4);
-    let unit = link(image, memo, index, used, h.channel, 6);
-    let comment = link(image, memo, index, used, h.channel, 7);
+    let name = copied.link(image, h.channel, 2);
+    let source = copied.link(image, h.channel, 3);
+    let conversion = copied.link(image, h.channel, 4);
+    let unit = copied.link(image, h.channel, 6);
+    let comment = copied.link(image, h.channel, 7);
     lay_cn(
         w,
         a,
@@ -137,30 +133,20 @@ fn lay_column_data(w: &mut [u8], a: u64, image: &[u8], h: PlacedColumn)
 }
 
 // The CN; there are so many attachments.
-fn lay_column_cn(
-    w: &mut [u8],
-    a: u64,
-    image: &[u8],
-    memo: &[u64],
-    index: &[u16; 4096],
-    used: u64,
-    metadata: u64,
-    attached: u64,
-    h: PlacedColumn,
-)
-    requires { Bounded h × Indexes memo.now used index.now × (attached ≤ 64) × (8192 ≤ length memo.now) }
-    ensures { w.new ≡ over a h.cn (column_cn image.now (copies_in memo.now used)
-        (attachments_in memo.now metadata attached) h) w.old }
+fn lay_column_cn(w: &mut [u8], a: u64, image: &[u8], copied: &Copied<'_>, h: PlacedColumn)
+    requires { Bounded h }
+    ensures { w.new ≡ over a h.cn (column_cn image.now (copies_in copied.now.memo.now copied.now.used)
+        (attachments_in copied.now.memo.now copied.now.metadata copied.now.attached) h) w.old }
 {
-    lay_front(w, a, image, memo, index, used, h);
+    lay_front(w, a, image, copied, h);
     lay_photos(
         w,
         a,
         h.cn + 88,
         image,
-        memo,
-        metadata,
-        attached,
+        copied.memo,
+        copied.metadata,
+        copied.attached,
         h.channel,
         h.photos,
     );
@@ -185,20 +171,16 @@ pub(crate) fn lay_column(
     w: &mut [u8],
     a: u64,
     image: &[u8],
-    memo: &[u64],
-    index: &[u16; 4096],
-    used: u64,
-    metadata: u64,
-    attached: u64,
+    copied: &Copied<'_>,
     h: PlacedColumn,
     next: u64,
 )
-    requires { Bounded h × Indexes memo.now used index.now × (attached ≤ 64) × (8192 ≤ length memo.now) }
-    ensures { w.new ≡ over_all a (column_parts image.now (copies_in memo.now used)
-        (attachments_in memo.now metadata attached) h next) w.old }
+    requires { Bounded h }
+    ensures { w.new ≡ over_all a (column_parts image.now (copies_in copied.now.memo.now copied.now.used)
+        (attachments_in copied.now.memo.now copied.now.metadata copied.now.attached) h next) w.old }
 {
-    lay_column_dg(w, a, image, memo, index, used, h, next);
-    lay_column_cg(w, a, image, memo, index, used, h);
-    lay_column_cn(w, a, image, memo, index, used, metadata, attached, h);
+    lay_column_dg(w, a, image, copied, h, next);
+    lay_column_cg(w, a, image, copied, h);
+    lay_column_cn(w, a, image, copied, h);
     lay_column_dl(w, a, h);
 }

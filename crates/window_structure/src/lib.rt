@@ -1,12 +1,14 @@
 // Every column's DG, CG, CN and DL, laid over a window of the file that begins at index a. What lies before the window is left out, what lies past its
 // end is lost.
+#![tactic(auto)]
+
 mod column;
 
 ghost use Rattle.std.specs.Prelude.{◌≡◌, true, false, List, ℕ, ◌+◌, ◌*◌, ◌≤◌, ◌<◌, length, get_or};
+ghost use Rattle.std.specs.Option.{unwrap_or};
 ghost use Rattle.work_words.specs.CopyWords.{placed_at};
 ghost use Rattle.plan.specs.Copies.{Copy, Attachment};
 ghost use Rattle.copier.specs.Standing.{copies_in};
-ghost use Rattle.copier.specs.Index.{Indexes};
 ghost use Rattle.result.specs.Ordered.{Ordered};
 ghost use Rattle.windows.specs.Windowed.{over_all};
 ghost use Rattle.window_blocks.specs.Apart.{Apart};
@@ -14,7 +16,7 @@ ghost use Rattle.window_copies.specs.Attachments.{attachments_in};
 ghost use Rattle.writing.specs.Structure.{on_table, Near, Bounded};
 ghost use Rattle.window_structure.specs.Laying.{structure_in, Begun, Laying};
 
-use crate::column::{lay_column, lay_column_dl};
+use crate::column::{Copied, lay_column, lay_column_dl};
 use copier::memo::index_copies;
 use window_blocks::apart;
 use writing::placed::{PlacedColumn, column_at, place_after};
@@ -24,10 +26,7 @@ fn lies(room: usize, a: u64, h: PlacedColumn) -> bool
     requires { Bounded h }
     ensures { result ≡ false → Apart room a h.dg (336 + 8 * h.photos) }
 {
-    if apart(room, a, h.dg, 336 + 8 * h.photos) {
-        return false;
-    }
-    true
+    !apart(room, a, h.dg, 336 + 8 * h.photos)
 }
 
 // Of n columns whose DGs' places ascend, the last whose DG begins by index a, 0 where there is none: what is before it ends by a.
@@ -54,16 +53,10 @@ fn past(room: usize, a: u64, memo: &[u64], k: u64) -> bool
     ensures { result ≡ true → a + room ≤ get_or memo.now (placed_at + 3 * k) 0 }
 {
     let dg = memo[(6656 + 3 * k) as usize];
-    if dg < a {
-        return false;
-    }
-    if dg - a < room as u64 {
-        return false;
-    }
-    true
+    a <= dg && room as u64 <= dg - a
 }
 
-// The columns up to the first that has a byte of its DG, CG or CN in the window, of n: their DLs. The number of that one, n where there is none.
+// The columns up to the first that has a byte of its DG, CG or CN in the window, of n: their DLs. The number of that one, if there is one.
 fn lay_passed(
     w: &mut [u8],
     a: u64,
@@ -74,25 +67,23 @@ fn lay_passed(
     columns: &[u64],
     memo: &[u64],
     n: u64,
-) -> u64
+) -> Option<u64>
     requires { (n ≤ 512) × (8192 ≤ length memo.now) }
     ensures { (m : List Copy) (ats : List Attachment) (g : List ℕ) → Near memo.now n → 4096 ≤ length columns.now
         → Laying photos (on_table table.now) image.now size columns.now memo.now n a m ats g 0 w.old
-        → Laying photos (on_table table.now) image.now size columns.now memo.now n a m ats g result w.new }
+        → Laying photos (on_table table.now) image.now size columns.now memo.now n a m ats g (unwrap_or result n) w.new }
 {
-    let mut k = near(a, memo, n);
-    while k < n {
+    for k in near(a, memo, n)..n {
         if past(w.len(), a, memo, k) {
-            return n;
+            return None;
         }
         let h = column_at(image, photos, table, size, columns, memo, n, k);
         if lies(w.len(), a, h) {
-            return k;
+            return Some(k);
         }
         lay_column_dl(w, a, h);
-        k += 1;
     }
-    k
+    None
 }
 
 // The columns from number first on, of n, by the index of copies.
@@ -104,28 +95,24 @@ fn lay_columns(
     table: &[u8],
     size: u64,
     columns: &[u64],
-    memo: &[u64],
-    index: &[u16; 4096],
+    copied: &Copied<'_>,
     n: u64,
-    used: u64,
-    metadata: u64,
-    attached: u64,
     first: u64,
 )
-    requires { Indexes memo.now used index.now × (n ≤ 512) × (attached ≤ 64) × (8192 ≤ length memo.now) }
-    ensures { (g : List ℕ) → Near memo.now n → 4096 ≤ length columns.now
-        → Laying photos (on_table table.now) image.now size columns.now memo.now n a
-        (copies_in memo.now used) (attachments_in memo.now metadata attached) g first w.old → w.new ≡ g }
+    requires { n ≤ 512 }
+    ensures { (g : List ℕ) → Near copied.now.memo.now n → 4096 ≤ length columns.now
+        → Laying photos (on_table table.now) image.now size columns.now copied.now.memo.now n a
+        (copies_in copied.now.memo.now copied.now.used)
+        (attachments_in copied.now.memo.now copied.now.metadata copied.now.attached) g first w.old → w.new ≡ g }
 {
-    let mut k = first;
-    while k < n {
+    let memo = copied.memo;
+    for k in first..n {
         if past(w.len(), a, memo, k) {
             return;
         }
         let h = column_at(image, photos, table, size, columns, memo, n, k);
         let next = place_after(memo, n, k);
-        lay_column(w, a, image, memo, index, used, metadata, attached, h, next);
-        k += 1;
+        lay_column(w, a, image, copied, h, next);
     }
 }
 
@@ -150,21 +137,18 @@ pub fn lay_structure(
         → w.new ≡ over_all a (structure_in photos table.now image.now size columns.now memo.now n used metadata
         attached) w.old }
 {
-    if 512 < n {
+    if 512 < n || 64 < attached || memo.len() < 8192 {
         return;
     }
-    if 64 < attached {
+    let Some(first) = lay_passed(w, a, image, photos, table, size, columns, memo, n) else {
         return;
-    }
-    if memo.len() < 8192 {
-        return;
-    }
-    let first = lay_passed(w, a, image, photos, table, size, columns, memo, n);
-    if n <= first {
-        return;
-    }
-    let index = index_copies(memo, used);
-    lay_columns(
-        w, a, image, photos, table, size, columns, memo, &index, n, used, metadata, attached, first,
-    );
+    };
+    let copied = Copied {
+        memo,
+        index: &index_copies(memo, used),
+        used,
+        metadata,
+        attached,
+    };
+    lay_columns(w, a, image, photos, table, size, columns, &copied, n, first);
 }

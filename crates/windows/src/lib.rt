@@ -1,5 +1,7 @@
 // Bytes of a file, laid over a window of it that begins at index a. What lies before the window is left out, what lies past its end is lost, so each
 // takes any window, any index and any number.
+#![tactic(auto)]
+
 pub mod seen;
 
 ghost use Rattle.std.specs.Prelude.{◌≡◌};
@@ -14,22 +16,15 @@ use puts::{copy, header, put_u64};
 pub fn lay(w: &mut [u8], a: u64, at: u64, s: &[u8], from: u64, n: u64)
     ensures { w.new ≡ over a at (part from n s.now) w.old }
 {
-    if a <= at {
-        copy(w, (at - a) as usize, s, from, n);
-        return;
-    }
-    let skip = a - at;
-    if n <= skip {
-        return;
-    }
-    let all = s.len() as u64;
-    if all <= from {
-        return;
-    }
-    if all - from <= skip {
-        return;
-    }
-    copy(w, 0, s, from + skip, n - skip);
+    let to = at.saturating_sub(a);
+    let skip = a.saturating_sub(at);
+    copy(
+        w,
+        to as usize,
+        s,
+        from.saturating_add(skip),
+        n.saturating_sub(skip),
+    );
 }
 
 // The 8 bytes of x.

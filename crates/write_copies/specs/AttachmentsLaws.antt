@@ -5,7 +5,7 @@ use Rattle.std.specs.Prelude.{◌≡◌, refl}
 use Rattle.std.proofs.Math.Path.{sym, ap, subst}
 use Rattle.std.proofs.Common.{◌∙◌, le_refl}
 use native.Mathlib.Omega.{arith}
-use Rattle.std.proofs.Math.ListN.{length, get_or, length-append, get_or-eq_default}
+use Rattle.std.proofs.Math.ListN.{length, get_or, length-append}
 use Rattle.base.specs.Blit.{part}
 use Rattle.mdf.specs.Block.{size_at}
 use Rattle.plan.specs.Copies.{Copy, Attachment}
@@ -22,13 +22,9 @@ use Rattle.write_copies.specs.Wrote.{end_of, Wrote}
 use Rattle.write_copies.specs.WroteLaws.{ordered_end, end_append, wrote_append}
 use Rattle.write_copies.specs.CopiesLaws.{Left, left-all, left_turn, left-none}
 use Rattle.window_copies.specs.Attachments.{attachment, attachments_from, attachments_in, NextPlace}
-use Rattle.window_copies.specs.AttachmentsLaws.{attachments_cons, next-some}
+use Rattle.window_copies.specs.AttachmentsLaws.{attachments_cons}
 use Rattle.window_copies.specs.LayingLaws.{copies-part}
 use Rattle.write_copies.specs.Attachments.{Placing}
-
--- ---- the place of an attachment whose words aren't there counts as 0
-pub next_past : (w : List ℕ) (i n : ℕ) → i < n → length w ≤ 4100 + 3 * i + 1 → NextPlace w i n 0
-next_past w i n h l = next-some w i n h (sym (get_or-eq_default w 0 l))
 
 -- ---- blocks and one more at the end
 ordered_last : (a b e : ℕ) (xs : List Block) (bytes : List ℕ) → Ordered a xs b → b + length bytes ≤ e → Ordered a (xs ++ (block b bytes ∷ [])) e

@@ -6,7 +6,6 @@ pub mod CopiesLaws
 pub mod Attachments
 pub mod AttachmentsLaws
 pub mod RoomLaws
-pub mod LedLaws
 pub mod LaidWords
 pub mod LaidWordsLaws
 pub mod PlaceWordsLaws

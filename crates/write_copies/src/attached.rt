@@ -8,7 +8,7 @@ ghost use Rattle.copier.specs.Index.{Indexes};
 ghost use Rattle.copying.specs.ChainIndex.{ChainIndexes};
 ghost use Rattle.result.specs.Fill.{block, copied_blocks, at_bytes, attachment_blocks};
 ghost use Rattle.copies_laws.specs.AttachLaws.{Moved, LaidAt, own_copies};
-ghost use Rattle.window_copies.specs.Attachments.{attachments_in, NextPlace};
+ghost use Rattle.window_copies.specs.Attachments.{attachments_in};
 ghost use Rattle.write_copies.specs.Wrote.{Wrote};
 ghost use Rattle.write_copies.specs.Attachments.{Placing};
 
@@ -17,87 +17,48 @@ use crate::gap::gap;
 use blocks::block::size_at;
 use copier::memo::index_copies;
 use copying::history::index_chain;
-use copying::put_at;
+use copying::{Copies, HistoryChain, put_at};
+pub use window_copies::attached::next_place;
 
 // The AT made of the one at a, at its place; from at on zeros up to there. Nothing where it doesn't lie between at and the end.
-fn write_at(
-    out: &mut [u8],
-    at: usize,
-    image: &[u8],
-    memo: &[u64],
-    index: &[u16; 4096],
-    used: u64,
-    a: u64,
-    place: usize,
-    next: u64,
-) -> usize
-    ensures { at ≤ place → Moved image.now a → place + size_at image.now a ≤ length out.old
-        → Indexes memo.now used index.now
-        → Wrote at (block place (at_bytes image.now (copies_in memo.now used) a next) ∷ []) result
+fn write_at(out: &mut [u8], at: usize, copies: Copies<'_>, a: u64, place: usize, next: u64) -> usize
+    ensures { at ≤ place → Moved copies.entry.image.now a → place + size_at copies.entry.image.now a ≤ length out.old
+        → Indexes copies.entry.memo.now copies.entry.used copies.entry.index.now
+        → Wrote at (block place (at_bytes copies.entry.image.now (copies_in copies.entry.memo.now copies.entry.used) a next) ∷ []) result
         out.old out.new }
 {
     let all = out.len();
-    if place < at {
-        return at;
-    }
-    if all < place {
-        return at;
-    }
-    let size = size_at(image, a);
-    if ((all - place) as u64) < size {
+    let size = size_at(copies.image, a);
+    if place < at || all < place || size > (all - place) as u64 {
         return at;
     }
     gap(out, at, place);
-    put_at(&mut out[place..], image, memo, index, used, a, next);
+    put_at(&mut out[place..], copies, a, next);
     place + size as usize
-}
-
-// The place of attachment number i of count, 0 past the last. A word past the end counts as 0.
-pub fn next_place(memo: &[u64], i: u64, count: u64) -> u64
-    ensures { NextPlace memo.now i count result }
-{
-    if count <= i {
-        return 0;
-    }
-    let all = memo.len();
-    if all < 4102 {
-        return 0;
-    }
-    if (((all - 4102) / 3) as u64) < i {
-        return 0;
-    }
-    memo[(4100 + 3 * i) as usize + 1]
 }
 
 // The copies number own up to end, then the AT made of the one at a.
 fn write_attachment(
     out: &mut [u8],
     at: usize,
-    image: &[u8],
-    memo: &[u64],
-    index: &[u16; 4096],
-    chained: &[u16; 4096],
-    used: u64,
-    chain: u64,
-    fh: u64,
+    copies: Copies<'_>,
+    history: HistoryChain<'_>,
     own: u64,
     end: u64,
     a: u64,
     place: usize,
     next: u64,
 ) -> usize
-    requires { (end ≤ 2050) × (8192 ≤ length memo.now) }
-    ensures { own ≤ end → end ≤ used
-        → Placing image.now at (part own (end - own) (copies_in memo.now used)) a place (length out.old)
-        → Indexes memo.now used index.now → ChainIndexes memo.now chain chained.now
-        → Wrote at (copied_blocks image.now (part history_at chain memo.now) (copies_in memo.now used) fh
-        (part own (end - own) (copies_in memo.now used))
-        ++ (block place (at_bytes image.now (copies_in memo.now used) a next) ∷ [])) result out.old out.new }
+    requires { (end ≤ 2050) × (8192 ≤ length copies.memo.now) }
+    ensures { own ≤ end → end ≤ copies.entry.used
+        → Placing copies.entry.image.now at (part own (end - own) (copies_in copies.entry.memo.now copies.entry.used)) a place (length out.old)
+        → Indexes copies.entry.memo.now copies.entry.used copies.entry.index.now → ChainIndexes copies.entry.memo.now history.entry.chain history.entry.chained.now
+        → Wrote at (copied_blocks copies.entry.image.now (part history_at history.entry.chain copies.entry.memo.now) (copies_in copies.entry.memo.now copies.entry.used) history.entry.fh
+        (part own (end - own) (copies_in copies.entry.memo.now copies.entry.used))
+        ++ (block place (at_bytes copies.entry.image.now (copies_in copies.entry.memo.now copies.entry.used) a next) ∷ [])) result out.old out.new }
 {
-    let p = write_copies_by(
-        out, at, image, memo, index, chained, used, chain, fh, own, end,
-    );
-    write_at(out, p, image, memo, index, used, a, place, next)
+    let p = write_copies_by(out, at, copies, history, own, end);
+    write_at(out, p, copies, a, place, next)
 }
 
 // All attachments of the words, the first one's copies from copy number first on, from at on; no more where the words aren't there.
@@ -118,21 +79,25 @@ pub fn write_attachments(
         → Wrote at (attachment_blocks image.now (part history_at chain memo.now) (copies_in memo.now used) fh
         (attachments_in memo.now first count)) result out.old out.new }
 {
-    if 2050 < first {
-        return at;
-    }
-    if 64 < count {
-        return at;
-    }
-    if memo.len() < 8192 {
+    if 2050 < first || 64 < count || memo.len() < 8192 {
         return at;
     }
     let index = index_copies(memo, used);
     let chained = index_chain(memo, chain);
-    let mut i: u64 = 0;
+    let copies = Copies {
+        image,
+        memo,
+        index: &index,
+        used,
+    };
+    let history = HistoryChain {
+        chained: &chained,
+        chain,
+        fh,
+    };
     let mut own = first;
     let mut p = at;
-    while i < count {
+    for i in 0..count {
         let j = (4100 + 3 * i) as usize;
         let a = memo[j];
         let place = memo[j + 1] as usize;
@@ -142,11 +107,8 @@ pub fn write_attachments(
         }
         let end = own + made;
         let next = next_place(memo, i + 1, count);
-        p = write_attachment(
-            out, p, image, memo, &index, &chained, used, chain, fh, own, end, a, place, next,
-        );
+        p = write_attachment(out, p, copies, history, own, end, a, place, next);
         own = end;
-        i += 1;
     }
     p
 }

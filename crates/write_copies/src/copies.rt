@@ -15,50 +15,30 @@ use crate::gap::gap;
 use blocks::block::size_at;
 use copier::memo::index_copies;
 use copying::history::index_chain;
-use copying::put_copied;
+use copying::{Copies, HistoryChain, put_copied};
 
 // The copy of the block at a, at its place; from at on zeros up to there. Nothing where it doesn't lie between at and the end.
+// It differs from write_at in what it puts: with a closure for that, the check did not prove what a call ensures if the index is right.
 fn write_copy(
     out: &mut [u8],
     at: usize,
-    image: &[u8],
-    memo: &[u64],
-    index: &[u16; 4096],
-    chained: &[u16; 4096],
-    used: u64,
-    chain: u64,
-    fh: u64,
+    copies: Copies<'_>,
+    history: HistoryChain<'_>,
     a: u64,
     place: usize,
 ) -> usize
-    ensures { at ≤ place → Whole image.now a → place + size_at image.now a ≤ length out.old
-        → Indexes memo.now used index.now → ChainIndexes memo.now chain chained.now
-        → Wrote at (block place (copied_bytes image.now (part history_at chain memo.now)
-        (copies_in memo.now used) fh a) ∷ []) result out.old out.new }
+    ensures { at ≤ place → Whole copies.entry.image.now a → place + size_at copies.entry.image.now a ≤ length out.old
+        → Indexes copies.entry.memo.now copies.entry.used copies.entry.index.now → ChainIndexes copies.entry.memo.now history.entry.chain history.entry.chained.now
+        → Wrote at (block place (copied_bytes copies.entry.image.now (part history_at history.entry.chain copies.entry.memo.now)
+        (copies_in copies.entry.memo.now copies.entry.used) history.entry.fh a) ∷ []) result out.old out.new }
 {
     let all = out.len();
-    if place < at {
-        return at;
-    }
-    if all < place {
-        return at;
-    }
-    let size = size_at(image, a);
-    if ((all - place) as u64) < size {
+    let size = size_at(copies.image, a);
+    if place < at || all < place || size > (all - place) as u64 {
         return at;
     }
     gap(out, at, place);
-    put_copied(
-        &mut out[place..],
-        image,
-        memo,
-        index,
-        chained,
-        used,
-        chain,
-        fh,
-        a,
-    );
+    put_copied(&mut out[place..], copies, history, a);
     place + size as usize
 }
 
@@ -66,33 +46,24 @@ fn write_copy(
 pub(crate) fn write_copies_by(
     out: &mut [u8],
     at: usize,
-    image: &[u8],
-    memo: &[u64],
-    index: &[u16; 4096],
-    chained: &[u16; 4096],
-    used: u64,
-    chain: u64,
-    fh: u64,
+    copies: Copies<'_>,
+    history: HistoryChain<'_>,
     from: u64,
     to: u64,
 ) -> usize
-    requires { (to ≤ 2050) × (8192 ≤ length memo.now) }
-    ensures { from ≤ to → to ≤ used
-        → Laid image.now at (part from (to - from) (copies_in memo.now used)) (length out.old)
-        → Indexes memo.now used index.now → ChainIndexes memo.now chain chained.now
-        → Wrote at (copied_blocks image.now (part history_at chain memo.now) (copies_in memo.now used) fh
-        (part from (to - from) (copies_in memo.now used))) result out.old out.new }
+    requires { (to ≤ 2050) × (8192 ≤ length copies.memo.now) }
+    ensures { from ≤ to → to ≤ copies.entry.used
+        → Laid copies.entry.image.now at (part from (to - from) (copies_in copies.entry.memo.now copies.entry.used)) (length out.old)
+        → Indexes copies.entry.memo.now copies.entry.used copies.entry.index.now → ChainIndexes copies.entry.memo.now history.entry.chain history.entry.chained.now
+        → Wrote at (copied_blocks copies.entry.image.now (part history_at history.entry.chain copies.entry.memo.now) (copies_in copies.entry.memo.now copies.entry.used) history.entry.fh
+        (part from (to - from) (copies_in copies.entry.memo.now copies.entry.used))) result out.old out.new }
 {
-    let mut i = from;
     let mut p = at;
-    while i < to {
+    for i in from..to {
         let j = (2 * i) as usize;
-        let a = memo[j];
-        let place = memo[j + 1] as usize;
-        p = write_copy(
-            out, p, image, memo, index, chained, used, chain, fh, a, place,
-        );
-        i += 1;
+        let a = copies.memo[j];
+        let place = copies.memo[j + 1] as usize;
+        p = write_copy(out, p, copies, history, a, place);
     }
     p
 }
@@ -114,15 +85,21 @@ pub fn write_copies(
         → Wrote at (copied_blocks image.now (part history_at chain memo.now) (copies_in memo.now used) fh
         (part from (to - from) (copies_in memo.now used))) result out.old out.new }
 {
-    if 2050 < to {
-        return at;
-    }
-    if memo.len() < 8192 {
+    if 2050 < to || memo.len() < 8192 {
         return at;
     }
     let index = index_copies(memo, used);
     let chained = index_chain(memo, chain);
-    write_copies_by(
-        out, at, image, memo, &index, &chained, used, chain, fh, from, to,
-    )
+    let copies = Copies {
+        image,
+        memo,
+        index: &index,
+        used,
+    };
+    let history = HistoryChain {
+        chained: &chained,
+        chain,
+        fh,
+    };
+    write_copies_by(out, at, copies, history, from, to)
 }

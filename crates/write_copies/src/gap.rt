@@ -8,8 +8,5 @@ use puts::zero;
 pub fn gap(out: &mut [u8], at: usize, to: usize)
     ensures { out.new ≡ blit at (replicate (to - at) 0) out.old }
 {
-    if to <= at {
-        return;
-    }
-    zero(out, at, (to - at) as u64);
+    zero(out, at, to.saturating_sub(at) as u64);
 }

@@ -5,9 +5,7 @@ ghost use Rattle.plan.specs.Photos.{links_from};
 ghost use Rattle.result.specs.Fill.{words, photo_links};
 ghost use Rattle.window_copies.specs.Attachments.{attachments_in};
 
-use blocks::block::link_at;
-use puts::put_u64;
-use window_photos::moved_to;
+use window_photos::lay_photos;
 
 // The n references of the CN at c, from index 88 on; nothing where they are too many.
 pub fn put_photos(
@@ -23,15 +21,5 @@ pub fn put_photos(
         → d.new ≡ blit 88 (words (photo_links (attachments_in memo.now metadata attached)
         (links_from image.now n (c + 88)))) d.old }
 {
-    if 65535 < n {
-        return;
-    }
-    let mut i: u64 = 0;
-    while i < n {
-        let a = link_at(image, c, 8 + i);
-        let to = moved_to(memo, metadata, attached, a);
-        let p = (88 + 8 * i) as usize;
-        put_u64(d, p, to);
-        i += 1;
-    }
+    lay_photos(d, 0, 88, image, memo, metadata, attached, c, n);
 }

@@ -1,5 +1,5 @@
 -- What is known of a call before anything is written: a refusal, or what was decided and its report.
-use Rattle.std.specs.Prelude.{◌≡◌, ℕ, List}
+use Rattle.std.specs.Prelude.{◌≡◌, ℕ, List, Result, Ok, Err}
 use Rattle.base.specs.Choice.{if_lt}
 use Rattle.base.specs.Checked.{ok, refused, and_then, Verdict, fine}
 use Rattle.result.specs.Result.{Args, lent_in, answer, report, work_in, work_left}
@@ -7,7 +7,8 @@ use Rattle.placing.specs.Decision.{four}
 use Rattle.placing.specs.declared.layout.Numbers.{Numbers}
 use Rattle.writing.specs.declared.convert.Report as counted
 use Rattle.writing.specs.declared.begin.Beginning.{Beginning}
-use Rattle.writing.specs.declared.begin.Beginning.TheVariants.{Refused, Done}
+use Rattle.fields.specs.declared.refusal.Refusal.{Refusal}
+use Rattle.fields.specs.Answer.{number_of, place_of}
 use Rattle.writing.specs.Answer.{report_of}
 use Rattle.writing.specs.Finish.{Stands}
 
@@ -26,7 +27,7 @@ pub record AcceptedCall (x : Args) (out list items fragments columns omissions :
   pub is : and_then (work_in ws) (λ _. answer x out list) ≡ ok stands.by.told
   pub reported : report_of r ≡ report x stands.by.told
 
-abbrev pub Begins : Args → ℕ → ℕ → List ℕ → List ℕ → List ℕ → List ℕ → Beginning → List ℕ → List ℕ → List ℕ → List ℕ → Type 0
-Begins x out list a b c d (Refused number place) a' b' c' d' = RefusedCall x out list number place (four a b c d) (four a' b' c' d')
-Begins x out list a b c d (Done items fragments columns omissions n r) a' b' c' d' =
-    AcceptedCall x out list items fragments columns omissions n r (four a b c d) a' b' c' d'
+abbrev pub Begins : Args → ℕ → ℕ → List ℕ → List ℕ → List ℕ → List ℕ → Result Beginning Refusal → List ℕ → List ℕ → List ℕ → List ℕ → Type 0
+Begins x out list a b c d (Err r) a' b' c' d' = RefusedCall x out list (number_of r) (place_of r) (four a b c d) (four a' b' c' d')
+Begins x out list a b c d (Ok r) a' b' c' d' =
+    AcceptedCall x out list r.items r.fragments r.columns r.omissions r.numbers r.report (four a b c d) a' b' c' d'

@@ -4,9 +4,6 @@ use Rattle.std.proofs.Common.{sym, ◌∙◌}
 use Rattle.std.proofs.Math.Path.{ap}
 use Rattle.base.specs.Choice.{pick, if_lt}
 use Rattle.base.specs.Checked.{ok, refused, and_then, Verdict, fine}
-use Rattle.fields.specs.declared.Check.{Check}
-use Rattle.fields.specs.declared.Check.TheVariants as check
-use Rattle.fields.specs.Answer.{verdict_of}
 use Rattle.base.specs.BlitLaws.{length-blit}
 use Rattle.work_words.specs.Words.{laid_items}
 use Rattle.work_words.specs.CopyWords.{laid_copies}
@@ -21,31 +18,8 @@ use Rattle.writing.specs.declared.convert.Report as counted
 use Rattle.writing.specs.Answer.{args}
 use Rattle.writing.specs.Finish.{Stands, Reported}
 use Rattle.writing.specs.FinishLaws.{decided-untimed, lent-fine-of, refused_answer, lent-untimed, stands_timed, shares-timed, stands_words, stands_report}
+use Rattle.writing.specs.RoomLaws.{answer-room}
 use Rattle.writing.specs.Beginning.{room_in, RefusedCall, AcceptedCall}
-
--- the room decides the answer
-pick-room : (s t : Bool) (bytes words : ℕ) (d : Decided)
-    → pick s (refused 20 bytes) (pick t (refused 21 words) (ok d)) ≡ and_then (pick s (refused 20 bytes) (pick t (refused 21 words) fine)) (λ _. ok d)
-pick-room true t bytes words d = refl
-pick-room false true bytes words d = refl
-pick-room false false bytes words d = refl
-
-then_room : (out list bytes words : ℕ) (d : Decided)
-    → if_lt out bytes (refused 20 bytes) (if_lt list words (refused 21 words) (ok d)) ≡ and_then (room_in out list bytes words) (λ _. ok d)
-unfolding if_lt
-then_room out list bytes words d = pick-room (nat_lt out bytes) (nat_lt list words) bytes words d
-
-answer-room : (x : Args) (d : Decided) → decided x ≡ ok d → (out list bytes words : ℕ) → bytes ≡ d.laid_out.file_size_lem → words ≡ length (omission_words d.planned.omissions)
-    → answer x out list ≡ and_then (room_in out list bytes words) (λ _. ok d)
-unfolding answer
-answer-room x d e out list bytes words f g = rw (e, f, g) (then_room out list d.laid_out.file_size_lem (length (omission_words d.planned.omissions)) d)
-
--- a check's answer taken apart
-pub verdict_refused : {v : Verdict} {r : Check} {n p : ℕ} → verdict_of r ≡ v → r ≡ check.Refused n p → v ≡ refused n p
-verdict_refused e q = sym e ∙ rw q
-
-pub verdict_fine : {v : Verdict} {r : Check} → verdict_of r ≡ v → r ≡ check.Fine → v ≡ fine
-verdict_fine e q = sym e ∙ rw q
 
 -- ---- a refusal of what was to be decided
 pub call_undecided : (image : List ℕ) (size : ℕ) (ident text : List ℕ) (time : ℕ) (chosen : Rules) (out list : ℕ) {ws ws' : List (List ℕ)} {n p : ℕ}

@@ -1,9 +1,9 @@
 -- What a conversion does once all is decided.
-use Rattle.std.specs.Prelude.{◌≡◌, ℕ, ◌-◌, ◌<◌, ◌≤◌, List, length}
+use Rattle.std.specs.Prelude.{◌≡◌, ℕ, ◌-◌, ◌<◌, ◌≤◌, List, length, Result}
 use Rattle.result.specs.Result.{Args, answer, outcome}
 use Rattle.placing.specs.declared.layout.Numbers.{Numbers}
 use Rattle.writing.specs.declared.convert.Report.{Report}
-use Rattle.writing.specs.declared.convert.Converted.{Converted}
+use Rattle.fields.specs.declared.refusal.Refusal.{Refusal}
 use Rattle.writing.specs.Sum.{sum_of}
 use Rattle.writing.specs.Counted.{group_at, time_at, data_blocks_at, blocks_at}
 use Rattle.placing.specs.Decision.{DecidedIn}
@@ -33,5 +33,5 @@ pub record Reported (s : List ℕ) (size : ℕ) (v w : List ℕ) (items n shared
   pub file_size_lem : r.file_size ≡ file
 
 -- answer, output and list, for any work words
-pub record Finished (x : Args) (out list : List ℕ) (r : Converted) (out' list' : List ℕ) : Type 0 where
+pub record Finished (x : Args) (out list : List ℕ) (r : Result Report Refusal) (out' list' : List ℕ) : Type 0 where
   pub is : (work : List (List ℕ)) → left r out' list' work ≡ outcome x out list work (answer x (length out) (length list))

@@ -1,5 +1,5 @@
 -- Laws of what a conversion does once all is decided.
-use Rattle.std.specs.Prelude.{◌≡◌, ℕ, ◌+◌, ◌*◌, ◌<◌, ◌≤◌, List, [], ◌∷◌, length, replicate, refl}
+use Rattle.std.specs.Prelude.{◌≡◌, ℕ, ◌+◌, ◌*◌, ◌<◌, ◌≤◌, List, [], ◌∷◌, length, replicate, refl, Result, Ok, Err, ⊤}
 use Rattle.std.proofs.Common.{sym, ap, subst, ◌∙◌, arith, length-append}
 use Rattle.std.proofs.Math.ListN.{length-replicate}
 use Rattle.base.specs.Blit.{blit}
@@ -22,14 +22,14 @@ use Rattle.planning.specs.ReadBackLaws.{few-items}
 use Rattle.planning.specs.TimeWordLaws.{laid-stand}
 use Rattle.planning.specs.OutcomeLaws.{read_groups}
 use Rattle.placing.specs.declared.layout.Numbers.{Numbers}
-use Rattle.writing.specs.declared.convert.Converted.{Converted}
-use Rattle.writing.specs.declared.convert.Converted.TheVariants.{Refused, Done}
+use Rattle.fields.specs.declared.refusal.Refusal.{Refusal}
+use Rattle.fields.specs.Answer.{number_of, place_of, refused_by, verdict_of}
 use Rattle.writing.specs.declared.convert.Report as counted
-use Rattle.placing.specs.declared.decide.Decision.{Decision}
-use Rattle.placing.specs.declared.decide.Decision.TheVariants as done
 use Rattle.plan.specs.Rules.{Rules}
-use Rattle.placing.specs.Decision.{untimed, four, Shares, DecidedIn, RefusedIn, Decides}
+use Rattle.placing.specs.Decision.{untimed, four, Shares, DecidedIn, RefusedIn}
 use Rattle.writing.specs.Answer.{args, report_of, left, Bytes, Promised}
+use Rattle.writing.specs.Beginning.{room_in}
+use Rattle.writing.specs.RoomLaws.{answer-room, verdict_refused, verdict_fine}
 use Rattle.writing.specs.Finish.{Stands, Counts, Reported, Finished}
 use Rattle.writing.specs.OmissionsLaws.{laid-listed}
 use Rattle.writing.specs.Omissions.{listed}
@@ -44,36 +44,21 @@ decided-untimed image size ident text time chosen = refl
 
 -- ---- refusals after the decision
 module _ (x : Args) (d : Decided) (e : decided x ≡ ok d) (out list : List ℕ) where
-  opened : answer x (length out) (length list)
-      ≡ if_lt (length out) d.laid_out.file_size_lem (refused 20 d.laid_out.file_size_lem)
-      (if_lt (length list) (length (omission_words d.planned.omissions)) (refused 21 (length (omission_words d.planned.omissions))) (ok d))
-  unfolding answer
-  opened = rw e
+  room_refused : {n k : ℕ} (z : Refusal) → n ≡ d.laid_out.file_size_lem → k ≡ length (omission_words d.planned.omissions)
+      → room_in (length out) (length list) n k ≡ refused_by z → answer x (length out) (length list) ≡ refused (number_of z) (place_of z)
+  room_refused {n} {k} z f g q = answer-room x d e (length out) (length list) n k f g ∙ rw q
 
-  pub short_output : {n : ℕ} → n ≡ d.laid_out.file_size_lem → length out < n → Finished x out list (Refused 20 n) out list
-  short_output {n} f h =
-      let h' : length out < d.laid_out.file_size_lem = omega (arith, f, h) in
-      let q : answer x (length out) (length list) ≡ refused 20 d.laid_out.file_size_lem = opened ∙ sym (lt_yes _ _ _ _ h' refl) in
-      record { is = λ work. rw (q, f) }
+  pub no_room : {n k : ℕ} {r : Result ⊤ Refusal} {z : Refusal} → n ≡ d.laid_out.file_size_lem → k ≡ length (omission_words d.planned.omissions)
+      → verdict_of r ≡ room_in (length out) (length list) n k → r ≡ Err z → Finished x out list (Err z) out list
+  no_room {z = z} f g h q = let o = room_refused z f g (verdict_refused h q) in record { is = λ work. rw o }
 
-  pub short-list : {n k : ℕ} → n ≡ d.laid_out.file_size_lem → n ≤ length out → k ≡ length (omission_words d.planned.omissions) → length list < k
-      → Finished x out list (Refused 21 k) out list
-  short-list {n} {k} f h g l =
-      let h' : d.laid_out.file_size_lem ≤ length out = omega (arith, f, h) in
-      let l' : length list < length (omission_words d.planned.omissions) = omega (arith, g, l) in
-      let q : answer x (length out) (length list) ≡ refused 21 (length (omission_words d.planned.omissions)) =
-      opened ∙ sym (lt_no _ _ _ _ h' (lt_yes _ _ _ _ l' refl)) in
-      record { is = λ work. rw (q, g) }
-
-  pub all_done : {n k : ℕ} {r : counted.Report} {out' list' : List ℕ} → n ≡ d.laid_out.file_size_lem → n ≤ length out
-      → k ≡ length (omission_words d.planned.omissions) → k ≤ length list → report_of r ≡ report x d
+  pub all_done : {n k : ℕ} {v : Result ⊤ Refusal} {u : ⊤} {r : counted.Report} {out' list' : List ℕ} → n ≡ d.laid_out.file_size_lem
+      → k ≡ length (omission_words d.planned.omissions) → verdict_of v ≡ room_in (length out) (length list) n k → v ≡ Ok u → report_of r ≡ report x d
       → out' ≡ blit 0 (file_of x d.laid_out) out → list' ≡ blit 0 (omission_words d.planned.omissions) list
-      → Finished x out list (Done r) out' list'
-  all_done {n} {k} {r} {out'} {list'} f h g l e' o m =
-      let h' : d.laid_out.file_size_lem ≤ length out = omega (arith, f, h) in
-      let l' : length (omission_words d.planned.omissions) ≤ length list = omega (arith, g, l) in
-      let q : answer x (length out) (length list) ≡ ok d = opened ∙ sym (lt_no _ _ _ _ h' (lt_no _ _ _ _ l' refl)) in
-      record { is = λ work. rw (q, e', o, m) }
+      → Finished x out list (Ok r) out' list'
+  all_done {n} {k} {v} {u} {r} {out'} {list'} f g h q e' o m =
+      let w : answer x (length out) (length list) ≡ ok d = answer-room x d e (length out) (length list) n k f g ∙ rw (verdict_fine h q) in
+      record { is = λ work. rw (w, e', o, m) }
 
 -- ---- the length of the list
 length-addresses : (os : List Omission) → length (omission_addresses os) ≡ length os
@@ -171,18 +156,6 @@ pub lent-fine-of : (x : Args) (d : Decided) → decided x ≡ ok d → lent_in x
 unfolding decided
 lent-fine-of x d e = (then_fine (lent_in x) _ e).0
 
-pub decides_done : {x : Args} {a b c d : List ℕ} {r : Decision} {a' b' c' d' : List ℕ} {i f k o h : ℕ} {n : Numbers}
-    → Decides x a b c d r a' b' c' d' → r ≡ done.Done i f k o h n → DecidedIn x i f k o n a b c d a' b' c' d'
-decides_done {x} {a} {b} {c} {d} {a' = a'} {b' = b'} {c' = c'} {d' = d'} h e = (subst (λ r. Decides x a b c d r a' b' c' d') e h).0
-
-pub decides_shares : (x : Args) (a b c d : List ℕ) (r : Decision) (a' b' c' d' : List ℕ) {i f k o h : ℕ} {n : Numbers}
-    → Decides x a b c d r a' b' c' d' → r ≡ done.Done i f k o h n → Shares (decided x) h
-decides_shares x a b c d r a' b' c' d' h e = (subst (λ r. Decides x a b c d r a' b' c' d') e h).1
-
-pub decides_refused : {x : Args} {a b c d : List ℕ} {r : Decision} {a' b' c' d' : List ℕ} {n p : ℕ}
-    → Decides x a b c d r a' b' c' d' → r ≡ done.Refused n p → RefusedIn x n p (four a b c d) (four a' b' c' d')
-decides_refused {x} {a} {b} {c} {d} {a' = a'} {b' = b'} {c' = c'} {d' = d'} h e = subst (λ r. Decides x a b c d r a' b' c' d') e h
-
 pub stands_timed : {image : List ℕ} {size : ℕ} {ident text : List ℕ} (time : ℕ) {chosen : Rules} {i f k o : ℕ} {n : Numbers} {a b c d a' b' c' d' : List ℕ}
     → DecidedIn (untimed image size ident text chosen) i f k o n a b c d a' b' c' d' → Stands (args image size ident text time chosen) i f k o n a' b' c' d'
 stands_timed {image} {size} {ident} {text} time {chosen} {a = a} {b = b} {c = c} {d = d} t =
@@ -226,31 +199,30 @@ pub lent-untimed : (image : List ℕ) (size : ℕ) (ident text : List ℕ) (time
 unfolding lent_in
 lent-untimed image size ident text time chosen = refl
 
-pub refused_left : (image : List ℕ) (size : ℕ) (ident text : List ℕ) (time : ℕ) (chosen : Rules) (out list : List ℕ) (ws ws' : List (List ℕ)) (n p : ℕ)
-    → RefusedIn (untimed image size ident text chosen) n p ws ws' → left (Refused n p) out list ws' ≡ convert (args image size ident text time chosen) out list ws
+pub refused_left : (image : List ℕ) (size : ℕ) (ident text : List ℕ) (time : ℕ) (chosen : Rules) (out list : List ℕ) (ws ws' : List (List ℕ)) (y : Refusal)
+    → RefusedIn (untimed image size ident text chosen) (number_of y) (place_of y) ws ws' → left (Err y) out list ws' ≡ convert (args image size ident text time chosen) out list ws
 unfolding convert
-refused_left image size ident text time chosen out list ws ws' n p r =
-    let e : and_then (work_in ws) (λ _. decided (args image size ident text time chosen)) ≡ refused n p = rw (decided-untimed image size ident text time chosen) r.is in
+refused_left image size ident text time chosen out list ws ws' y r =
+    let e : and_then (work_in ws) (λ _. decided (args image size ident text time chosen)) ≡ refused (number_of y) (place_of y) = rw (decided-untimed image size ident text time chosen) r.is in
     rw (refused_answer (args image size ident text time chosen) (length out) (length list) (work_in ws) e, lent-untimed image size ident text time chosen, r.words)
 
 work_fine : (a b c d : List ℕ) → 8192 ≤ length a → 8192 ≤ length b → 8192 ≤ length c → 8192 ≤ length d → work_in (four a b c d) ≡ fine
 unfolding work_in
 work_fine a b c d h i j k = sym (lt_no _ _ _ _ h (lt_no _ _ _ _ i (lt_no _ _ _ _ j (lt_no _ _ _ _ k refl))))
 
-pub done_left : {i f k o : ℕ} {n : Numbers} {a b c d a' b' c' d' : List ℕ} (image : List ℕ) (size : ℕ) (ident text : List ℕ) (time : ℕ) (chosen : Rules) (out list : List ℕ) (r : Converted) (out' list' a'' b'' c'' d'' : List ℕ)
+pub done_left : {i f k o : ℕ} {n : Numbers} {a b c d a' b' c' d' : List ℕ} (image : List ℕ) (size : ℕ) (ident text : List ℕ) (time : ℕ) (chosen : Rules) (out list : List ℕ) (r : Result counted.Report Refusal) (out' list' b₁ : List ℕ) {ws : List (List ℕ)}
     → DecidedIn (untimed image size ident text chosen) i f k o n a b c d a' b' c' d' → Finished (args image size ident text time chosen) out list r out' list'
-    → a'' ≡ replicate (length a') 0 → b'' ≡ replicate (length b') 0 → c'' ≡ replicate (length c') 0 → d'' ≡ replicate (length d') 0
-    → left r out' list' (four a'' b'' c'' d'') ≡ convert (args image size ident text time chosen) out list (four a b c d)
+    → length b₁ ≡ length b' → ws ≡ zeros (four a' b₁ c' d') → left r out' list' ws ≡ convert (args image size ident text time chosen) out list (four a b c d)
 unfolding convert zeros laid_plan laid_copies laid_items
-done_left {a = a} {b = b} {c = c} {d = d} {a' = a'} {b' = b'} {c' = c'} {d' = d'} image size ident text time chosen out list r out' list' a'' b'' c'' d'' t z p q u v =
+done_left {a = a} {b = b} {c = c} {d = d} {a' = a'} {b' = b'} {c' = c'} {d' = d'} image size ident text time chosen out list r out' list' b₁ t z l w =
     let la : length a' ≡ length a = ap length t.in_source ∙ rw (length-blit, length-blit, length-blit, length-blit) in
     let lb : length b' ≡ length b = ap length t.in_fragments ∙ rw length-blit in
     let lc : length c' ≡ length c = ap length t.in_columns ∙ rw (length-blit, length-blit) in
     let ld : length d' ≡ length d = ap length t.numbered.words ∙ rw (length-blit, length-blit, length-blit, length-blit) in
     let x : Args = args image size ident text time chosen in
     let h = lent-fine-of x t.told (decided-untimed image size ident text time chosen ∙ t.is) in
-    let zs : four a'' b'' c'' d'' ≡ zeros (four a b c d) = rw (p, q, u, v, la, lb, lc, ld) in
-    rw (zs, work_fine a b c d t.long_a t.long_b t.long_c t.long_d, h) (z.is (zeros (four a b c d)))
+    let zs : zeros (four a' b₁ c' d') ≡ zeros (four a b c d) = rw (l, la, lb, lc, ld) in
+    rw (w, zs, work_fine a b c d t.long_a t.long_b t.long_c t.long_d, h) (z.is (zeros (four a b c d)))
 
 -- each slice keeps its length
 module _ {y : Args} {i f k o : ℕ} {n : Numbers} {a b c d a' b' c' d' : List ℕ} (t : DecidedIn y i f k o n a b c d a' b' c' d') where

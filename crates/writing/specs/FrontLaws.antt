@@ -12,7 +12,8 @@ use Rattle.result.specs.Ordered.{Ordered}
 use Rattle.copies_laws.specs.LengthLaws.{length_md, length_fh, length-hd}
 use Rattle.write_copies.specs.Wrote.{Wrote}
 use Rattle.write_copies.specs.WroteLaws.{wrote_block, wrote_append}
-use Rattle.writing.specs.StructureLaws.{wrote_at, past_one}
+use Rattle.writing.specs.BlockLaws.{wrote_at}
+use Rattle.writing.specs.StructureLaws.{past_one}
 
 -- ---- the identification and the HD
 all-part : (bs : List ℕ) → length bs ≡ 64 → part 0 64 bs ≡ bs

@@ -27,3 +27,7 @@ pub mod Final
 pub mod FinalLaws
 pub mod Beginning
 pub mod BeginningLaws
+pub mod WordLaws
+pub mod RoomLaws
+pub mod ColumnLaws
+pub mod BlockLaws

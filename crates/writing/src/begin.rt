@@ -2,66 +2,39 @@
 ghost use Rattle.std.specs.Prelude.{◌≡◌, ℕ, ◌+◌, ◌*◌, ◌≤◌};
 ghost use Rattle.choices.specs.Chosen.{rules};
 ghost use Rattle.fields.specs.Answer.{verdict_of};
-ghost use Rattle.result.specs.Result.{zeros};
-ghost use Rattle.placing.specs.Decision.{four};
 ghost use Rattle.writing.specs.Answer.{args};
 ghost use Rattle.writing.specs.Beginning.{room_in, Begins};
 
 use crate::convert::{Report, count_up};
 use choices::Choices;
-use fields::Check;
-use placing::decide::{Decision, decide};
+use fields::refusal::Refusal;
+use placing::decide::{clear_all, decide};
 use placing::layout::Numbers;
-use reading::recording::clear;
 
-// Document 01's refusal with number and place; or the blocks met, the fragments of data chains, columns and omissions, the layout's numbers
-// and the report.
-#[derive(Drop)]
-pub enum Beginning {
-    Refused {
-        number: u64,
-        place: u64,
-    },
-    Done {
-        items: u64,
-        fragments: u64,
-        columns: u64,
-        omissions: u64,
-        numbers: Numbers,
-        report: Report,
-    },
+// The blocks met, the fragments of data chains, columns and omissions, the layout's numbers and the report.
+#[derive(Clone, Copy)]
+pub struct Beginning {
+    pub items: u64,
+    pub fragments: u64,
+    pub columns: u64,
+    pub omissions: u64,
+    pub numbers: Numbers,
+    pub report: Report,
 }
 
 // 20, 21: an output of so many bytes and a list of so many words have room for a file and its omissions.
-fn room_in(out: u64, list: u64, bytes: u64, omitted: u64) -> Check
+pub(crate) fn room_in(out: u64, list: u64, bytes: u64, omitted: u64) -> Result<(), Refusal>
     requires { omitted ≤ 1024 }
     ensures { verdict_of result ≡ room_in out list bytes (2 * omitted + 1) }
 {
     let words = 2 * omitted + 1;
     if out < bytes {
-        return Check::Refused {
-            number: 20,
-            place: bytes,
-        };
+        return Err(Refusal::OutputTooShort(bytes));
     }
     if list < words {
-        return Check::Refused {
-            number: 21,
-            place: words,
-        };
+        return Err(Refusal::ListTooShort(words));
     }
-    Check::Fine
-}
-
-// Every word of the four slices zero.
-fn clear_all(source: &mut [u64], fragments: &mut [u64], columns: &mut [u64], copies: &mut [u64])
-    ensures { four source.new fragments.new columns.new copies.new
-        ≡ zeros (four source.old fragments.old columns.old copies.old) }
-{
-    clear(source);
-    clear(fragments);
-    clear(columns);
-    clear(copies);
+    Ok(())
 }
 
 // All that `convert` does before it writes, for an output of so many bytes and a list of so many words. What was decided stays in the words.
@@ -78,49 +51,26 @@ pub fn begin(
     fragments: &mut [u64],
     columns: &mut [u64],
     copies: &mut [u64],
-) -> Beginning
+) -> Result<Beginning, Refusal>
     ensures { (time : ℕ) → Begins (args image.now size ident.now text.now time (rules choices table.now)) out list
         source.old fragments.old columns.old copies.old result
         source.new fragments.new columns.new copies.new }
 {
-    let decision = decide(
+    let found = decide(
         image, size, ident, text, choices, table, source, fragments, columns, copies,
-    );
-    match decision {
-        Decision::Refused { number, place } => Beginning::Refused { number, place },
-        Decision::Done {
-            items,
-            fragments: pieces,
-            columns: n,
-            omissions,
-            shared,
-            numbers,
-        } => {
-            let bytes = numbers.file_size;
-            let room = room_in(out, list, bytes, omissions);
-            if let Check::Refused { number, place } = room {
-                clear_all(source, fragments, columns, copies);
-                return Beginning::Refused { number, place };
-            }
-            let report = count_up(
-                image,
-                size,
-                source,
-                columns,
-                items,
-                n,
-                shared,
-                numbers.metadata_end,
-                bytes,
-            );
-            Beginning::Done {
-                items,
-                fragments: pieces,
-                columns: n,
-                omissions,
-                numbers,
-                report,
-            }
-        }
+    )?;
+    let room = room_in(out, list, found.numbers.file_size, found.omissions);
+    if let Err(refusal) = room {
+        clear_all(source, fragments, columns, copies);
+        return Err(refusal);
     }
+    let report = count_up(image, size, source, columns, found);
+    Ok(Beginning {
+        items: found.items,
+        fragments: found.fragments,
+        columns: found.columns,
+        omissions: found.omissions,
+        numbers: found.numbers,
+        report,
+    })
 }

@@ -3,19 +3,19 @@ ghost use Rattle.std.specs.Prelude.{◌≡◌, length};
 ghost use Rattle.result.specs.Result as results;
 ghost use Rattle.choices.specs.Chosen.{rules};
 ghost use Rattle.placing.specs.Decision.{four, Shares};
-ghost use Rattle.writing.specs.Answer.{args, left, Bytes, Promised};
+ghost use Rattle.writing.specs.Answer.{args, args_of, left, Bytes, Promised};
 ghost use Rattle.writing.specs.Finish.{Stands, Counts, Reported, Finished};
 
+use crate::begin::room_in;
 use crate::counts::{blocks_written, source_groups, time_columns};
 use crate::file::write_file;
 use crate::omissions::write_list;
 use choices::Choices;
-use placing::decide::{Decision, decide};
-use placing::layout::Numbers;
-use reading::recording::clear;
+use fields::refusal::Refusal;
+use placing::decide::{Decision, clear_all, decide};
 
 // The seven counts of a conversion's report.
-#[derive(Drop)]
+#[derive(Clone, Copy, Debug, PartialEq, Eq)]
 pub struct Report {
     pub source_groups: u64,
     pub time_groups: u64,
@@ -26,11 +26,16 @@ pub struct Report {
     pub file_size: u64,
 }
 
-// Document 01's refusal with number and place, or the report.
-#[derive(Drop)]
-pub enum Converted {
-    Refused { number: u64, place: u64 },
-    Done(Report),
+// The arguments of a call but the lent slices.
+#[derive(Clone, Copy)]
+pub(crate) struct Call<'a> {
+    pub(crate) image: &'a [u8],
+    pub(crate) size: u64,
+    pub(crate) ident: &'a [u8],
+    pub(crate) text: &'a [u8],
+    pub(crate) time: u64,
+    pub(crate) choices: Choices,
+    pub(crate) table: &'a [u8],
 }
 
 // Every element of the image is a byte.
@@ -48,26 +53,21 @@ pub(crate) fn count_up(
     size: u64,
     source: &[u64],
     columns: &[u64],
-    items: u64,
-    n: u64,
-    shared: u64,
-    metadata: u64,
-    bytes: u64,
+    found: Decision,
 ) -> Report
-    requires { Counts image.now size columns.now items n }
-    ensures { Reported image.now size source.now columns.now items n shared metadata bytes result }
+    requires { Counts image.now size columns.now found.items found.columns }
+    ensures { Reported image.now size source.now columns.now found.items found.columns found.shared
+        found.numbers.metadata_end found.numbers.file_size result }
 {
-    let groups = source_groups(image, source, items);
-    let times = time_columns(columns, n);
-    let blocks = blocks_written(image, size, columns, n);
+    let times = time_columns(columns, found.columns);
     Report {
-        source_groups: groups,
+        source_groups: source_groups(image, source, found.items),
         time_groups: times,
-        signal_groups: n - times,
-        shared_time_groups: shared,
-        data_blocks: blocks,
-        metadata_size: metadata,
-        file_size: bytes,
+        signal_groups: found.columns - times,
+        shared_time_groups: found.shared,
+        data_blocks: blocks_written(image, size, columns, found.columns),
+        metadata_size: found.numbers.metadata_end,
+        file_size: found.numbers.file_size,
     }
 }
 
@@ -75,61 +75,23 @@ pub(crate) fn count_up(
 fn finish(
     out: &mut [u8],
     list: &mut [u64],
-    image: &[u8],
-    size: u64,
-    ident: &[u8],
-    text: &[u8],
-    time: u64,
-    choices: Choices,
-    table: &[u8],
+    call: Call,
     source: &[u64],
     fragments: &mut [u64],
     columns: &[u64],
     copies: &[u64],
-    items: u64,
-    pieces: u64,
-    n: u64,
-    omitted: u64,
-    shared: u64,
-    numbers: Numbers,
-) -> Converted
-    requires { Stands (args image.now size ident.now text.now time (rules choices table.now)) items pieces n omitted numbers
-        source.now fragments.old columns.now copies.now
-        × Shares (results.decided (args image.now size ident.now text.now time (rules choices table.now))) shared }
-    ensures { Finished (args image.now size ident.now text.now time (rules choices table.now)) out.old list.old
-        result out.new list.new }
+    found: Decision,
+) -> Result<Report, Refusal>
+    requires { Stands (args_of call) found.items found.fragments found.columns found.omissions found.numbers
+        source.now fragments.old columns.now copies.now × Shares (results.decided (args_of call)) found.shared }
+    ensures { Finished (args_of call.entry) out.old list.old result out.new list.new }
 {
-    let bytes = numbers.file_size;
-    if (out.len() as u64) < bytes {
-        return Converted::Refused {
-            number: 20,
-            place: bytes,
-        };
-    }
-    let words = 2 * omitted + 1;
-    if (list.len() as u64) < words {
-        return Converted::Refused {
-            number: 21,
-            place: words,
-        };
-    }
-    write_file(
-        out, image, size, ident, text, time, choices, table, source, fragments, columns, copies,
-        items, pieces, n, omitted, numbers,
-    );
-    write_list(list, columns, omitted as usize);
-    let counted = count_up(
-        image,
-        size,
-        source,
-        columns,
-        items,
-        n,
-        shared,
-        numbers.metadata_end,
-        bytes,
-    );
-    Converted::Done(counted)
+    let room = out.len() as u64;
+    let words = list.len() as u64;
+    room_in(room, words, found.numbers.file_size, found.omissions)?;
+    write_file(out, call, source, fragments, columns, copies, found);
+    write_list(list, columns, found.omissions as usize);
+    Ok(count_up(call.image, call.size, source, columns, found))
 }
 
 // One recording into one file: 1, 2, the choices, 3, what reading, planning and layout refuse, 20, 21; then the file, the list and the report.
@@ -147,7 +109,7 @@ pub fn convert(
     copies: &mut [u64],
     out: &mut [u8],
     list: &mut [u64],
-) -> Converted
+) -> Result<Report, Refusal>
     ensures done { left result out.new list.new
         (four source.new fragments.new columns.new copies.new)
         ≡ results.convert (args image.now size ident.now text.now time (rules choices table.now)) out.old list.old
@@ -157,28 +119,19 @@ pub fn convert(
         (four source.old fragments.old columns.old copies.old) out.new list.new }
 {
     are_bytes(image);
-    let decision = decide(
+    let found = decide(
         image, size, ident, text, choices, table, source, fragments, columns, copies,
-    );
-    match decision {
-        Decision::Refused { number, place } => Converted::Refused { number, place },
-        Decision::Done {
-            items,
-            fragments: pieces,
-            columns: n,
-            omissions,
-            shared,
-            numbers,
-        } => {
-            let answer = finish(
-                out, list, image, size, ident, text, time, choices, table, source, fragments,
-                columns, copies, items, pieces, n, omissions, shared, numbers,
-            );
-            clear(source);
-            clear(fragments);
-            clear(columns);
-            clear(copies);
-            answer
-        }
-    }
+    )?;
+    let call = Call {
+        image,
+        size,
+        ident,
+        text,
+        time,
+        choices,
+        table,
+    };
+    let answer = finish(out, list, call, source, fragments, columns, copies, found);
+    clear_all(source, fragments, columns, copies);
+    answer
 }

@@ -11,10 +11,7 @@ fn group_at(image: &[u8], source: &[u64], i: u64) -> u64
     requires { i < 1536 }
     ensures { Few 1 (group_at image.now source.now i) result }
 {
-    if word(source, 1536 + i) == 1 {
-        if is_storage(image, word(source, i)) {
-            return 0;
-        }
+    if word(source, 1536 + i) == 1 && !is_storage(image, word(source, i)) {
         return 1;
     }
     0
@@ -25,11 +22,9 @@ pub(crate) fn source_groups(image: &[u8], source: &[u64], n: u64) -> u64
     requires { n ≤ 1536 }
     ensures { result ≡ sum_of (group_at image.now source.now) 0 n }
 {
-    let mut i: u64 = 0;
     let mut sum: u64 = 0;
-    while i < n {
+    for i in 0..n {
         sum += group_at(image, source, i);
-        i += 1;
     }
     sum
 }
@@ -39,10 +34,7 @@ fn time_at(columns: &[u64], k: u64) -> u64
     requires { k < 512 }
     ensures { Few 1 (time_at columns.now k) result }
 {
-    if word(columns, 8 * k + 4) == 1 {
-        return 1;
-    }
-    0
+    if word(columns, 8 * k + 4) == 1 { 1 } else { 0 }
 }
 
 // The time columns among n.
@@ -50,11 +42,9 @@ pub(crate) fn time_columns(columns: &[u64], n: u64) -> u64
     requires { n ≤ 512 }
     ensures { Few n (sum_of (time_at columns.now) 0 n) result }
 {
-    let mut k: u64 = 0;
     let mut sum: u64 = 0;
-    while k < n {
+    for k in 0..n {
         sum += time_at(columns, k);
-        k += 1;
     }
     sum
 }
@@ -80,11 +70,9 @@ pub(crate) fn blocks_written(image: &[u8], size: u64, columns: &[u64], n: u64) -
     requires { (n ≤ 512) × ((k : ℕ) → k < n → data_blocks_at image.now size columns.now k ≤ 4294967295) }
     ensures { result ≡ sum_of (blocks_at image.now size columns.now) 0 n }
 {
-    let mut k: u64 = 0;
     let mut sum: u64 = 0;
-    while k < n {
+    for k in 0..n {
         sum += blocks_at(image, size, columns, k);
-        k += 1;
     }
     sum
 }

@@ -17,6 +17,17 @@ use data_blocks::column::{Column, write_blocks};
 use offsets::kept::forget;
 use write_copies::gap::gap;
 
+// What data is taken from: the image, the block size, and the words of n items and of nf fragments.
+#[derive(Clone, Copy)]
+pub(crate) struct Recording<'a> {
+    pub(crate) image: &'a [u8],
+    pub(crate) size: u64,
+    pub(crate) source: &'a [u64],
+    pub(crate) n: u64,
+    pub(crate) fragments: &'a [u64],
+    pub(crate) nf: u64,
+}
+
 // A column: its CN, CG and DG, its number of records; the number of fragments before its signal data's and 1, or 0 for none, and how many
 // those are; the places of its first data block and of its SD.
 #[derive(Clone, Copy)]
@@ -65,37 +76,19 @@ pub fn entry_of(columns: &[u64], memo: &[u64], k: u64) -> Entry
         first: 0,
         sd: 0,
     };
-    if 511 < k {
-        return none;
-    }
-    if columns.len() < 4096 {
-        return none;
-    }
-    if memo.len() < 8192 {
+    if 511 < k || columns.len() < 4096 || memo.len() < 8192 {
         return none;
     }
     entry_at(columns, memo, k)
 }
 
 // The data blocks of column e, at the front of out; o is what is held of its DG.
-fn put_blocks(
-    out: &mut [u8],
-    image: &[u8],
-    size: u64,
-    source: &[u64],
-    n: u64,
-    fragments: &[u64],
-    nf: u64,
-    pool: &mut [u64],
-    words: &mut [u64],
-    e: Entry,
-    o: Own,
-)
-    requires { Tables source.now fragments.now nf × EntryReady image.now source.now n fragments.now nf e
-        × (length (entry_bytes image.now size source.now n fragments.now nf e) ≤ length out.old)
-        × Kept image.now source.now n fragments.now nf pool.old words.old × OwnOf source.now n nf e.parent o }
-    ensures { Kept image.now source.now n fragments.now nf pool.new words.new
-        × (out.new ≡ blit 0 (entry_bytes image.now size source.now n fragments.now nf e)
+fn put_blocks(out: &mut [u8], r: Recording, pool: &mut [u64], words: &mut [u64], e: Entry, o: Own)
+    requires { Tables r.source.now r.fragments.now r.nf × EntryReady r.image.now r.source.now r.n r.fragments.now r.nf e
+        × (length (entry_bytes r.image.now r.size r.source.now r.n r.fragments.now r.nf e) ≤ length out.old)
+        × Kept r.image.now r.source.now r.n r.fragments.now r.nf pool.old words.old × OwnOf r.source.now r.n r.nf e.parent o }
+    ensures { Kept r.entry.image.now r.entry.source.now r.entry.n r.entry.fragments.now r.entry.nf pool.new words.new
+        × (out.new ≡ blit 0 (entry_bytes r.entry.image.now r.entry.size r.entry.source.now r.entry.n r.entry.fragments.now r.entry.nf e)
         out.old) }
 {
     let p = (3 * o.begin) as usize;
@@ -106,11 +99,11 @@ fn put_blocks(
     let h = l + 512;
     write_blocks(
         out,
-        image,
-        size,
-        &source[f..l],
-        &source[g..h],
-        &fragments[p..q],
+        r.image,
+        r.size,
+        &r.source[f..l],
+        &r.source[g..h],
+        &r.fragments[p..q],
         pool,
         words,
         Column {
@@ -126,45 +119,28 @@ fn put_blocks(
 fn write_column(
     out: &mut [u8],
     at: usize,
-    image: &[u8],
-    size: u64,
-    source: &[u64],
-    n: u64,
-    fragments: &[u64],
-    nf: u64,
+    r: Recording,
     pool: &mut [u64],
     words: &mut [u64],
     e: Entry,
     o: Own,
 ) -> usize
-    requires { Tables source.now fragments.now nf × EntryReady image.now source.now n fragments.now nf e
-        × Ordered at (entry_blocks image.now size source.now n fragments.now nf e) (length out.old)
-        × Kept image.now source.now n fragments.now nf pool.old words.old × OwnOf source.now n nf e.parent o }
-    ensures { Kept image.now source.now n fragments.now nf pool.new words.new
-        × Wrote at (entry_blocks image.now size source.now n fragments.now nf e) result
+    requires { Tables r.source.now r.fragments.now r.nf × EntryReady r.image.now r.source.now r.n r.fragments.now r.nf e
+        × Ordered at (entry_blocks r.image.now r.size r.source.now r.n r.fragments.now r.nf e) (length out.old)
+        × Kept r.image.now r.source.now r.n r.fragments.now r.nf pool.old words.old × OwnOf r.source.now r.n r.nf e.parent o }
+    ensures { Kept r.entry.image.now r.entry.source.now r.entry.n r.entry.fragments.now r.entry.nf pool.new words.new
+        × Wrote at (entry_blocks r.entry.image.now r.entry.size r.entry.source.now r.entry.n r.entry.fragments.now r.entry.nf e) result
         out.old out.new }
 {
-    let w = width_of(image, e.group, e.channel);
-    let count = block_count(size, w, e.records);
+    let w = width_of(r.image, e.group, e.channel);
+    let count = block_count(r.size, w, e.records);
     if count == 0 {
         return at;
     }
     let first = e.first as usize;
     let past = first + (24 * count + w * e.records) as usize;
     gap(out, at, first);
-    put_blocks(
-        &mut out[first..],
-        image,
-        size,
-        source,
-        n,
-        fragments,
-        nf,
-        pool,
-        words,
-        e,
-        o,
-    );
+    put_blocks(&mut out[first..], r, pool, words, e, o);
     past
 }
 
@@ -198,35 +174,25 @@ fn write_signal_of(out: &mut [u8], at: usize, image: &[u8], fragments: &[u64], e
 pub(crate) fn write_data(
     out: &mut [u8],
     at: usize,
-    image: &[u8],
-    size: u64,
-    source: &[u64],
-    n: u64,
-    fragments: &[u64],
-    nf: u64,
+    r: Recording,
     columns: &[u64],
     memo: &[u64],
     number: u64,
     words: &mut [u64],
 ) -> usize
-    requires { DataReady image.now size source.now n fragments.now nf columns.now memo.now number at (length out.old) }
-    ensures { Wrote at (data_from image.now size source.now n fragments.now nf columns.now
+    requires { DataReady r.image.now r.size r.source.now r.n r.fragments.now r.nf columns.now memo.now number at (length out.old) }
+    ensures { Wrote at (data_from r.entry.image.now r.entry.size r.entry.source.now r.entry.n r.entry.fragments.now r.entry.nf columns.now
         memo.now 0 number) result out.old out.new }
 {
     let mut pool = [0u64; 4096];
     forget(words);
-    let mut known = known_first(source, n, nf);
-    let mut k = 0;
+    let mut known = known_first(r.source, r.n, r.nf);
     let mut p = at;
-    while k < number {
+    for k in 0..number {
         let e = entry_at(columns, memo, k);
-        known = known_of(source, n, nf, known, e.parent);
-        let own = known.own;
-        p = write_column(
-            out, p, image, size, source, n, fragments, nf, &mut pool, words, e, own,
-        );
-        p = write_signal_of(out, p, image, fragments, e);
-        k += 1;
+        known = known_of(r.source, r.n, r.nf, known, e.parent);
+        p = write_column(out, p, r, &mut pool, words, e, known.own);
+        p = write_signal_of(out, p, r.image, r.fragments, e);
     }
     p
 }

@@ -6,17 +6,16 @@ ghost use Rattle.mdf.specs.Block.{link_at};
 ghost use Rattle.copier.specs.Standing.{copies_in};
 ghost use Rattle.result.specs.Fill.{new_link};
 ghost use Rattle.result.specs.Result.{decided};
-ghost use Rattle.choices.specs.Chosen.{rules};
-ghost use Rattle.writing.specs.Answer.{args, file_for};
+ghost use Rattle.writing.specs.Answer.{args_of, file_for};
 ghost use Rattle.writing.specs.Finish.{Stands};
 
-use crate::data::write_data;
+use crate::convert::Call;
+use crate::data::{Recording, write_data};
 use crate::front::{write_front, write_history};
 use crate::structure::write_structure;
 use blocks::block::link_at;
-use choices::Choices;
 use copier::memo::new_link;
-use placing::layout::Numbers;
+use placing::decide::Decision;
 use planning::words::word;
 use write_copies::attached::{next_place, write_attachments};
 use write_copies::copies::write_copies;
@@ -26,10 +25,7 @@ use write_copies::gap::gap;
 pub fn first_column(copies: &[u64], n: u64) -> u64
     ensures { result ≡ if_eq n 0 0 (slice_index copies.now 6656) }
 {
-    if n == 0 {
-        return 0;
-    }
-    word(copies, 6656)
+    if n == 0 { 0 } else { word(copies, 6656) }
 }
 
 // The place of the first block of the history: the copy of the chain's first, or the new FH.
@@ -57,49 +53,36 @@ fn first_fragments(fragments: &[u64]) -> [u64; 3072]
     ensures { result ≡ take 3072 fragments.now }
 {
     let mut kept = [0u64; 3072];
-    let mut i: usize = 0;
-    while i < 3072 {
-        kept[i] = fragments[i];
-        i += 1;
-    }
+    kept.copy_from_slice(&fragments[..3072]);
     kept
 }
 
 // All of it, from what was decided; the words of fragments are free afterwards.
 pub(crate) fn write_file(
     out: &mut [u8],
-    image: &[u8],
-    size: u64,
-    ident: &[u8],
-    text: &[u8],
-    time: u64,
-    choices: Choices,
-    table: &[u8],
+    call: Call,
     source: &[u64],
     fragments: &mut [u64],
     columns: &[u64],
     copies: &[u64],
-    items: u64,
-    pieces: u64,
-    n: u64,
-    omitted: u64,
-    numbers: Numbers,
+    found: Decision,
 )
-    requires { Stands (args image.now size ident.now text.now time (rules choices table.now)) items pieces n omitted numbers
-        source.now fragments.old columns.now copies.now × (numbers.file_size ≤ length out.old) }
-    ensures { out.new ≡ blit 0 (file_for (args image.now size ident.now text.now time (rules choices table.now))
-        (decided (args image.now size ident.now text.now time (rules choices table.now)))) out.old }
+    requires { Stands (args_of call) found.items found.fragments found.columns found.omissions found.numbers
+        source.now fragments.old columns.now copies.now × (found.numbers.file_size ≤ length out.old) }
+    ensures { out.new ≡ blit 0 (file_for (args_of call.entry) (decided (args_of call.entry))) out.old }
 {
+    let image = call.image;
+    let numbers = found.numbers;
     let used = numbers.copies;
     let chain = numbers.chain;
     let fh = numbers.fh;
-    let column = first_column(copies, n);
+    let column = first_column(copies, found.columns);
     let history = first_history(copies, used, chain, fh);
     let attachment = next_place(copies, 0, numbers.attachments);
     let comment = comment_of(image, copies, used);
-    let a = write_front(out, image, ident, column, history, attachment, comment);
+    let a = write_front(out, image, call.ident, column, history, attachment, comment);
     let b = write_copies(out, a, image, copies, used, chain, fh, 0, numbers.history);
-    let c = write_history(out, b, numbers.md, fh, text, time);
+    let c = write_history(out, b, numbers.md, fh, call.text, call.time);
     let d = write_copies(
         out,
         c,
@@ -111,25 +94,30 @@ pub(crate) fn write_file(
         numbers.history,
         numbers.metadata,
     );
-    let photos = choices.photos;
     let e = write_structure(
         out,
         d,
         image,
-        photos,
-        table,
-        size,
+        call.choices.photos,
+        call.table,
+        call.size,
         columns,
         copies,
-        n,
+        found.columns,
         used,
         numbers.metadata,
         numbers.attachments,
     );
     let kept = first_fragments(fragments);
-    let f = write_data(
-        out, e, image, size, source, items, &kept, pieces, columns, copies, n, fragments,
-    );
+    let recording = Recording {
+        image,
+        size: call.size,
+        source,
+        n: found.items,
+        fragments: &kept,
+        nf: found.fragments,
+    };
+    let f = write_data(out, e, recording, columns, copies, found.columns, fragments);
     let g = write_attachments(
         out,
         f,

@@ -8,10 +8,8 @@ fn put_words(list: &mut [u64], at: usize, w: &[u64], i: usize, n: usize)
     requires { (at + n ≤ length list.old) × (i + 2 * n ≤ length w.now + 1) }
     ensures { list.new ≡ blit at (every_other w.now i n) list.old }
 {
-    let mut k: usize = 0;
-    while k < n {
+    for k in 0..n {
         list[at + k] = w[i + 2 * k];
-        k += 1;
     }
 }
 
@@ -30,14 +28,8 @@ pub fn put_list(list: &mut [u64], columns: &[u64], n: u64)
     ensures { 2 * n + 1 ≤ length list.old → 4096 + 2 * n ≤ length columns.now
         → list.new ≡ blit 0 (listed columns.now n) list.old }
 {
-    let words = columns.len() as u64;
-    if words < 4096 {
-        return;
-    }
-    if (words - 4096) / 2 < n {
-        return;
-    }
-    if (list.len() as u64) < 2 * n + 1 {
+    let pairs = (columns.len() as u64).saturating_sub(4096) / 2;
+    if pairs < n || columns.len() < 4096 || (list.len() as u64) < 2 * n + 1 {
         return;
     }
     write_list(list, columns, n as usize);

@@ -4,7 +4,6 @@ ghost use Rattle.writing.specs.Own.{OwnOf, Knows};
 
 use planning::span::{past_dg, rest_of};
 use planning::words::word;
-use puts::least;
 
 // Its fragments from number begin up to number end; before its groups, groups in number, are others, first in number.
 #[derive(Clone, Copy)]
@@ -15,24 +14,14 @@ pub struct Own {
     pub groups: u64,
 }
 
-// x without 2, or 0.
-fn less_two(x: u64) -> u64
-    ensures { result ≡ x - 2 }
-{
-    if x < 2 {
-        return 0;
-    }
-    x - 2
-}
-
 // Of the DG at d, among n items, with nf fragments.
 pub fn own_of(source: &[u64], n: u64, nf: u64, d: u64) -> Own
     ensures { OwnOf source.now n nf d result }
 {
     let past = past_dg(source, n, d);
     let rest = rest_of(source, n, past.item, nf);
-    let end = least(rest.end, nf);
-    let begin = least(less_two(word(source, 1535 + past.item)), end);
+    let end = rest.end.min(nf);
+    let begin = word(source, 1535 + past.item).saturating_sub(2).min(end);
     Own {
         begin,
         end,

@@ -3,15 +3,14 @@ ghost use Rattle.std.specs.Prelude.{◌≡◌, ◌+◌, ◌*◌, ◌<◌, ◌≤
 ghost use Rattle.work_words.specs.CopyWords.{placed_at};
 ghost use Rattle.plan.specs.Channel.{channel_type, width};
 ghost use Rattle.plan.specs.Geometry.{block_count, block_payload};
-ghost use Rattle.plan.specs.Layout.{cg_size};
 ghost use Rattle.result.specs.Fill.{stored_type, sd_link};
-ghost use Rattle.filling.specs.FillLaws.{has_master};
-ghost use Rattle.writing.specs.PlacedIn.{master_in, signal_in};
+ghost use Rattle.writing.specs.PlacedIn.{signal_in};
 ghost use Rattle.writing.specs.Structure.{master_place, next_place, column_of, Near, Bounded};
 
 use channels::{block_count, channel_type, per_full, width_of};
 use choices::treatment_of;
 use photos::photos_of;
+use placing::columns::cg_bytes;
 
 // Its CN in the image and the type that it is stored with, its CG and DG, its number of records, whether its master is in another group and that group's new CG; the places of its
 // DG, CN, first data block and SD, 0 without signal data; the number of its data blocks, of its references to attachments, and the payload of one.
@@ -33,34 +32,11 @@ pub struct PlacedColumn {
     pub payload: u64,
 }
 
-// Whether there is a master, by its word.
-fn has_master(word: u64) -> bool
-    ensures { result ≡ has_master (master_in word) }
-{
-    if word == 0 {
-        return false;
-    }
-    true
-}
-
-// The length of the CG.
-fn cg_size(word: u64) -> u64
-    ensures { result ≡ cg_size (master_in word) }
-{
-    if word == 0 {
-        return 104;
-    }
-    112
-}
-
 // The link to the SD, by the signal data's word.
 fn sd_link(word: u64, sd: u64) -> u64
     ensures { result ≡ sd_link (signal_in word) sd }
 {
-    if word == 0 {
-        return 0;
-    }
-    sd
+    if word == 0 { 0 } else { sd }
 }
 
 // The master's CG, by its word, of n columns.
@@ -86,16 +62,7 @@ fn master_place(memo: &[u64], n: u64, word: u64) -> u64
 pub fn place_after(memo: &[u64], n: u64, k: u64) -> u64
     ensures { n ≤ 512 → 8192 ≤ length memo.now → result ≡ next_place memo.now n k }
 {
-    if n <= k {
-        return 0;
-    }
-    if n <= k + 1 {
-        return 0;
-    }
-    if 512 < n {
-        return 0;
-    }
-    if memo.len() < 8192 {
+    if n <= k || n - k == 1 || 512 < n || memo.len() < 8192 {
         return 0;
     }
     memo[(6656 + 3 * (k + 1)) as usize]
@@ -113,8 +80,7 @@ pub(crate) fn next_place(memo: &[u64], n: u64, k: u64) -> u64
 fn blocks_of(image: &[u8], size: u64, g: u64, c: u64, n: u64) -> u64
     ensures { result ≡ block_count size (width image.now g c) n }
 {
-    let w = width_of(image, g, c);
-    block_count(size, w, n)
+    block_count(size, width_of(image, g, c), n)
 }
 
 // The payload of one that is not the last, or of the only one.
@@ -122,8 +88,7 @@ fn payload_of(image: &[u8], size: u64, g: u64, c: u64, n: u64) -> u64
     ensures { result ≡ block_payload size (width image.now g c) n }
 {
     let w = width_of(image, g, c);
-    let m = per_full(size, w, n);
-    m * w
+    per_full(size, w, n) * w
 }
 
 // The type that the CN at c is stored with, by the table.
@@ -181,10 +146,9 @@ fn column_near(
     let group = columns[i + 1];
     let records = columns[i + 3];
     let word = columns[i + 5];
-    let remote = has_master(word);
     let master = master_place(memo, n, word);
     let dg = memo[j];
-    let cn = dg + 64 + cg_size(word);
+    let cn = dg + 64 + cg_bytes(word);
     let sd = sd_link(columns[i + 6], memo[j + 2]);
     let blocks = blocks_of(image, size, group, channel, records);
     let payload = payload_of(image, size, group, channel, records);
@@ -196,7 +160,7 @@ fn column_near(
         group,
         parent: columns[i + 2],
         records,
-        remote,
+        remote: word != 0,
         master,
         dg,
         cn,
@@ -222,16 +186,7 @@ pub fn column_at(
     ensures { Bounded result × (Near memo.now n → k < n → 4096 ≤ length columns.now
         → result ≡ column_of photos table.now image.now size columns.now memo.now n k) }
 {
-    if n <= k {
-        return no_column();
-    }
-    if 512 < n {
-        return no_column();
-    }
-    if columns.len() < 4096 {
-        return no_column();
-    }
-    if memo.len() < 8192 {
+    if n <= k || 512 < n || columns.len() < 4096 || memo.len() < 8192 {
         return no_column();
     }
     if 9223372036854775808 <= memo[(6656 + 3 * k) as usize] {

@@ -6,17 +6,13 @@ ghost use Rattle.work_words.specs.Words.{fragments_of};
 ghost use Rattle.mdf.specs.Records.{joined};
 ghost use Rattle.result.specs.Fill.{block_of};
 
-use puts::{copy, header, least};
+use puts::{copy, header};
 
 // How many of n bytes from an offset on lie in the image.
 fn inside(image: &[u8], offset: u64, n: u64) -> u64
     ensures { result ≡ length (part offset n image.now) }
 {
-    let all = image.len() as u64;
-    if all <= offset {
-        return 0;
-    }
-    least(n, all - offset)
+    n.min((image.len() as u64).saturating_sub(offset))
 }
 
 // The number of bytes of joined fragments, modulo 2^64.
@@ -28,7 +24,7 @@ pub(crate) fn joined_size(image: &[u8], fragments: &[u64]) -> u64
     let mut sum: u64 = 0;
     while 2 < n - i {
         let here = inside(image, fragments[i], fragments[i + 1]);
-        sum = std::num::wrapping_add_u64(sum, here);
+        sum = sum.wrapping_add(here);
         i += 3;
     }
     sum
@@ -63,7 +59,7 @@ pub fn write_signal(out: &mut [u8], image: &[u8], fragments: &[u64])
     ensures { out.new ≡ blit 0 (block_of kind_sd (joined image.now (fragments_of fragments.now)))
         out.old }
 {
-    let size = std::num::wrapping_add_u64(24, joined_size(image, fragments));
+    let size = 24u64.wrapping_add(joined_size(image, fragments));
     header(out, 0x4453_2323, size, 0);
     copy_all(out, 24, image, fragments);
 }

@@ -20,13 +20,25 @@ use filling::{put_cg, put_cn, put_cn_data, put_dg, put_dl};
 use write_copies::gap::gap;
 use write_copies::led::put_photos;
 
+// What links are led to: the image that they stand in, its copies in words, an index of them and their number; and the attachments, whose copies
+// follow those of the metadata.
+#[derive(Clone, Copy)]
+struct Copies<'a> {
+    image: &'a [u8],
+    memo: &'a [u64],
+    index: &'a [u16; 4096],
+    used: u64,
+    metadata: u64,
+    attached: u64,
+}
+
 // Link i of the block at a, led to its copy.
-fn link(image: &[u8], memo: &[u64], index: &[u16; 4096], used: u64, a: u64, i: u64) -> u64
-    requires { Indexes memo.now used index.now }
-    ensures { result ≡ new_link (copies_in memo.now used) (link_at image.now a i) }
+fn link(c: Copies, a: u64, i: u64) -> u64
+    requires { Indexes c.memo.now c.used c.index.now }
+    ensures { result ≡ new_link (copies_in c.entry.memo.now c.entry.used) (link_at c.entry.image.now a i) }
 {
-    let to = link_at(image, a, i);
-    link_by(memo, index, used, to)
+    let to = link_at(c.image, a, i);
+    link_by(c.memo, c.index, c.used, to)
 }
 
 // The place of the DL, 0 without data blocks.
@@ -35,68 +47,48 @@ fn dl_place(h: PlacedColumn) -> u64
     ensures { result ≡ if_eq h.blocks 0 0 (h.cn + cn_length h) }
 {
     if h.blocks == 0 {
-        return 0;
+        0
+    } else {
+        h.cn + (160 + 8 * h.photos)
     }
-    h.cn + (160 + 8 * h.photos)
 }
 
 // The DG at the front of d.
-fn fill_dg(
-    d: &mut [u8],
-    image: &[u8],
-    memo: &[u64],
-    index: &[u16; 4096],
-    used: u64,
-    h: PlacedColumn,
-    next: u64,
-)
-    requires { (h.dg + 64 ≤ h.cn) × (h.cn + cn_length h < 18446744073709551616) × Indexes memo.now used index.now }
-    ensures { d.new ≡ blit 0 (column_dg image.now (copies_in memo.now used) h next) d.old }
+fn fill_dg(d: &mut [u8], c: Copies, h: PlacedColumn, next: u64)
+    requires { (h.dg + 64 ≤ h.cn) × (h.cn + cn_length h < 18446744073709551616) × Indexes c.memo.now c.used c.index.now }
+    ensures { d.new ≡ blit 0 (column_dg c.entry.image.now (copies_in c.entry.memo.now c.entry.used) h next) d.old }
 {
     let dl = dl_place(h);
-    let comment = link(image, memo, index, used, h.parent, 3);
+    let comment = link(c, h.parent, 3);
     put_dg(d, next, h.dg + 64, dl, comment);
 }
 
 // The CG.
-fn fill_cg(
-    d: &mut [u8],
-    image: &[u8],
-    memo: &[u64],
-    index: &[u16; 4096],
-    used: u64,
-    h: PlacedColumn,
-)
-    requires { Indexes memo.now used index.now }
-    ensures { d.new ≡ blit 0 (column_cg image.now (copies_in memo.now used) h) d.old }
+fn fill_cg(d: &mut [u8], c: Copies, h: PlacedColumn)
+    requires { Indexes c.memo.now c.used c.index.now }
+    ensures { d.new ≡ blit 0 (column_cg c.entry.image.now (copies_in c.entry.memo.now c.entry.used) h) d.old }
 {
-    let name = link(image, memo, index, used, h.group, 2);
-    let source = link(image, memo, index, used, h.group, 3);
-    let comment = link(image, memo, index, used, h.group, 5);
-    let bytes = channel_bytes(image, h.channel);
-    let inval = keeps_inval(image, h.group, h.channel);
+    let name = link(c, h.group, 2);
+    let source = link(c, h.group, 3);
+    let comment = link(c, h.group, 5);
+    let bytes = channel_bytes(c.image, h.channel);
+    let inval = keeps_inval(c.image, h.group, h.channel);
     put_cg(
-        d, image, h.group, h.cn, name, source, comment, h.remote, h.master, h.records, bytes, inval,
+        d, c.image, h.group, h.cn, name, source, comment, h.remote, h.master, h.records, bytes,
+        inval,
     );
 }
 
 // The CN up to its eighth link.
-fn fill_front(
-    d: &mut [u8],
-    image: &[u8],
-    memo: &[u64],
-    index: &[u16; 4096],
-    used: u64,
-    h: PlacedColumn,
-)
-    requires { Indexes memo.now used index.now × (h.photos ≤ 65535) }
-    ensures { d.new ≡ blit 0 (column_front image.now (copies_in memo.now used) h) d.old }
+fn fill_front(d: &mut [u8], c: Copies, h: PlacedColumn)
+    requires { Indexes c.memo.now c.used c.index.now × (h.photos ≤ 65535) }
+    ensures { d.new ≡ blit 0 (column_front c.entry.image.now (copies_in c.entry.memo.now c.entry.used) h) d.old }
 {
-    let name = link(image, memo, index, used, h.channel, 2);
-    let source = link(image, memo, index, used, h.channel, 3);
-    let conversion = link(image, memo, index, used, h.channel, 4);
-    let unit = link(image, memo, index, used, h.channel, 6);
-    let comment = link(image, memo, index, used, h.channel, 7);
+    let name = link(c, h.channel, 2);
+    let source = link(c, h.channel, 3);
+    let conversion = link(c, h.channel, 4);
+    let unit = link(c, h.channel, 6);
+    let comment = link(c, h.channel, 7);
     let size = 160 + 8 * h.photos;
     let links = 8 + h.photos;
     put_cn(
@@ -115,96 +107,53 @@ fn fill_data(d: &mut [u8], image: &[u8], h: PlacedColumn)
 }
 
 // The CN; there are so many attachments.
-fn fill_cn(
-    d: &mut [u8],
-    image: &[u8],
-    memo: &[u64],
-    index: &[u16; 4096],
-    used: u64,
-    metadata: u64,
-    attached: u64,
-    h: PlacedColumn,
-)
-    requires { Indexes memo.now used index.now × (h.photos ≤ 65535) × (cn_length h ≤ length d.old) × (attached ≤ 64) × (8192 ≤ length memo.now) }
-    ensures { d.new ≡ blit 0 (column_cn image.now (copies_in memo.now used)
-        (attachments_in memo.now metadata attached) h) d.old }
+fn fill_cn(d: &mut [u8], c: Copies, h: PlacedColumn)
+    requires { Indexes c.memo.now c.used c.index.now × (h.photos ≤ 65535) × (cn_length h ≤ length d.old) × (c.attached ≤ 64) × (8192 ≤ length c.memo.now) }
+    ensures { d.new ≡ blit 0 (column_cn c.entry.image.now (copies_in c.entry.memo.now c.entry.used)
+        (attachments_in c.entry.memo.now c.entry.metadata c.entry.attached) h) d.old }
 {
-    fill_front(d, image, memo, index, used, h);
-    put_photos(d, image, memo, metadata, attached, h.channel, h.photos);
-    fill_data(d, image, h);
+    fill_front(d, c, h);
+    put_photos(
+        d, c.image, c.memo, c.metadata, c.attached, h.channel, h.photos,
+    );
+    fill_data(d, c.image, h);
 }
 
 // The DG at its place, zeros before it; the index past it.
-fn write_dg(
-    out: &mut [u8],
-    at: usize,
-    image: &[u8],
-    memo: &[u64],
-    index: &[u16; 4096],
-    used: u64,
-    h: PlacedColumn,
-    next: u64,
-) -> usize
-    requires { (at ≤ h.dg) × (h.dg + 64 ≤ h.cn) × (h.cn + cn_length h ≤ length out.old) × Indexes memo.now used index.now }
-    ensures { Wrote at (block h.dg (column_dg image.now (copies_in memo.now used) h next) ∷ []) result
+fn write_dg(out: &mut [u8], at: usize, c: Copies, h: PlacedColumn, next: u64) -> usize
+    requires { (at ≤ h.dg) × (h.dg + 64 ≤ h.cn) × (h.cn + cn_length h ≤ length out.old) × Indexes c.memo.now c.used c.index.now }
+    ensures { Wrote at (block h.dg (column_dg c.entry.image.now (copies_in c.entry.memo.now c.entry.used) h next) ∷ []) result
         out.old out.new }
 {
     let to = h.dg as usize;
     gap(out, at, to);
-    fill_dg(&mut out[to..], image, memo, index, used, h, next);
+    fill_dg(&mut out[to..], c, h, next);
     to + 64
 }
 
 // The CG.
-fn write_cg(
-    out: &mut [u8],
-    at: usize,
-    image: &[u8],
-    memo: &[u64],
-    index: &[u16; 4096],
-    used: u64,
-    h: PlacedColumn,
-) -> usize
+fn write_cg(out: &mut [u8], at: usize, c: Copies, h: PlacedColumn) -> usize
     requires { (at ≤ h.dg + 64) × (h.cn ≡ h.dg + 64 + cg_length h.remote) × (h.cn ≤ length out.old) ×
-        (data_at image.now h.group + 32 ≤ length image.now) × Indexes memo.now used index.now }
-    ensures { Wrote at (block (h.dg + 64) (column_cg image.now (copies_in memo.now used) h) ∷ []) result
+        (data_at c.image.now h.group + 32 ≤ length c.image.now) × Indexes c.memo.now c.used c.index.now }
+    ensures { Wrote at (block (h.dg + 64) (column_cg c.entry.image.now (copies_in c.entry.memo.now c.entry.used) h) ∷ []) result
         out.old out.new }
 {
     let to = (h.dg + 64) as usize;
     gap(out, at, to);
-    fill_cg(&mut out[to..], image, memo, index, used, h);
+    fill_cg(&mut out[to..], c, h);
     h.cn as usize
 }
 
 // The CN.
-fn write_cn(
-    out: &mut [u8],
-    at: usize,
-    image: &[u8],
-    memo: &[u64],
-    index: &[u16; 4096],
-    used: u64,
-    metadata: u64,
-    attached: u64,
-    h: PlacedColumn,
-) -> usize
-    requires { (at ≤ h.cn) × (h.cn + cn_length h ≤ length out.old) × (data_at image.now h.channel + 72 ≤ length image.now)
-        × Indexes memo.now used index.now × (h.photos ≤ 65535) × (attached ≤ 64) × (8192 ≤ length memo.now) }
-    ensures { Wrote at (block h.cn (column_cn image.now (copies_in memo.now used)
-        (attachments_in memo.now metadata attached) h) ∷ []) result out.old out.new }
+fn write_cn(out: &mut [u8], at: usize, c: Copies, h: PlacedColumn) -> usize
+    requires { (at ≤ h.cn) × (h.cn + cn_length h ≤ length out.old) × (data_at c.image.now h.channel + 72 ≤ length c.image.now)
+        × Indexes c.memo.now c.used c.index.now × (h.photos ≤ 65535) × (c.attached ≤ 64) × (8192 ≤ length c.memo.now) }
+    ensures { Wrote at (block h.cn (column_cn c.entry.image.now (copies_in c.entry.memo.now c.entry.used)
+        (attachments_in c.entry.memo.now c.entry.metadata c.entry.attached) h) ∷ []) result out.old out.new }
 {
     let to = h.cn as usize;
     gap(out, at, to);
-    fill_cn(
-        &mut out[to..],
-        image,
-        memo,
-        index,
-        used,
-        metadata,
-        attached,
-        h,
-    );
+    fill_cn(&mut out[to..], c, h);
     to + (160 + 8 * h.photos) as usize
 }
 
@@ -224,27 +173,16 @@ fn write_dl(out: &mut [u8], at: usize, h: PlacedColumn) -> usize
 }
 
 // A column's blocks.
-fn write_column(
-    out: &mut [u8],
-    at: usize,
-    image: &[u8],
-    memo: &[u64],
-    index: &[u16; 4096],
-    used: u64,
-    metadata: u64,
-    attached: u64,
-    h: PlacedColumn,
-    next: u64,
-) -> usize
-    requires { Room image.now h at (length out.old) × Indexes memo.now used index.now × (h.photos ≤ 65535) × (attached ≤ 64)
-        × (8192 ≤ length memo.now) }
-    ensures { Wrote at (column_parts image.now (copies_in memo.now used) (attachments_in memo.now metadata attached) h next) result
+fn write_column(out: &mut [u8], at: usize, c: Copies, h: PlacedColumn, next: u64) -> usize
+    requires { Room c.image.now h at (length out.old) × Indexes c.memo.now c.used c.index.now × (h.photos ≤ 65535) × (c.attached ≤ 64)
+        × (8192 ≤ length c.memo.now) }
+    ensures { Wrote at (column_parts c.entry.image.now (copies_in c.entry.memo.now c.entry.used) (attachments_in c.entry.memo.now c.entry.metadata c.entry.attached) h next) result
         out.old out.new }
 {
-    let a = write_dg(out, at, image, memo, index, used, h, next);
-    let b = write_cg(out, a, image, memo, index, used, h);
-    let c = write_cn(out, b, image, memo, index, used, metadata, attached, h);
-    write_dl(out, c, h)
+    let a = write_dg(out, at, c, h, next);
+    let b = write_cg(out, a, c, h);
+    let past = write_cn(out, b, c, h);
+    write_dl(out, past, h)
 }
 
 // The blocks of n columns, whose words columns and memo have, from index at on; the index past them.
@@ -270,15 +208,19 @@ pub(crate) fn write_structure(
         out.old out.new }
 {
     let index = index_copies(memo, used);
-    let mut k = 0;
+    let copies = Copies {
+        image,
+        memo,
+        index: &index,
+        used,
+        metadata,
+        attached,
+    };
     let mut to = at;
-    while k < n {
+    for k in 0..n {
         let h = column_of(image, photos, table, size, columns, memo, n, k);
         let next = next_place(memo, n, k);
-        to = write_column(
-            out, to, image, memo, &index, used, metadata, attached, h, next,
-        );
-        k += 1;
+        to = write_column(out, to, copies, h, next);
     }
     to
 }

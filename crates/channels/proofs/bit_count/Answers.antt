@@ -1,9 +1,8 @@
 -- The field of the data is the definition's.
-use borrow.Author.Rules.{rules}
 use Rattle.plan.specs.Channel.{bit_count}
 use Rattle.channels.specs.ChannelLaws.{field_small}
 use Rattle.channels.proofs.bit_count.Goals as goal
 
 pub returns : goal.returns
 unfolding bit_count
-returns c = field_small c.data_u32.ensures
+returns c = field_small c.data_field.ensures

@@ -1,5 +1,4 @@
 -- The flag is that of the definition.
-use borrow.Author.Rules.{rules}
 use Rattle.channels.specs.ChannelLaws.{storage_is}
 use Rattle.channels.proofs.is_storage.Goals as goal
 

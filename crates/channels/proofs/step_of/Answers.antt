@@ -5,28 +5,28 @@ use Rattle.base.specs.ChoiceLaws.{eq_yes, eq_no}
 use Rattle.channels.specs.GeometryLaws.{capped, step-zeros}
 use Rattle.channels.proofs.step_of.Goals as goal
 
-pub returns-then-zeros-eq0 : goal.returns-then-zeros-eq0
+pub returns-in-0 : goal.returns-in-0
 unfolding capped
-returns-then-zeros-eq0 c = record { is = step-zeros 61 _ (eq_yes _ _ _ _ (omega arith) refl); small = omega arith }
+returns-in-0 c = record { is = step-zeros 61 _ (eq_yes _ _ _ _ (omega arith) refl); small = omega arith }
 
-pub returns-then-zeros-eq1 : goal.returns-then-zeros-eq1
+pub returns-in-1 : goal.returns-in-1
 unfolding capped
-returns-then-zeros-eq1 c = record {
+returns-in-1 c = record {
   is = step-zeros 61 _ (eq_no _ _ _ _ (omega arith) (eq_yes _ _ _ _ (omega arith) refl));
   small = omega
       arith;
 }
 
-pub returns-then-zeros-eq2 : goal.returns-then-zeros-eq2
+pub returns-in-2 : goal.returns-in-2
 unfolding capped
-returns-then-zeros-eq2 c = record {
+returns-in-2 c = record {
   is = step-zeros 61 _ (eq_no _ _ _ _ (omega arith) (eq_no _ _ _ _ (omega arith) (eq_yes _ _ _ _ (omega arith) refl)));
   small = omega arith;
 }
 
-pub returns : goal.returns
+pub returns-in_default : goal.returns-in_default
 unfolding capped
-returns c = record {
+returns-in_default c = record {
   is = step-zeros 61 _ (eq_no _ _ _ _ (omega arith) (eq_no _ _ _ _ (omega arith) (eq_no _ _ _ _ (omega arith) refl)));
   small = omega arith;
 }

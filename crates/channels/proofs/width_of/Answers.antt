@@ -1,6 +1,5 @@
 -- The kept invalidation bit adds a byte.
 use native.Mathlib.Omega.{arith}
-use borrow.Author.Rules.{rules}
 use Rattle.channels.specs.ChannelLaws.{width-kept, width-bare}
 use Rattle.channels.proofs.width_of.Goals as goal
 
@@ -10,8 +9,8 @@ returns-then-keeps_inval c = record {
   small = omega arith;
 }
 
-pub returns : goal.returns
-returns c = record {
+pub returns-else-keeps_inval : goal.returns-else-keeps_inval
+returns-else-keeps_inval c = record {
   is = width-bare _ _ _ c.channel_bytes-n.ensures.is c.keeps_inval.ensures c.if-keeps_inval.false;
   small = omega arith;
 }

@@ -1,26 +1,20 @@
 -- The entries that are left give what all give; a wrong one or the end answers.
-use Prim.Native.Nat.{◌+◌, ◌<◌}
-use mathlib.Core.Path.{◌≡◌, refl}
+use Prim.Native.Nat.{◌+◌, ◌-◌}
+use mathlib.Core.Path.{◌≡◌}
 use native.Mathlib.Omega.{arith}
-use borrow.Author.Rules.{rules}
-use Rattle.plan.specs.Table.{are_entries}
 use Rattle.choices.specs.TableLaws.{entries_end, entries-good, entries_bad}
 use Rattle.choices.proofs.are_entries.Goals as goal
 
-pub loop-left-init : goal.loop-left-init
-loop-left-init c = (search rules, refl)
+pub loop-k-init : goal.loop-k-init
+loop-k-init c = let e : c.args.n - 0 ≡ c.args.n = omega arith in rw e
 
-pub loop-left-preserved : goal.loop-left-preserved
-loop-left-preserved c = (
-  search rules,
-  entries-good _ _ _ c.loop-left.invariant.1 c.loop-left-test.true
-      c.is_entry.ensures c.if-is_entry.true,
-)
+pub returns-then-not-is_entry : goal.returns-then-not-is_entry
+returns-then-not-is_entry c = entries_bad _ _ _ c.loop-k.invariant (omega arith) c.is_entry.ensures c.if-not-is_entry.true
 
-pub returns-else-is_entry : goal.returns-else-is_entry
-returns-else-is_entry c =
-    entries_bad _ _ _ c.loop-left.invariant.1 c.loop-left-test.true
-    c.is_entry.ensures c.if-is_entry.false
+pub loop-k-preserved : goal.loop-k-preserved
+loop-k-preserved c =
+    let e : c.args.n - (c.loop-k.k + 1) ≡ c.args.n - c.loop-k.k - 1 = omega arith in
+    rw e (entries-good _ _ _ c.loop-k.invariant (omega arith) c.is_entry.ensures c.if-not-is_entry.false)
 
 pub returns : goal.returns
-returns c = entries_end _ _ _ c.loop-left.invariant.1 (omega arith)
+returns c = entries_end _ _ _ c.loop-k.invariant (omega arith)

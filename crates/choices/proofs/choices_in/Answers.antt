@@ -1,5 +1,4 @@
 -- 26 exactly where the number is no unit; else the table's own answer.
-use borrow.Author.Rules.{rules}
 use Rattle.choices.specs.RulesLaws.{choices_past, choices_refused}
 use Rattle.choices.proofs.choices_in.Goals as goal
 

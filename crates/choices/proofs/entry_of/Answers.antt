@@ -1,26 +1,20 @@
 -- The entries that are left give what all give; a hit or the end answers.
-use Prim.Native.Nat.{◌+◌, ◌<◌}
-use mathlib.Core.Path.{◌≡◌, refl}
+use Prim.Native.Nat.{◌+◌, ◌-◌}
+use mathlib.Core.Path.{◌≡◌, ◌∙◌}
 use native.Mathlib.Omega.{arith}
-use borrow.Author.Rules.{rules}
-use Rattle.plan.specs.Table.{entry_of}
 use Rattle.choices.specs.TableLaws.{entry_end, entry_hit, entry_miss}
 use Rattle.choices.proofs.entry_of.Goals as goal
 
-pub loop-left-init : goal.loop-left-init
-loop-left-init c = (search rules, refl)
+pub loop-i-init : goal.loop-i-init
+loop-i-init c = let e : c.args.k + c.args.n - c.args.k ≡ c.args.n = omega arith in rw e
 
-pub returns-then-u8_at-t : goal.returns-then-u8_at-t
-returns-then-u8_at-t c =
-    entry_hit _ _ _ _ c.loop-left.invariant.1 c.loop-left-test.true
-    c.u8_at.ensures c.if-u8_at-t.true
+pub returns-then-field_at-t : goal.returns-then-field_at-t
+returns-then-field_at-t c = entry_hit _ _ _ _ c.loop-i.invariant (omega arith) c.field_at.ensures c.if-field_at-t.true
 
-pub loop-left-preserved : goal.loop-left-preserved
-loop-left-preserved c = (
-  search rules,
-  entry_miss _ _ _ _ c.loop-left.invariant.1 c.loop-left-test.true
-      c.u8_at.ensures c.if-u8_at-t.false,
-)
+pub loop-i-preserved : goal.loop-i-preserved
+loop-i-preserved c =
+    let e : c.args.k + c.args.n - (c.loop-i.i + 1) ≡ c.args.k + c.args.n - c.loop-i.i - 1 = omega arith in
+    rw e (entry_miss _ _ _ _ c.loop-i.invariant (omega arith) c.field_at.ensures c.if-field_at-t.false)
 
 pub returns : goal.returns
-returns c = entry_end _ _ _ _ c.loop-left.invariant.1 (omega arith)
+returns c = let e : c.args.k + c.args.n ≡ c.loop-i.i = omega arith in e ∙ entry_end _ _ _ _ c.loop-i.invariant (omega arith)

@@ -6,26 +6,25 @@ use Rattle.plan.specs.Table.{is_allowed}
 use Rattle.choices.specs.TableLaws.{differs}
 use Rattle.choices.proofs.is_allowed.Goals as goal
 
-pub returns-then-t-eq2 : goal.returns-then-t-eq2
+pub returns-in-2 : goal.returns-in-2
 unfolding is_allowed
-returns-then-t-eq2 c = eq_yes _ _ _ _ (omega arith) refl
+returns-in-2 c = eq_yes _ _ _ _ c.in-2.is refl
 
-pub returns-then-t-eq3 : goal.returns-then-t-eq3
+pub returns-in-3 : goal.returns-in-3
 unfolding is_allowed
-returns-then-t-eq3 c = eq_no _ _ _ _ (λ e. omega arith) (eq_yes _ _ _ _ (omega arith) refl)
+returns-in-3 c = eq_no _ _ _ _ (λ e. omega arith) (eq_yes _ _ _ _ c.in-3.is refl)
 
-pub returns-then-t-eq5 : goal.returns-then-t-eq5
+pub returns-in-5 : goal.returns-in-5
 unfolding is_allowed
-returns-then-t-eq5 c = eq_no _ _ _ _ (λ e. omega arith) (eq_no _ _ _ _ (λ e. omega arith) (eq_yes _ _ _ _ (omega arith) (differs _ _)))
+returns-in-5 c = eq_no _ _ _ _ (λ e. omega arith) (eq_no _ _ _ _ (λ e. omega arith) (eq_yes _ _ _ _ c.in-5.is (differs _ _)))
 
-pub returns-then-t-eq6 : goal.returns-then-t-eq6
+pub returns-in-6 : goal.returns-in-6
 unfolding is_allowed
-returns-then-t-eq6 c =
-    eq_no _ _ _ _ (λ e. omega arith)
-    (eq_no _ _ _ _ (λ e. omega arith) (eq_no _ _ _ _ (λ e. omega arith) (eq_yes _ _ _ _ (omega arith) (differs _ _))))
+returns-in-6 c =
+    eq_no _ _ _ _ (λ e. omega arith) (eq_no _ _ _ _ (λ e. omega arith) (eq_no _ _ _ _ (λ e. omega arith) (eq_yes _ _ _ _ c.in-6.is (differs _ _))))
 
-pub returns : goal.returns
+pub returns-in_default : goal.returns-in_default
 unfolding is_allowed
-returns c =
+returns-in_default c =
     eq_no _ _ _ _ (λ e. omega arith)
     (eq_no _ _ _ _ (λ e. omega arith) (eq_no _ _ _ _ (λ e. omega arith) (eq_no _ _ _ _ (λ e. omega arith) refl)))

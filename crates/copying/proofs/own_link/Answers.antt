@@ -1,7 +1,6 @@
 -- An FH loses its first link; any other block's is led to its copy.
 use Rattle.copying.specs.CopyingLaws.{own_lost, own-led}
 use native.Mathlib.Omega.{arith}
-use borrow.Author.Rules.{rules}
 use Rattle.copying.proofs.own_link.Goals as goal
 
 pub returns-then-kind_at-eq-FH : goal.returns-then-kind_at-eq-FH

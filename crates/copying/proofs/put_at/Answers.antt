@@ -4,7 +4,6 @@ use Prim.Native.Nat.{◌-◌}
 use Rattle.copying.specs.CopyingLaws.{at-laid}
 use native.Mathlib.Omega.{arith}
 use lib.ListN.{length}
-use borrow.Author.Rules.{rules}
 use Rattle.copying.proofs.put_at.Goals as goal
 
 pub overflow_add-n : goal.overflow_add-n
@@ -13,7 +12,7 @@ overflow_add-n c = omega (
   c.header_size-n.ensures,
   min-le_left 24
       (length
-      c.args.image.now
+      c.args.copies.image.now
       - c.args.a),
 )
 
@@ -23,7 +22,7 @@ put_links-requires c = omega (
   c.header_size-n.ensures,
   min-le_left 24
       (length
-      c.args.image.now
+      c.args.copies.image.now
       - c.args.a),
 )
 
@@ -32,7 +31,7 @@ overflow_add-n-2 c = omega (
   arith,
   c.header_size-n.ensures,
   min-le_left 24 (length
-      c.args.image.now
+      c.args.copies.image.now
       - c.args.a),
 )
 

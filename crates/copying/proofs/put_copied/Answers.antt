@@ -1,6 +1,5 @@
 -- Header, links and data, one after the other.
 use Rattle.copying.specs.CopyingLaws.{copied-laid}
-use borrow.Author.Rules.{rules}
 use Rattle.copying.proofs.put_copied.Goals as goal
 
 pub returns : goal.returns

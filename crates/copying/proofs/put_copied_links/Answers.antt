@@ -1,7 +1,6 @@
 -- The first link by the history, the others one after the other.
 use Rattle.copying.specs.CopyingLaws.{copied_none, copied_some}
 use native.Mathlib.Omega.{arith}
-use borrow.Author.Rules.{rules}
 use Rattle.copying.proofs.put_copied_links.Goals as goal
 
 pub returns-then-n-eq0 : goal.returns-then-n-eq0

@@ -3,14 +3,10 @@ use Rattle.copying.specs.CopyingLaws.{data_from_lem}
 use Rattle.puts.specs.PutLaws.{blit-past}
 use mathlib.Core.Path.{sym}
 use native.Mathlib.Omega.{arith}
-use borrow.Author.Rules.{rules}
 use Rattle.copying.proofs.put_data.Goals as goal
 
 pub returns-then-room-at : goal.returns-then-room-at
 returns-then-room-at c = sym (blit-past _ _ _ (omega arith))
-
-pub returns-then-room-at-2 : goal.returns-then-room-at-2
-returns-then-room-at-2 c = sym (blit-past _ _ _ (omega arith))
 
 pub returns : goal.returns
 returns c = data_from_lem _ _ _ _ c.data_at-from.ensures

@@ -1,11 +1,5 @@
 -- What is left of the history chain gives what all of it gives.
-use Rattle.copying.specs.CopyingLaws.{Chain, chain_begin, history_last, history-next, history_miss, history_end}
-use Rattle.result.specs.Fill.{history_link, first_new}
-use Rattle.copier.specs.Standing.{copies_in}
-use Rattle.work_words.specs.CopyWords.{history_at}
-use Rattle.base.specs.Blit.{part}
-use Prim.Native.Nat.{◌-◌}
-use borrow.Author.Rules.{rules}
+use Rattle.copying.specs.CopyingLaws.{chain_begin, history_last, history-next, history_miss, history_end}
 use native.Mathlib.Omega.{arith}
 use Rattle.copying.proofs.sought_link.Goals as goal
 
@@ -13,7 +7,7 @@ pub loop-i-init : goal.loop-i-init
 loop-i-init c = chain_begin _ _ _ _ _ _ c.chain_end-end.ensures
 
 pub returns-then-end-i-eq1 : goal.returns-then-end-i-eq1
-returns-then-end-i-eq1 c = λ t. history_last c.loop-i.invariant c.loop-i-test.true (omega
+returns-then-end-i-eq1 c = λ t. history_last c.loop-i.invariant (omega arith) (omega
     arith) (omega arith)
 
 pub returns-then-memo-i : goal.returns-then-memo-i
@@ -21,7 +15,7 @@ returns-then-memo-i c = λ t. history-next c.loop-i.invariant (omega arith) (ome
     (c.link_by.ensures t)
 
 pub loop-i-preserved : goal.loop-i-preserved
-loop-i-preserved c = history_miss c.loop-i.invariant c.loop-i-test.true (λ e. omega arith)
+loop-i-preserved c = history_miss c.loop-i.invariant (omega arith) (λ e. omega arith)
 
 pub returns : goal.returns
 returns c = λ t. history_end c.loop-i.invariant (omega arith) (c.own_link.ensures t)

@@ -1,7 +1,6 @@
 -- Another type, a type stored as 0, or link 6.
 use mathlib.Core.Path.{◌∙◌}
 use Rattle.deciding.specs.DecideLaws.{link-other, link-stored, link_read}
-use borrow.Author.Rules.{rules}
 use Rattle.deciding.proofs.signal_link.Goals as goal
 
 pub returns-then-t-ne1 : goal.returns-then-t-ne1

@@ -1,6 +1,5 @@
 -- Header and links, the master where it is remote, the data.
 use Rattle.filling.specs.BlocksLaws.{cg-remote, cg-own}
-use Rattle.std.proofs.Common.{rules}
 use Rattle.filling.proofs.put_cg.Goals as goal
 
 pub returns-then-remote : goal.returns-then-remote

@@ -1,5 +1,5 @@
 -- Fields, one after the other, and the part that is kept.
-use Rattle.std.proofs.Common.{arith, length-append, rules}
+use Rattle.std.proofs.Common.{arith, length-append}
 use Rattle.base.specs.FieldLaws.{length-le}
 use Rattle.filling.specs.Blocks.{cg_counts}
 use Rattle.filling.specs.BlocksLaws.{blit-next, laid_next}

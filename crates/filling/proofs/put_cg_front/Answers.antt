@@ -1,5 +1,5 @@
 -- Header and links, one after the other.
-use Rattle.std.proofs.Common.{length-append, rules}
+use Rattle.std.proofs.Common.{length-append}
 use Rattle.base.specs.FieldLaws.{length-le}
 use Rattle.base.specs.BlitLaws.{blit-append}
 use Rattle.filling.specs.Blocks.{cg_front}

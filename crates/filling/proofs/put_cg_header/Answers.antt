@@ -1,6 +1,5 @@
 -- With a master the CG has a seventh link.
 use Rattle.filling.specs.Blocks.{cg_header}
-use Rattle.std.proofs.Common.{rules}
 use Rattle.filling.proofs.put_cg_header.Goals as goal
 
 pub returns-then-remote : goal.returns-then-remote

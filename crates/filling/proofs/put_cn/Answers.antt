@@ -1,5 +1,4 @@
 -- Seven links, then the eighth.
-use Rattle.std.proofs.Common.{arith, rules}
 use Rattle.filling.specs.Blocks.{cn_front}
 use Rattle.filling.specs.BlocksLaws.{blit-next, length-cn_links}
 use Rattle.filling.proofs.put_cn.Goals as goal

@@ -1,5 +1,5 @@
 -- Types, then the rest.
-use Rattle.std.proofs.Common.{arith, rules}
+use Rattle.std.proofs.Common.{arith}
 use Rattle.filling.specs.Blocks.{cn_data_from}
 use Rattle.filling.specs.BlocksLaws.{blit-next}
 use Rattle.filling.proofs.put_cn_data.Goals as goal

@@ -1,5 +1,5 @@
 -- Flags, zeros and the kept parts, one after the other.
-use Rattle.std.proofs.Common.{arith, length-append, rules}
+use Rattle.std.proofs.Common.{arith, length-append}
 use Rattle.base.specs.FieldLaws.{length-le}
 use Rattle.filling.specs.Blocks.{cn_rest}
 use Rattle.filling.specs.BlocksLaws.{blit-next}

@@ -1,5 +1,5 @@
 -- Type, the kept parts and the byte offset 0, one after the other.
-use Rattle.std.proofs.Common.{arith, length-append, rules}
+use Rattle.std.proofs.Common.{arith, length-append}
 use Rattle.base.specs.FieldLaws.{length-le}
 use Rattle.filling.specs.Blocks.{cn_types}
 use Rattle.filling.specs.BlocksLaws.{blit-next, laid_next}

@@ -1,15 +1,7 @@
--- What is left of the version has a byte over 127 where the whole has.
-use borrow.Author.Rules.{rules}
-use native.Mathlib.Omega.{arith}
-use Prim.Native.Nat.{◌-◌, ◌≤◌}
-use mathlib.Core.Path.{◌≡◌, refl}
+-- What is left of the text has a byte over 127 where the whole has.
+use Rattle.std.specs.Prelude.{◌≡◌, drop}
 use Rattle.mdf.specs.Identification.{is_ascii}
-use Rattle.identification.specs.Range.{range}
-use Rattle.identification.specs.IdentificationLaws.{ascii-on, ascii-over, ascii_end}
 use Rattle.identification.proofs.is_ascii.Given as goal
 
-abbrev pub invariant-loop-i : goal.invariant-loop-i
-invariant-loop-i l = (8 ≤ l.i) × (l.i ≤ 16) × (is_ascii (range l.image l.i 16) ≡ is_ascii (range l.image 8 16))
-
-abbrev pub decreases-loop-i : goal.decreases-loop-i
-decreases-loop-i l = 16 - l.i
+abbrev pub invariant-loop-b : goal.invariant-loop-b
+invariant-loop-b l = is_ascii (drop l.b-index l.text) ≡ is_ascii l.text

@@ -1,10 +1,8 @@
 -- What is left of the chain gives what all the words give.
-use borrow.Author.Rules.{rules}
-use native.Mathlib.Omega.{arith}
 use Prim.Native.Nat.{◌≤◌}
 use lib.ListN.{length}
 use Rattle.index.specs.Index.{Indexed}
-use Rattle.index.specs.MetLaws.{Chasing, chase_begin, chase_none, chase_hit, chase_less, chase_next}
+use Rattle.index.specs.MetLaws.{Chasing}
 use Rattle.index.proofs.is_met.Given as goal
 
 abbrev pub invariant-loop-i : goal.invariant-loop-i

@@ -1,6 +1,5 @@
 -- The tests follow the definition's, in a form that can't overflow.
 use native.Mathlib.Omega.{arith}
-use borrow.Author.Rules.{rules}
 use Rattle.photos.specs.FollowedLaws.{at-few, at-short, at_long, at-past, at-fine}
 use Rattle.photos.proofs.attachment_in.Goals as goal
 

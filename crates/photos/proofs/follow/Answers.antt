@@ -1,28 +1,24 @@
 -- What is left of the chain gives what the whole gives.
-use Prim.Native.Nat.{◌-◌}
-use mathlib.Core.Path.{◌≡◌, sym, ◌∙◌, ap}
-use lib.ListN.{length-set}
-use Rattle.mdf.specs.Chain.{is_in}
-use Rattle.photos.specs.Followed.{goes_on}
-use Rattle.photos.specs.FollowedLaws.{Following, goes_fits, follow_begin, follow_refused, follow_ends, follow_next, follow_out, so_goes}
-use borrow.Author.Rules.{rules}
+use Prim.Native.Nat.{◌<◌}
+use mathlib.Core.Path.{◌∙◌, ap}
+use Rattle.std.specs.Prelude.{Ok}
+use Rattle.fields.specs.AnswerLaws.{passed_on}
+use Rattle.photos.specs.FollowedLaws.{is_in-any, goes_fits, follow_begin, follow_refused, follow_ends, follow_next, so_goes}
 use native.Mathlib.Omega.{arith}
 use Rattle.photos.proofs.follow.Goals as goal
 
-pub loop-turns-init : goal.loop-turns-init
-loop-turns-init c = follow_begin _ _ _ c.link_at-at.ensures c.requires
+pub loop-met-init : goal.loop-met-init
+loop-met-init c = follow_begin _ c.args.met.now _ c.link_at-at.ensures (omega arith)
 
-pub returns-in-Refused : goal.returns-in-Refused
-returns-in-Refused c = follow_refused c.loop-turns.invariant c.loop-turns-test.true (so_goes _ _ _ _ c.is_met-seen.ensures c.goes_on-going.ensures c.in-Refused.is)
+pub returns-in_err-goes_on : goal.returns-in_err-goes_on
+returns-in_err-goes_on c = rw (passed_on _ _ c.from_residual.ensures) (follow_refused c.loop-met.invariant (so_goes _ _ _ _ (c.contains-seen.ensures.value ∙ is_in-any _ _) c.goes_on.ensures c.in_err-goes_on.was))
 
-pub returns-in-Ends : goal.returns-in-Ends
-returns-in-Ends c = follow_ends c.loop-turns.invariant c.loop-turns-test.true (so_goes _ _ _ _ c.is_met-seen.ensures c.goes_on-going.ensures c.in-Ends.is)
+pub returns-in_default : goal.returns-in_default
+returns-in_default c = follow_ends c.loop-met.invariant (so_goes _ _ _ _ (c.contains-seen.ensures.value ∙ is_in-any _ _) c.goes_on.ensures (c.in_ok-goes_on.was ∙ ap Ok c.in_default.is))
 
 pub bounds-met-count : goal.bounds-met-count
-bounds-met-count c = let f = (goes_fits _ _ _ _ (so_goes _ _ _ _ c.is_met-seen.ensures c.goes_on-going.ensures c.in-On.is)).few in let w = c.loop-turns.invariant.words in omega arith
+bounds-met-count c =
+    let f : c.loop-met.count < 64 = (goes_fits _ _ _ _ (so_goes _ _ _ _ (c.contains-seen.ensures.value ∙ is_in-any _ _) c.goes_on.ensures (c.in_ok-goes_on.was ∙ ap Ok c.in-On.is))).few in omega arith
 
-pub loop-turns-preserved : goal.loop-turns-preserved
-loop-turns-preserved c = follow_next c.loop-turns.invariant c.loop-turns-test.true (so_goes _ _ _ _ c.is_met-seen.ensures c.goes_on-going.ensures c.in-On.is) _ c.first_link-at.ensures
-
-pub returns : goal.returns
-returns c = follow_out c.loop-turns.invariant (omega arith)
+pub loop-met-preserved : goal.loop-met-preserved
+loop-met-preserved c = follow_next c.loop-met.invariant (so_goes _ _ _ _ (c.contains-seen.ensures.value ∙ is_in-any _ _) c.goes_on.ensures (c.in_ok-goes_on.was ∙ ap Ok c.in-On.is)) _ c.first_link-at.ensures

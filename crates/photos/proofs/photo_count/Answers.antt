@@ -1,6 +1,5 @@
 -- A field of two bytes.
 use Rattle.plan.specs.Photos.{photo_count}
-use native.Mathlib.Omega.{arith}
 use borrow.Author.Rules.{rules}
 use Rattle.photos.proofs.photo_count.Goals as goal
 

@@ -3,7 +3,6 @@ use lib.ListN.{length-append}
 use Rattle.base.specs.BlitLaws.{blit-append}
 use Rattle.base.specs.FieldLaws.{length-le}
 use Rattle.result.specs.Fill.{header}
-use borrow.Author.Rules.{rules}
 use Rattle.puts.proofs.header.Goals as goal
 
 pub returns : goal.returns

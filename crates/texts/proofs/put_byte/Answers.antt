@@ -1,5 +1,5 @@
 -- One store.
-use native.Mathlib.Omega.{arith}
+use Rattle.std.proofs.Common.{arith}
 use Rattle.texts.specs.LaidLaws.{laid_byte}
 use Rattle.texts.proofs.put_byte.Goals as goal
 

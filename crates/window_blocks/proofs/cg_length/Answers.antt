@@ -1,5 +1,5 @@
 -- With a master there is a link more.
-use Rattle.std.proofs.Common.{arith, rules}
+use Rattle.std.proofs.Common.{arith}
 use Rattle.window_blocks.proofs.cg_length.Goals as goal
 
 pub returns-then-remote : goal.returns-then-remote

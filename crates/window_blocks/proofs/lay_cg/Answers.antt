@@ -1,5 +1,5 @@
 -- Apart from the window there is nothing to do; else the block is put into an array, and laid from there, as many bytes as it has.
-use Rattle.std.proofs.Common.{sym, refl, ◌∙◌, arith, rules}
+use Rattle.std.proofs.Common.{sym, refl, ◌∙◌, arith}
 use Rattle.windows.specs.LayLaws.{laid_from}
 use Rattle.window_blocks.specs.ApartLaws.{apart_same}
 use Rattle.window_blocks.specs.SizesLaws.{length-cg, cg-within}

@@ -1,5 +1,5 @@
 -- Apart from the window there is nothing to do; else the block is put into an array, and laid from there, as many bytes as it has.
-use Rattle.std.proofs.Common.{sym, ◌∙◌, arith, rules}
+use Rattle.std.proofs.Common.{sym, ◌∙◌, arith}
 use Rattle.windows.specs.LayLaws.{laid_from}
 use Rattle.window_blocks.specs.ApartLaws.{apart_same}
 use Rattle.window_blocks.specs.SizesLaws.{length_data, data_most}

@@ -3,7 +3,7 @@ use Rattle.windows.specs.LayLaws.{laid_from}
 use Rattle.window_blocks.specs.Tail.{dl_data}
 use Rattle.window_blocks.specs.ApartLaws.{apart_same}
 use Rattle.window_blocks.specs.TailLaws.{length_data}
-use Rattle.std.proofs.Common.{arith, rules}
+use Rattle.std.proofs.Common.{arith}
 use Rattle.window_blocks.proofs.lay_dl_data.Goals as goal
 
 pub returns-then-apart : goal.returns-then-apart

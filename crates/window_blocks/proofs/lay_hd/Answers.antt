@@ -2,7 +2,7 @@
 use Rattle.windows.specs.LayLaws.{laid_from}
 use Rattle.window_blocks.specs.ApartLaws.{apart_same}
 use Rattle.copies_laws.specs.LengthLaws.{length-hd}
-use Rattle.std.proofs.Common.{arith, rules}
+use Rattle.std.proofs.Common.{arith}
 use Rattle.window_blocks.proofs.lay_hd.Goals as goal
 
 pub returns-then-apart : goal.returns-then-apart

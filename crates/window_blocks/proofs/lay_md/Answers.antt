@@ -1,5 +1,5 @@
 -- An MD that begins in the window is put there; one that ends before it leaves it as it was.
-use Rattle.std.proofs.Common.{sym, ◌∙◌, arith, rules}
+use Rattle.std.proofs.Common.{sym, ◌∙◌, arith}
 use Rattle.puts.specs.PutLaws.{lent_is}
 use Rattle.windows.specs.LayLaws.{lay_after}
 use Rattle.windows.specs.WindowedLaws.{over-past}

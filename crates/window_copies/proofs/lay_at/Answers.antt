@@ -4,7 +4,6 @@ use Rattle.puts.specs.PutLaws.{lent_is}
 use Rattle.windows.specs.LayLaws.{lay_after}
 use mathlib.Core.Path.{◌∙◌}
 use native.Mathlib.Omega.{arith}
-use borrow.Author.Rules.{rules}
 use Rattle.window_copies.proofs.lay_at.Goals as goal
 
 pub returns-then-at-a : goal.returns-then-at-a

@@ -1,6 +1,5 @@
 -- Header, the link to the next AT, the other links and the data, one after the other.
 use Rattle.window_copies.specs.LaidLaws.{at-over}
-use borrow.Author.Rules.{rules}
 use Rattle.window_copies.proofs.lay_at_inside.Goals as goal
 
 pub returns : goal.returns

@@ -1,7 +1,6 @@
 -- No links, or the first and the others.
 use Rattle.window_copies.specs.LaidLaws.{copied_none, copied_some}
 use native.Mathlib.Omega.{arith}
-use borrow.Author.Rules.{rules}
 use Rattle.window_copies.proofs.lay_copied_links.Goals as goal
 
 pub returns-then-n-eq0 : goal.returns-then-n-eq0

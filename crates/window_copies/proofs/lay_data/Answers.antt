@@ -1,7 +1,6 @@
 -- By where the window begins: before the links, inside them or past them.
 use Rattle.window_copies.specs.LaidLaws.{data_after, data_cut, data_over_lem}
 use native.Mathlib.Omega.{arith}
-use borrow.Author.Rules.{rules}
 use Rattle.window_copies.proofs.lay_data.Goals as goal
 
 pub returns-then-a-at : goal.returns-then-a-at

@@ -1,6 +1,5 @@
 -- Header, links and data, one after the other.
 use Rattle.window_copies.specs.LaidLaws.{copied-over}
-use borrow.Author.Rules.{rules}
 use Rattle.window_copies.proofs.lay_inside.Goals as goal
 
 pub returns : goal.returns

@@ -4,7 +4,6 @@ use mathlib.Core.Path.{refl, ap, ◌∙◌}
 use Rattle.window_copies.specs.LaidLaws.{links_after, links_before, links_cut}
 use Rattle.copying.specs.CopyingLaws.{led_is}
 use native.Mathlib.Omega.{arith}
-use borrow.Author.Rules.{rules}
 use Rattle.window_copies.proofs.lay_links.Goals as goal
 
 pub returns-then-a-at : goal.returns-then-a-at

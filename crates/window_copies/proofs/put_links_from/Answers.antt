@@ -1,16 +1,9 @@
 -- The links that are left, laid over the slice as it is now, give the result; past the end they are lost.
 use Rattle.window_copies.specs.LaidLaws.{numbered_turn, numbered_end, numbered_done}
 use Rattle.copying.specs.CopyingLaws.{led_is}
-use Rattle.result.specs.Fill.{new_links}
-use Rattle.copier.specs.Standing.{copies_in}
-use Rattle.copier.specs.Index.{Indexes}
 use Rattle.puts.specs.PutLaws.{blit-past}
-use Rattle.base.specs.Blit.{blit}
-use Prim.Native.Nat.{◌+◌, ◌*◌, ◌-◌, ◌<◌}
-use mathlib.Core.Path.{◌≡◌, refl, sym}
-use borrow.Author.Rules.{rules}
+use mathlib.Core.Path.{refl, sym}
 use native.Mathlib.Omega.{arith}
-use lib.ListN.{length}
 use Rattle.window_copies.proofs.put_links_from.Goals as goal
 
 pub returns-then-d-at : goal.returns-then-d-at

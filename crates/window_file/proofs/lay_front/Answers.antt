@@ -1,6 +1,4 @@
 use Rattle.window_file.specs.WindowLaws.{front-passed, front-laid}
-use native.Mathlib.Omega.{arith}
-use borrow.Author.Rules.{rules}
 use Rattle.window_file.proofs.lay_front.Goals as goal
 
 pub returns-then-a-ge168 : goal.returns-then-a-ge168

@@ -1,7 +1,6 @@
 use mathlib.Core.Path.{sym}
 use Rattle.window_file.specs.WindowLaws.{all_before}
 use native.Mathlib.Omega.{arith}
-use borrow.Author.Rules.{rules}
 use Rattle.window_file.proofs.lay_history.Goals as goal
 
 pub returns-then-m-a : goal.returns-then-m-a

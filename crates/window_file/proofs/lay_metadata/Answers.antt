@@ -1,6 +1,4 @@
 use Rattle.window_file.specs.WindowLaws.{ident-length, history_asks, columns_asks, structure_asks, structure_ready, metadata_passed, metadata_laid}
-use native.Mathlib.Omega.{arith}
-use borrow.Author.Rules.{rules}
 use Rattle.window_file.proofs.lay_metadata.Goals as goal
 
 pub returns-then-m-a : goal.returns-then-m-a

@@ -1,6 +1,4 @@
 use Rattle.window_file.specs.WindowLaws.{new_laid}
-use native.Mathlib.Omega.{arith}
-use borrow.Author.Rules.{rules}
 use Rattle.window_file.proofs.lay_new.Goals as goal
 
 pub returns : goal.returns

@@ -2,7 +2,6 @@ use mathlib.Core.Path.{refl}
 use Rattle.writing.specs.FileLaws as file
 use Rattle.window_file.specs.WindowLaws.{data_counts, data_asks, size_below, signals_in_lem, attached_asks, window_done}
 use native.Mathlib.Omega.{arith}
-use borrow.Author.Rules.{rules}
 use Rattle.window_file.proofs.write_window.Goals as goal
 
 pub returns-then-fragments-lt3072 : goal.returns-then-fragments-lt3072

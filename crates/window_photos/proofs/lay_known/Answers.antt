@@ -1,7 +1,6 @@
 -- References that begin in the window are put there; else by where the window begins in them.
 use Rattle.window_photos.specs.PhotosLaws.{before_window, inside_window, after_window}
 use native.Mathlib.Omega.{arith}
-use borrow.Author.Rules.{rules}
 use Rattle.window_photos.proofs.lay_known.Goals as goal
 
 pub returns-then-a-at : goal.returns-then-a-at

@@ -1,14 +1,9 @@
 -- What is left, laid over the slice as it is now, gives the result; past the end it is lost.
-use mathlib.Core.Path.{◌≡◌, sym}
-use Prim.Native.Nat.{◌<◌, ◌-◌}
-use lib.ListN.{length}
+use mathlib.Core.Path.{sym}
 use Rattle.base.specs.Blit.{blit}
 use Rattle.stores.specs.OverLaws.{blit-past}
-use Rattle.window_copies.specs.Attachments.{attachments_in}
-use Rattle.window_photos.specs.Photos.{photos_from}
 use Rattle.window_photos.specs.PhotosLaws.{photos_turn, photos_end, no_photos}
 use native.Mathlib.Omega.{arith}
-use borrow.Author.Rules.{rules}
 use Rattle.window_photos.proofs.put_photos.Goals as goal
 
 pub returns-then-w-at : goal.returns-then-w-at

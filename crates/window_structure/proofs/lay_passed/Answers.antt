@@ -1,14 +1,5 @@
--- Each turn passes a column, whose DL alone may lie in the window; those that are left give what all give. It begins at the last column whose DG begins by the window.
-use Prim.Native.Nat.{ℕ, ◌-◌, ◌≤◌}
-use mathlib.Core.List.{List}
-use mathlib.Core.Path.{◌≡◌, refl}
-use lib.ListN.{length}
-use Rattle.plan.specs.Copies.{Copy, Attachment}
-use Rattle.writing.specs.Structure.{on_table, Near}
-use Rattle.window_structure.specs.Laying.{Laying}
+use Rattle.std.proofs.Common.{arith, rules, refl, ◌≡◌, ◌≤◌, ⊎_elim}
 use Rattle.window_structure.specs.LayingLaws.{columns-from, columns-over, columns_pass}
-use borrow.Author.Rules.{rules}
-use native.Mathlib.Omega.{arith}
 use Rattle.window_structure.proofs.lay_passed.Goals as goal
 
 pub loop-k-init : goal.loop-k-init
@@ -36,4 +27,7 @@ loop-k-preserved c = (
 )
 
 pub returns : goal.returns
-returns c = c.loop-k.invariant.1
+returns c =
+    let few : c.near-k.result ≤ c.args.n = ⊎_elim (λ e. omega (arith, e)) (λ s. omega (arith, s.0)) c.near-k.ensures in
+    let last : c.loop-k.k ≡ c.args.n = omega (arith, few) in
+    λ m ats g q l t. rw last at c.loop-k.invariant.1 m ats g q l t

@@ -1,9 +1,5 @@
-use mathlib.Core.Logic.{inl, inr}
-use mathlib.Core.Path.{refl}
 use Prim.Native.Nat.{◌-◌, ◌≤◌}
 use Rattle.window_structure.specs.Laying.{Begun}
-use borrow.Author.Rules.{rules}
-use native.Mathlib.Omega.{arith}
 use Rattle.window_structure.proofs.near.Given as goal
 
 abbrev pub invariant-loop-low : goal.invariant-loop-low

@@ -1,7 +1,6 @@
 use Rattle.result.specs.FillLaws.{length-header}
 use Rattle.windows.specs.LayLaws.{laid_from}
 use native.Mathlib.Omega.{arith}
-use borrow.Author.Rules.{rules}
 use Rattle.windows.proofs.lay_header.Goals as goal
 
 pub returns : goal.returns

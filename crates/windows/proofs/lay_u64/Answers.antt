@@ -1,7 +1,6 @@
 use Rattle.base.specs.FieldLaws.{length-le}
 use Rattle.windows.specs.LayLaws.{laid_from}
 use native.Mathlib.Omega.{arith}
-use borrow.Author.Rules.{rules}
 use Rattle.windows.proofs.lay_u64.Goals as goal
 
 pub returns : goal.returns

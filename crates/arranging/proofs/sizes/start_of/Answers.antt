@@ -10,5 +10,5 @@ returns-then-any-eq0 c = start_none _ _ _ (omega arith)
 pub overflow_mul-result : goal.overflow_mul-result
 overflow_mul-result c = omega (arith, start_near c.args.unit c.args.d)
 
-pub returns : goal.returns
-returns c = start-some _ _ _ (λ e. omega arith)
+pub returns-else-any-eq0 : goal.returns-else-any-eq0
+returns-else-any-eq0 c = start-some _ _ _ (λ e. omega arith)

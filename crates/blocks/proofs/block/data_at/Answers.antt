@@ -1,6 +1,5 @@
 -- Each early return is the image's end, with the data beginning past it.
 use native.Mathlib.Omega.{arith}
-use borrow.Author.Rules.{rules}
 use Rattle.mdf.specs.Block.{data_at}
 use Rattle.blocks.specs.BlockLaws.{begins_in, begins-past}
 use Rattle.blocks.proofs.block.data_at.Goals as goal

@@ -1,6 +1,5 @@
 -- The number of links decides, as in the definition.
 use native.Mathlib.Omega.{arith}
-use borrow.Author.Rules.{rules}
 use mathlib.Core.Path.{refl}
 use Rattle.mdf.specs.Block.{first_link}
 use Rattle.base.specs.ChoiceLaws.{lt_yes, lt_no}

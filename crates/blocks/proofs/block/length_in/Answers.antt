@@ -1,6 +1,5 @@
 -- Each return is a way through the definition's tests; the tests of the code cannot overflow.
 use native.Mathlib.Omega.{arith}
-use borrow.Author.Rules.{rules}
 use mathlib.Core.Path.{refl}
 use Rattle.mdf.specs.Block.{length_in}
 use Rattle.base.specs.ChoiceLaws.{lt_yes, lt_no}

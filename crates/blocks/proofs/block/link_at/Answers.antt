@@ -1,6 +1,5 @@
 -- A link that begins in the image is read; one past it is 0.
 use native.Mathlib.Omega.{arith}
-use borrow.Author.Rules.{rules}
 use Rattle.mdf.specs.Block.{link_at}
 use Rattle.blocks.specs.BlockLaws.{link-past}
 use Rattle.blocks.proofs.block.link_at.Goals as goal
@@ -13,4 +12,4 @@ returns-then-n-a-2 c = link-past _ _ _ (omega arith)
 
 pub returns : goal.returns
 unfolding link_at
-returns c = c.u64_at.ensures.is
+returns c = c.field_at.ensures.is

@@ -1,6 +1,5 @@
 -- Where a lies in the image the field is read; past it the field is 0.
 use native.Mathlib.Omega.{arith}
-use borrow.Author.Rules.{rules}
 use Rattle.mdf.specs.Block.{links_at}
 use Rattle.blocks.specs.BlockLaws.{links_past}
 use Rattle.blocks.proofs.block.links_at.Goals as goal
@@ -10,4 +9,4 @@ returns-then-n-a c = links_past _ _ (omega arith)
 
 pub returns : goal.returns
 unfolding links_at
-returns c = c.u64_at.ensures.is
+returns c = c.field_at.ensures.is

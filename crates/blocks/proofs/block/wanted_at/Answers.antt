@@ -1,18 +1,17 @@
 -- Each return is a way through the definition's tests; the tests of the code cannot overflow.
 use native.Mathlib.Omega.{arith}
-use borrow.Author.Rules.{rules}
 use mathlib.Core.Path.{refl}
 use Rattle.mdf.specs.Block.{wanted_at}
 use Rattle.base.specs.ChoiceLaws.{lt_yes, lt_no, eq_yes, eq_no}
 use Rattle.blocks.proofs.block.wanted_at.Goals as goal
 
-pub returns-then-kind_at-kind : goal.returns-then-kind_at-kind
+pub returns-then-kind_at-want : goal.returns-then-kind_at-want
 unfolding wanted_at
-returns-then-kind_at-kind c = eq_no _ _ _ _ (omega arith) refl
+returns-then-kind_at-want c = eq_no _ _ _ _ (omega arith) refl
 
-pub returns-then-has-links : goal.returns-then-has-links
+pub returns-then-has-want : goal.returns-then-has-want
 unfolding wanted_at
-returns-then-has-links c = eq_yes _ _ _ _ (omega arith) (lt_yes _ _ _ _ (omega arith) refl)
+returns-then-has-want c = eq_yes _ _ _ _ (omega arith) (lt_yes _ _ _ _ (omega arith) refl)
 
 pub returns-then-size-lt24 : goal.returns-then-size-lt24
 unfolding wanted_at

@@ -5,7 +5,6 @@ use Rattle.payload_laws.specs.Lists.{length_part}
 use Rattle.cells.specs.CellLaws.{cell-bare, cell-kept, part_in, byte_in}
 use Rattle.cells.specs.ShapeLaws.{sound-room}
 use native.Mathlib.Omega.{arith}
-use borrow.Author.Rules.{rules}
 use Rattle.cells.proofs.cell.cell_here.Goals as goal
 
 pub overflow_add-q : goal.overflow_add-q

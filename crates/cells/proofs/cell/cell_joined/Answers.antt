@@ -8,8 +8,6 @@ use Rattle.joined.specs.Ahead.{ahead}
 use Rattle.cells.specs.CellLaws.{cell-bare, cell-kept, bytes-joined}
 use Rattle.cells.specs.ShapeLaws.{sound-room}
 use native.Mathlib.Omega.{arith}
-use lib.ListN.{length}
-use borrow.Author.Rules.{rules}
 use Rattle.cells.proofs.cell.cell_joined.Goals as goal
 
 pub overflow_add-out : goal.overflow_add-out

@@ -2,7 +2,6 @@
 use Rattle.cells.specs.CellLaws.{copy-one}
 use native.Mathlib.Omega.{arith}
 use lib.ListN.{length-set}
-use borrow.Author.Rules.{rules}
 use Rattle.cells.proofs.cell.copy1.Goals as goal
 
 pub shape_of-d : goal.shape_of-d

@@ -2,7 +2,6 @@
 use Rattle.cells.specs.CellLaws.{copy_parts}
 use mathlib.Core.Path.{refl}
 use native.Mathlib.Omega.{arith}
-use borrow.Author.Rules.{rules}
 use Rattle.cells.proofs.cell.copy16.Goals as goal
 
 pub returns : goal.returns

@@ -2,7 +2,6 @@
 use Rattle.cells.specs.CellLaws.{copy_eight}
 use native.Mathlib.Omega.{arith}
 use lib.ListN.{length-set}
-use borrow.Author.Rules.{rules}
 use Rattle.cells.proofs.cell.copy8.Goals as goal
 
 pub bounds-d-at-2 : goal.bounds-d-at-2

@@ -1,5 +1,4 @@
 -- Each number of bytes by its own way.
-use borrow.Author.Rules.{rules}
 use Rattle.cells.proofs.cell.copy_other.Goals as goal
 
 pub returns-then-n-eq3 : goal.returns-then-n-eq3

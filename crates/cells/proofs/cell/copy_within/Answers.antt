@@ -1,5 +1,4 @@
 -- Each number of bytes by its own way.
-use borrow.Author.Rules.{rules}
 use Rattle.cells.proofs.cell.copy_within.Goals as goal
 
 pub returns-then-n-eq8 : goal.returns-then-n-eq8

@@ -1,20 +1,17 @@
 -- Each test is of one number; the last is of the width.
 use Rattle.cells.specs.ShapeLaws.{unsound, sound-kept, sound-bare}
-use borrow.Author.Rules.{rules}
 use native.Mathlib.Omega.{arith}
+use Rattle.cells.proofs.cell.is_sound.Goals.{then-h-via-then-h, then-h-via-else-h+then-h-2, then-h-via-else-h+else-h-2+then-h-gt8589934591, then-h-via-else-h+else-h-2+else-h-gt8589934591+then-h-gt7}
 use Rattle.cells.proofs.cell.is_sound.Goals as goal
 
 pub returns-then-h : goal.returns-then-h
-returns-then-h c = unsound (λ w. omega (arith, c.if-h.true, w.fit))
-
-pub returns-then-h-2 : goal.returns-then-h-2
-returns-then-h-2 c = unsound (λ w. omega (arith, c.if-h-2.true, c.if-h.false, w.fit))
-
-pub returns-then-h-gt8589934591 : goal.returns-then-h-gt8589934591
-returns-then-h-gt8589934591 c = unsound (λ w. omega (arith, c.if-h-gt8589934591.true, w.short))
-
-pub returns-then-h-gt7 : goal.returns-then-h-gt7
-returns-then-h-gt7 c = unsound (λ w. omega (arith, c.if-h-gt7.true, w.bit))
+returns-then-h c =
+    elim c.then-h.branch [
+      | then-h-via-then-h w ↦ unsound (λ u. omega (arith, w.if-h.true, u.fit))
+      | then-h-via-else-h+then-h-2 w ↦ unsound (λ u. omega (arith, w.if-h-2.true, w.if-h.false, u.fit))
+      | then-h-via-else-h+else-h-2+then-h-gt8589934591 w ↦ unsound (λ u. omega (arith, w.if-h-gt8589934591.true, u.short))
+      | then-h-via-else-h+else-h-2+else-h-gt8589934591+then-h-gt7 w ↦ unsound (λ u. omega (arith, w.if-h-gt7.true, u.bit))
+    ]
 
 pub returns-then-h-4 : goal.returns-then-h-4
 returns-then-h-4 c = unsound (λ w. omega (arith, c.if-h-4.true, w.kept c.if-h-3.true))

@@ -3,7 +3,6 @@ use mathlib.Core.Path.{refl, sym, ◌∙◌}
 use Rattle.payload_laws.specs.CellLaws.{fits-within}
 use Rattle.cells.specs.CellLaws.{kept-within}
 use native.Mathlib.Omega.{arith}
-use borrow.Author.Rules.{rules}
 use Rattle.cells.proofs.cell.shape_of.Goals as goal
 
 pub returns : goal.returns

@@ -4,7 +4,6 @@ use native.Mathlib.Nat.{mul-le-mul_right}
 use native.Mathlib.Omega.{arith}
 use Rattle.cells.specs.StridedLaws.{mul_less}
 use Rattle.cells.specs.SpotLaws.{some_one, some-run}
-use borrow.Author.Rules.{rules}
 use Rattle.cells.proofs.run.put_some.Goals as goal
 
 pub overflow_sub-k : goal.overflow_sub-k

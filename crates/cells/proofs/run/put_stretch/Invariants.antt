@@ -1,20 +1,15 @@
 -- Each turn puts a run of records, or one that lies in several fragments; the numbers agree whatever the image is.
-use Prim.Native.Nat.{◌≤◌}
-use mathlib.Core.Path.{◌≡◌, refl, sym, ◌∙◌}
-use mathlib.Core.Bool.{false≢true}
-use native.Mathlib.Omega.{arith}
+use mathlib.Core.Path.{◌≡◌}
 use lib.ListN.{length}
 use Rattle.base.specs.Blit.{blit}
-use Rattle.mdf.specs.Records.{most64, joined, size_of}
+use Rattle.mdf.specs.Records.{joined, size_of}
 use Rattle.work_words.specs.Words.{fragments_of}
 use Rattle.result.specs.Payload.{cells}
 use Rattle.places.specs.Stretch.{records_at, spaced}
-use Rattle.places.specs.FacingLaws.{not-false, not-true}
 use Rattle.joined.specs.Spot.{SpotOf}
 use Rattle.cells.specs.Strided.{Lying}
 use Rattle.cells.specs.Spot.{Readable, Roomy}
-use Rattle.cells.specs.SpotLaws.{Stretching, readable_roomy, roomy_next, stretching_some, stretching_turn, stretching_end}
-use borrow.Author.Rules.{rules}
+use Rattle.cells.specs.SpotLaws.{Stretching}
 use Rattle.cells.proofs.run.put_stretch.Given as goal
 
 abbrev pub invariant-loop-left : goal.invariant-loop-left

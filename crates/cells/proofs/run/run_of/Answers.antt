@@ -1,7 +1,6 @@
 -- As many as the room has distances, and the first.
 use native.Mathlib.Omega.{arith}
 use Rattle.cells.specs.SpotLaws.{run-one, run-all, run_most}
-use borrow.Author.Rules.{rules}
 use Rattle.cells.proofs.run.run_of.Goals as goal
 
 pub returns-then-stride-eq0 : goal.returns-then-stride-eq0

@@ -1,9 +1,7 @@
 -- The invariant: what is left of the chain gives what the whole chain gives. The room left among the DL and HL met is the measure.
-use Rattle.chains.specs.TurnLaws.{lists_for, Walking, walk_begin, walk_end, walk_met, walk-over, walk-next}
+use Rattle.chains.specs.TurnLaws.{Walking}
 use Prim.Native.Nat.{◌-◌}
 use Rattle.chains.specs.Node.{which, limits_for}
-use borrow.Author.Rules.{rules}
-use native.Mathlib.Omega.{arith}
 use Rattle.chains.proofs.chain.chain.Given as goal
 
 abbrev pub invariant-loop-at : goal.invariant-loop-at

@@ -1,8 +1,7 @@
--- The store is the definition; past the end it changes nothing.
+-- Past the end a store changes nothing.
 use mathlib.Core.Path.{sym}
 use lib.Seq.{set_out}
 use native.Mathlib.Omega.{arith}
-use borrow.Author.Rules.{rules}
 use Rattle.chains.proofs.chain.put.Goals as goal
 
 pub returns-else-at-w : goal.returns-else-at-w

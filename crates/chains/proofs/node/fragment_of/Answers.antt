@@ -1,7 +1,6 @@
 -- The size is the length less 24, or 0 where the length is under 24.
 use Rattle.chains.specs.NodeLaws.{fragment-size}
 use native.Mathlib.Omega.{arith}
-use borrow.Author.Rules.{rules}
 use Rattle.chains.proofs.node.fragment_of.Goals as goal
 
 pub returns-then-size-lt24 : goal.returns-then-size-lt24

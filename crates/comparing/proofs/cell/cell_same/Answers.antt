@@ -1,7 +1,6 @@
 -- The bytes of the channels, then the kept bits, by their places in the joined data.
 use mathlib.Core.Path.{sym, ◌∙◌}
 use Rattle.comparing.specs.SameLaws.{compares, cells_apart, cells-bare, cells-kept, kept_byte_lem}
-use borrow.Author.Rules.{rules}
 use native.Mathlib.Omega.{arith}
 use Rattle.std.specs.Prelude.{not}
 use Rattle.std.proofs.Common.{ap}

@@ -2,7 +2,6 @@
 use mathlib.Core.Path.{sym, ◌∙◌}
 use Rattle.cells.specs.CellLaws.{byte_in}
 use Rattle.comparing.specs.SameLaws.{compares_here, cells_apart, cells-bare, cells-kept}
-use borrow.Author.Rules.{rules}
 use native.Mathlib.Omega.{arith}
 use Rattle.std.specs.Prelude.{not}
 use Rattle.std.proofs.Common.{ap}

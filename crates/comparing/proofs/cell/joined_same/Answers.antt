@@ -1,9 +1,6 @@
 -- Each turn passes equal bytes, as many as lie in one fragment of each.
 use mathlib.Core.Path.{refl}
-use Rattle.result.specs.Sharing.{same}
-use Rattle.comparing.specs.Same.{Has, bytes_at}
-use Rattle.comparing.specs.SameLaws.{stepped, Matching, matching_turn, matching_other, matching_end}
-use borrow.Author.Rules.{rules}
+use Rattle.comparing.specs.SameLaws.{stepped, matching_turn, matching_other, matching_end}
 use native.Mathlib.Omega.{arith}
 use Rattle.std.specs.Prelude.{not}
 use Rattle.std.proofs.Common.{ap}

@@ -1,10 +1,7 @@
 -- Each turn passes equal bytes, as many as lie in one fragment of each.
-use mathlib.Core.Path.{refl}
 use Rattle.result.specs.Sharing.{same}
 use Rattle.comparing.specs.Same.{Has, bytes_at}
-use Rattle.comparing.specs.SameLaws.{stepped, Matching, matching_turn, matching_other, matching_end}
-use borrow.Author.Rules.{rules}
-use native.Mathlib.Omega.{arith}
+use Rattle.comparing.specs.SameLaws.{Matching}
 use Rattle.comparing.proofs.cell.joined_same.Given as goal
 
 abbrev pub invariant-loop-left : goal.invariant-loop-left

@@ -1,6 +1,5 @@
 -- Records that are there are kept; else the next ones are found.
 use Rattle.comparing.specs.HeadLaws.{head-here, head-next}
-use borrow.Author.Rules.{rules}
 use native.Mathlib.Omega.{arith}
 use Rattle.comparing.proofs.head.head_at.Goals as goal
 

@@ -1,5 +1,4 @@
 -- As the definition has it.
-use borrow.Author.Rules.{rules}
 use Rattle.comparing.proofs.head.head_begin.Goals as goal
 
 pub returns : goal.returns

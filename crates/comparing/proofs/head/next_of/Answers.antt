@@ -1,6 +1,5 @@
 -- A group alone in its DG is number 0 there; for one of several the tables are those of its DG's groups.
 use Rattle.comparing.specs.HeadLaws.{next-alone}
-use borrow.Author.Rules.{rules}
 use native.Mathlib.Omega.{arith}
 use Rattle.comparing.proofs.head.next_of.Goals as goal
 

@@ -1,9 +1,6 @@
 -- Each turn passes two equal cells.
 use mathlib.Core.Path.{refl}
-use Rattle.result.specs.Sharing.{same}
-use Rattle.comparing.specs.Run.{cells_in}
-use Rattle.comparing.specs.RunLaws.{Stepping, step-here, step-next, step_other, step_turn, step_end}
-use borrow.Author.Rules.{rules}
+use Rattle.comparing.specs.RunLaws.{step-here, step-next, step_other, step_turn, step_end}
 use native.Mathlib.Omega.{arith}
 use Rattle.std.specs.Prelude.{not}
 use Rattle.std.proofs.Common.{ap}

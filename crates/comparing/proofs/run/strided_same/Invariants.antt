@@ -1,10 +1,7 @@
 -- Each turn passes two equal cells.
-use mathlib.Core.Path.{refl}
 use Rattle.result.specs.Sharing.{same}
 use Rattle.comparing.specs.Run.{cells_in}
-use Rattle.comparing.specs.RunLaws.{Stepping, step-here, step-next, step_other, step_turn, step_end}
-use borrow.Author.Rules.{rules}
-use native.Mathlib.Omega.{arith}
+use Rattle.comparing.specs.RunLaws.{Stepping}
 use Rattle.comparing.proofs.run.strided_same.Given as goal
 
 abbrev pub invariant-loop-h : goal.invariant-loop-h

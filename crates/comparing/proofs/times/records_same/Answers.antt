@@ -1,9 +1,6 @@
 -- Each turn passes equal cells.
-use Prim.Native.Nat.{◌-◌}
-use Rattle.comparing.specs.Head.{TablesOf}
 use Rattle.comparing.specs.HeadLaws.{ready_tables}
-use Rattle.comparing.specs.Timed.{Pair}
-use Rattle.comparing.specs.TimedLaws.{Heads, heads_begin, heads_end, heads_other, heads_few, heads_turn}
+use Rattle.comparing.specs.TimedLaws.{heads_begin, heads_end, heads_other, heads_few, heads_turn}
 use borrow.Author.Rules.{rules}
 use native.Mathlib.Omega.{arith}
 use Rattle.comparing.proofs.times.records_same.Goals as goal

@@ -1,11 +1,8 @@
 -- Each turn passes equal cells.
 use Prim.Native.Nat.{◌-◌}
 use Rattle.comparing.specs.Head.{TablesOf}
-use Rattle.comparing.specs.HeadLaws.{ready_tables}
 use Rattle.comparing.specs.Timed.{Pair}
-use Rattle.comparing.specs.TimedLaws.{Heads, heads_begin, heads_end, heads_other, heads_few, heads_turn}
-use borrow.Author.Rules.{rules}
-use native.Mathlib.Omega.{arith}
+use Rattle.comparing.specs.TimedLaws.{Heads}
 use Rattle.comparing.proofs.times.records_same.Given as goal
 
 abbrev pub invariant-loop-at : goal.invariant-loop-at

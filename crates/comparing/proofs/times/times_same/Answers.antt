@@ -1,9 +1,6 @@
 -- Unless both columns have one form, nothing is promised; those of no bytes are equal.
 use mathlib.Core.Path.{sym, ◌∙◌}
-use Rattle.cells.specs.Shape.{ShapeOf}
-use Rattle.places.specs.FacingLaws.{not-false}
 use Rattle.comparing.specs.ComparableLaws.{alike, times-unfit, times_unfitting, times-bytes, times_keep, times_empty, times-by}
-use borrow.Author.Rules.{rules}
 use native.Mathlib.Omega.{arith}
 use Rattle.std.specs.Prelude.{not}
 use Rattle.std.proofs.Common.{ap}

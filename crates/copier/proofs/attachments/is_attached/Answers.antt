@@ -1,22 +1,18 @@
 -- The attachments that are left give what all give.
-use mathlib.Core.Path.{refl}
+use Prim.Native.Nat.{◌+◌, ◌*◌, ◌-◌}
+use mathlib.Core.Path.{◌≡◌}
 use native.Mathlib.Omega.{arith}
-use borrow.Author.Rules.{rules}
 use Rattle.copier.specs.AttachingLaws.{attached_end, attached_hit, attached_miss}
 use Rattle.copier.proofs.attachments.is_attached.Goals as goal
 
-pub loop-left-init : goal.loop-left-init
-loop-left-init c = (search rules, refl)
+pub returns-then-memo-i : goal.returns-then-memo-i
+returns-then-memo-i c = attached_hit _ _ _ _ c.loop-i.invariant (omega arith) c.if-memo-i.true
 
-pub returns-then-memo-p : goal.returns-then-memo-p
-returns-then-memo-p c = attached_hit _ _ _ _ c.loop-left.invariant.1 c.loop-left-test.true c.if-memo-p.true
-
-pub loop-left-preserved : goal.loop-left-preserved
-loop-left-preserved c = (
-  search rules,
-  attached_miss _ _ _ _ c.loop-left.invariant.1
-      c.loop-left-test.true c.if-memo-p.false,
-)
+pub loop-i-preserved : goal.loop-i-preserved
+loop-i-preserved c =
+    let p : 4100 + 3 * (c.loop-i.i + 1) ≡ 4100 + 3 * c.loop-i.i + 3 = omega arith in
+    let k : c.args.count - (c.loop-i.i + 1) ≡ c.args.count - c.loop-i.i - 1 = omega arith in
+    rw (p, k) (attached_miss _ _ _ _ c.loop-i.invariant (omega arith) c.if-memo-i.false)
 
 pub returns : goal.returns
-returns c = attached_end _ _ _ _ c.loop-left.invariant.1 (omega arith)
+returns c = attached_end _ _ _ _ c.loop-i.invariant (omega arith)

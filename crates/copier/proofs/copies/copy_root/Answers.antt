@@ -6,6 +6,6 @@ pub returns : goal.returns
 returns c =
     let a = c.args in record {
       copied = root_copied _ _ _ _ c.copy.ensures.copied;
-      after = root_after a.most a.image.now a.a a.memo.now _ a.state _ c.copy.ensures.copied c.requires.1 c.requires.2;
+      after = root_after a.most a.image.now a.a a.memo.now _ a.state _ c.copy.ensures.copied c.requires.limit c.requires.room;
       indexed = c.copy.ensures.indexed;
     }

@@ -9,6 +9,6 @@ pub returns-then-kind_at-eq-FH : goal.returns-then-kind_at-eq-FH
 unfolding lost_links
 returns-then-kind_at-eq-FH c = eq_yes _ _ _ _ (omega arith) refl
 
-pub returns : goal.returns
+pub returns-else-kind_at-eq-FH : goal.returns-else-kind_at-eq-FH
 unfolding lost_links
-returns c = eq_no _ _ _ _ (omega arith) refl
+returns-else-kind_at-eq-FH c = eq_no _ _ _ _ (omega arith) refl

@@ -1,52 +1,41 @@
 -- What is left of the chain gives what the whole gives.
+use Prim.Native.Nat.{◌+◌}
+use mathlib.Core.Path.{◌≡◌, ap, ◌∙◌}
+use Rattle.std.specs.Prelude.{Ok}
 use native.Mathlib.Omega.{arith}
+use Rattle.fields.specs.AnswerLaws.{passed_on}
 use Rattle.copier.specs.HistoryLaws.{copied_begin, copied_next, walk_begin, walk-out, walk_ends, walk_refused, walk_stopped, walk-next}
 use Rattle.copier.specs.TurnLaws.{indexed_at, so_begun, after-at}
 use Rattle.copier.specs.IndexLaws.{indexed_set}
 use Rattle.copier.proofs.history.history_chain.Goals as goal
 
-pub loop-turns-init : goal.loop-turns-init
-loop-turns-init c = (walk_begin _ _ _ _ _ c.requires.0 c.requires.1 c.requires.2, c.requires.3, copied_begin _ _)
+pub loop-count-init : goal.loop-count-init
+loop-count-init c = (walk_begin _ _ _ _ _ c.requires.words c.requires.limit c.requires.room, c.requires.indexed, copied_begin _ _)
 
-pub goes_on-begun-requires : goal.goes_on-begun-requires
-goes_on-begun-requires c = let u = c.loop-turns.invariant.0 in (omega arith, u.words, u.after.room.few, c.loop-turns.invariant.1, c.loop-turns.invariant.2)
+pub goes_on-requires : goal.goes_on-requires
+goes_on-requires c = let u = c.loop-count.invariant.0 in (omega arith, u.words, u.after.room.few, c.loop-count.invariant.1, c.loop-count.invariant.2)
 
-pub returns-in-Nothing : goal.returns-in-Nothing
-returns-in-Nothing c =
-    walk_ends c.loop-turns.invariant.0
-    c.loop-turns-test.true (so_begun c.goes_on-begun.ensures
-    c.in-Nothing.is)
+pub returns-in_err-goes : goal.returns-in_err-goes
+returns-in_err-goes c =
+    rw (passed_on _ _ c.from_residual.ensures) (walk_refused c.loop-count.invariant.0 (omega arith) (so_begun c.goes_on.ensures c.in_err-goes.was))
 
-pub returns-in-Refused : goal.returns-in-Refused
-returns-in-Refused c =
-    walk_refused c.loop-turns.invariant.0
-    c.loop-turns-test.true (so_begun c.goes_on-begun.ensures
-    c.in-Refused.is)
+pub returns-then-not-goes : goal.returns-then-not-goes
+returns-then-not-goes c = walk_ends c.loop-count.invariant.0 (omega arith) (so_begun c.goes_on.ensures (c.in_ok-goes.was ∙ ap Ok c.if-not-goes.true))
 
-pub returns-in-Refused-got : goal.returns-in-Refused-got
-returns-in-Refused-got c =
-    walk_stopped
-    c.loop-turns.invariant.0
-    c.loop-turns-test.true (so_begun
-    c.goes_on-begun.ensures
-    c.in-Links.is)
-    c.copy_root-got.ensures.copied c.in-Refused-got.is
+pub returns-in_err-st : goal.returns-in_err-st
+returns-in_err-st c =
+    rw (passed_on _ _ c.from_residual-in_err-st.ensures)
+    (walk_stopped c.loop-count.invariant.0 (omega arith) (so_begun c.goes_on.ensures (c.in_ok-goes.was ∙ ap Ok c.if-not-goes.false)) c.copy_root.ensures.copied c.in_err-st.was)
 
-pub loop-turns-preserved : goal.loop-turns-preserved
-loop-turns-preserved c = (
-  walk-next
-      c.loop-turns.invariant.0
-      c.loop-turns-test.true
-      (so_begun c.goes_on-begun.ensures
-      c.in-Links.is)
-      c.copy_root-got.ensures.copied
-      c.copy_root-got.ensures.after c.in-At.is
-      c.copy_root-got.auto.memo c.first_link-at.ensures,
-  indexed_set _ _ _ _ _ (let u = c.loop-turns.invariant.0 in let k = after-at c.copy_root-got.ensures.after c.in-At.is in omega arith)
-      (indexed_at c.copy_root-got.ensures.indexed c.in-At.is),
-  copied_next c.loop-turns.invariant.0 c.loop-turns-test.true c.loop-turns.invariant.2 (so_begun c.goes_on-begun.ensures c.in-Links.is)
-      c.copy_root-got.ensures.copied c.copy_root-got.ensures.after c.in-At.is c.copy_root-got.auto.memo,
+pub loop-count-preserved : goal.loop-count-preserved
+loop-count-preserved c = (
+  walk-next c.loop-count.invariant.0 (omega arith) (so_begun c.goes_on.ensures (c.in_ok-goes.was ∙ ap Ok c.if-not-goes.false)) c.copy_root.ensures.copied c.copy_root.ensures.after c.in_ok-st.was
+      c.copy_root.auto.memo c.first_link-at.ensures,
+  indexed_set _ _ _ _ _ (let u = c.loop-count.invariant.0 in let k = after-at c.copy_root.ensures.after c.in_ok-st.was in omega arith)
+      (indexed_at c.copy_root.ensures.indexed c.in_ok-st.was),
+  copied_next c.loop-count.invariant.0 (omega arith) c.loop-count.invariant.2 (so_begun c.goes_on.ensures (c.in_ok-goes.was ∙ ap Ok c.if-not-goes.false))
+      c.copy_root.ensures.copied c.copy_root.ensures.after c.in_ok-st.was c.copy_root.auto.memo,
 )
 
 pub returns : goal.returns
-returns c = walk-out c.loop-turns.invariant.0 (omega arith)
+returns c = let e : c.args.most + 1 ≡ c.loop-count.count = omega arith in rw e (walk-out c.loop-count.invariant.0 (omega arith))

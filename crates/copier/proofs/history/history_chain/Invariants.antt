@@ -4,9 +4,6 @@ use Rattle.copier.specs.Index.{Indexed}
 use Rattle.copier.specs.History.{ChainCopied}
 use Rattle.copier.proofs.history.history_chain.Given as goal
 
-abbrev pub invariant-loop-turns : goal.invariant-loop-turns
-invariant-loop-turns l =
-    Walked l.most l.image l.initial.memo l.a l.initial.st l.memo l.at l.count l.turns l.st × Indexed l.memo l.st.used l.index × ChainCopied l.memo l.count l.st.used
-
-abbrev pub decreases-loop-turns : goal.decreases-loop-turns
-decreases-loop-turns l = l.turns
+abbrev pub invariant-loop-count : goal.invariant-loop-count
+invariant-loop-count l =
+    Walked l.most l.image l.initial.memo l.a l.initial.st l.memo l.at l.count l.st × Indexed l.memo l.st.used l.index × ChainCopied l.memo l.count l.st.used

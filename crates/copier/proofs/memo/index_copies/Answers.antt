@@ -7,14 +7,11 @@ use Rattle.copier.proofs.memo.index_copies.Goals as goal
 pub returns-then-used-gt2050 : goal.returns-then-used-gt2050
 returns-then-used-gt2050 c = λ h k. absurd (omega arith)
 
-pub returns-then-memo-used : goal.returns-then-memo-used
-returns-then-memo-used c = λ h k. absurd (omega arith)
-
 pub loop-n-init : goal.loop-n-init
-loop-n-init c = (omega arith, index_begin _)
+loop-n-init c = index_begin _
 
 pub loop-n-preserved : goal.loop-n-preserved
-loop-n-preserved c = (omega arith, rw c.enter.ensures (index_more _ _ _ _ _ (omega arith) c.loop-n.invariant.1 (λ i l. refl) refl refl))
+loop-n-preserved c = rw c.enter_at.ensures (index_more _ _ _ _ _ (omega arith) c.loop-n.invariant (λ i l. refl) refl refl)
 
 pub returns : goal.returns
-returns c = λ h k. let e : c.args.used ≡ c.loop-n.n = omega arith in rw e c.loop-n.invariant.1
+returns c = λ h k. let e : c.args.used ≡ c.loop-n.n = omega arith in rw e c.loop-n.invariant

@@ -19,5 +19,5 @@ returns c =
     let h : a.state.used * 2 + 1 < length a.memo.now = omega arith in record {
       copied = place_is a.memo.now a.a a.size c.aligned-to.result a.state h (c.aligned-to.ensures (omega arith));
       past = place_past a.memo.now a.a a.size c.aligned-to.result a.state h;
-      indexed = rw c.enter.ensures (index_placed a.memo.now a.index.now a.state.used (a.state.used * 2) a.a c.aligned-to.result refl h (omega arith) c.requires.4);
+      indexed = rw c.enter_at.ensures (index_placed a.memo.now a.index.now a.state.used (a.state.used * 2) a.a c.aligned-to.result refl h (omega arith) c.requires.4);
     }

@@ -1,5 +1,5 @@
 -- What is left of the nine links gives what all give.
-use Prim.Native.Nat.{◌-◌, ◌≤◌}
+use Prim.Native.Nat.{◌≤◌}
 use mathlib.Core.Path.{◌≡◌}
 use lib.ListN.{drop}
 use lib.ListN.{length}
@@ -12,9 +12,6 @@ use Rattle.copier.proofs.roots.column_roots.Given as goal
 
 abbrev pub invariant-loop-i : goal.invariant-loop-i
 invariant-loop-i l =
-    (l.i ≤ 9) × Held l.initial.memo l.initial.st l.memo l.st × (8192 ≤ length l.memo)
+    Held l.initial.memo l.initial.st l.memo l.st × (8192 ≤ length l.memo)
     × (copy_roots l.most l.image (drop l.i (roots l.image l.dg l.cg l.cn)) (standing l.memo l.st) ≡ copy_roots l.most l.image (roots l.image l.dg l.cg l.cn) (standing
     l.initial.memo l.initial.st)) × Indexed l.memo l.st.used l.index
-
-abbrev pub decreases-loop-i : goal.decreases-loop-i
-decreases-loop-i l = 9 - l.i

@@ -1,59 +1,47 @@
 -- Each number leads to its link.
-use Prim.Native.Nat.{ℕ, ◌+◌, ◌≤◌}
-use mathlib.Core.Path.{◌≡◌, sym}
+use mathlib.Core.Path.{sym}
 use native.Mathlib.Omega.{arith}
 use lib.ListN.{get_or-eq_default}
 use Rattle.copier.specs.Roots.{roots, roots_nine}
 use Rattle.copier.proofs.roots.root.Goals as goal
 
-past : (k i : ℕ) → k ≤ i → (i ≡ k → ⊥) → k + 1 ≤ i
-past k i h n = omega arith
-
-pub returns-then-i-eq0 : goal.returns-then-i-eq0
+pub returns-in-0 : goal.returns-in-0
 unfolding roots
-returns-then-i-eq0 c = rw c.if-i-eq0.true c.link_at.ensures
+returns-in-0 c = rw c.in-0.is c.link_at.ensures
 
-pub returns-then-i-eq1 : goal.returns-then-i-eq1
+pub returns-in-1 : goal.returns-in-1
 unfolding roots
-returns-then-i-eq1 c = rw c.if-i-eq1.true c.link_at-then-i-eq1.ensures
+returns-in-1 c = rw c.in-1.is c.link_at-in-1.ensures
 
-pub returns-then-i-eq2 : goal.returns-then-i-eq2
+pub returns-in-2 : goal.returns-in-2
 unfolding roots
-returns-then-i-eq2 c = rw c.if-i-eq2.true c.link_at-then-i-eq2.ensures
+returns-in-2 c = rw c.in-2.is c.link_at-in-2.ensures
 
-pub returns-then-i-eq3 : goal.returns-then-i-eq3
+pub returns-in-3 : goal.returns-in-3
 unfolding roots
-returns-then-i-eq3 c = rw c.if-i-eq3.true c.link_at-then-i-eq3.ensures
+returns-in-3 c = rw c.in-3.is c.link_at-in-3.ensures
 
-pub returns-then-i-eq4 : goal.returns-then-i-eq4
+pub returns-in-4 : goal.returns-in-4
 unfolding roots
-returns-then-i-eq4 c = rw c.if-i-eq4.true c.link_at-then-i-eq4.ensures
+returns-in-4 c = rw c.in-4.is c.link_at-in-4.ensures
 
-pub returns-then-i-eq5 : goal.returns-then-i-eq5
+pub returns-in-5 : goal.returns-in-5
 unfolding roots
-returns-then-i-eq5 c = rw c.if-i-eq5.true c.link_at-then-i-eq5.ensures
+returns-in-5 c = rw c.in-5.is c.link_at-in-5.ensures
 
-pub returns-then-i-eq6 : goal.returns-then-i-eq6
+pub returns-in-6 : goal.returns-in-6
 unfolding roots
-returns-then-i-eq6 c = rw c.if-i-eq6.true c.link_at-then-i-eq6.ensures
+returns-in-6 c = rw c.in-6.is c.link_at-in-6.ensures
 
-pub returns-then-i-eq7 : goal.returns-then-i-eq7
+pub returns-in-7 : goal.returns-in-7
 unfolding roots
-returns-then-i-eq7 c = rw c.if-i-eq7.true c.link_at-then-i-eq7.ensures
+returns-in-7 c = rw c.in-7.is c.link_at-in-7.ensures
 
-pub returns-then-i-eq8 : goal.returns-then-i-eq8
+pub returns-in-8 : goal.returns-in-8
 unfolding roots
-returns-then-i-eq8 c = rw c.if-i-eq8.true c.link_at-then-i-eq8.ensures
+returns-in-8 c = rw c.in-8.is c.link_at-in-8.ensures
 
-pub returns : goal.returns
-returns c =
+pub returns-in_default : goal.returns-in_default
+returns-in_default c =
     let a = c.args in
-    let h : 9 ≤ a.i =
-    past 8 _ (past 7 _ (past 6 _ (past 5 _ (past 4 _ (past 3 _ (past 2 _ (past 1 _ (past 0 _ (omega arith)
-    c.if-i-eq0.false)
-    c.if-i-eq1.false)
-    c.if-i-eq2.false) c.if-i-eq3.false)
-    c.if-i-eq4.false) c.if-i-eq5.false) c.if-i-eq6.false)
-    c.if-i-eq7.false) c.if-i-eq8.false in
-    sym (get_or-eq_default (roots a.image.now a.dg a.cg a.cn) 0 (rw (roots_nine a.image.now a.dg a.cg
-    a.cn) h))
+    sym (get_or-eq_default (roots a.image.now a.dg a.cg a.cn) 0 (rw (roots_nine a.image.now a.dg a.cg a.cn) (omega arith)))

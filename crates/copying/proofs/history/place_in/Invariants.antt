@@ -1,12 +1,10 @@
 -- What is left of the chain, and the last that was met, give the first.
 use Prim.Native.Nat.{◌≤◌}
-use mathlib.Core.Path.{◌≡◌, refl}
+use mathlib.Core.Path.{◌≡◌}
 use lib.ListN.{drop}
 use Rattle.work_words.specs.CopyWords.{history_at}
 use Rattle.index.specs.Index.{Indexed}
-use Rattle.copying.specs.ChainIndexLaws.{Chasing, chase_begin, chase_end, chase_less, chase_next, met_most, met_word}
-use borrow.Author.Rules.{rules}
-use native.Mathlib.Omega.{arith}
+use Rattle.copying.specs.ChainIndexLaws.{Chasing}
 use Rattle.copying.proofs.history.place_in.Given as goal
 
 abbrev pub invariant-loop-i : goal.invariant-loop-i

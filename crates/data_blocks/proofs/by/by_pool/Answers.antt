@@ -1,13 +1,10 @@
 -- Each turn puts the records of a kept stretch.
-use mathlib.Core.Path.{◌≡◌, refl}
-use Prim.Native.Nat.{◌+◌, ◌-◌, ◌≤◌}
-use Rattle.joined.specs.Spot.{SpotOf}
+use mathlib.Core.Path.{refl}
+use Prim.Native.Nat.{◌+◌, ◌≤◌}
 use Rattle.joined.specs.SpotLaws.{spot_front}
-use Rattle.data_blocks.specs.Filled.{Usable, PoolFilled}
+use Rattle.data_blocks.specs.Filled.{Usable}
 use Rattle.data_blocks.specs.FilledLaws.{if_usable, usable_in, pool_none, pool_turn}
-use borrow.Author.Rules.{rules}
 use native.Mathlib.Omega.{arith}
-use lib.ListN.{length}
 use Rattle.std.specs.Prelude.{not}
 use Rattle.std.proofs.Common.{ap}
 use Rattle.data_blocks.proofs.by.by_pool.Goals as goal

@@ -1,11 +1,8 @@
 -- Each turn puts the records of the next stretch, as far as they are asked for.
-use mathlib.Core.Path.{◌≡◌, refl}
-use Prim.Native.Nat.{◌+◌, ◌-◌, ◌≤◌}
-use Rattle.mdf.specs.Walk.{id_size}
-use Rattle.records.specs.Table.{Tabled}
-use Rattle.places.specs.Stretch.{Ready}
+use mathlib.Core.Path.{refl}
+use Prim.Native.Nat.{◌+◌, ◌≤◌}
 use Rattle.data_blocks.specs.Filled.{Usable}
-use Rattle.data_blocks.specs.FilledLaws.{if_usable, usable_in, Filling, filling_begin, filling_stop, filling_turn, filling_end, tables_of_lem}
+use Rattle.data_blocks.specs.FilledLaws.{if_usable, usable_in, filling_begin, filling_stop, filling_turn, filling_end, tables_of_lem}
 use borrow.Author.Rules.{rules}
 use native.Mathlib.Omega.{arith}
 use Rattle.std.specs.Prelude.{not}

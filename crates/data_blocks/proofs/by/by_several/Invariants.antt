@@ -1,13 +1,10 @@
 -- Each turn puts the records of the next stretch, as far as they are asked for.
-use mathlib.Core.Path.{◌≡◌, refl}
-use Prim.Native.Nat.{◌+◌, ◌-◌, ◌≤◌}
+use mathlib.Core.Path.{◌≡◌}
+use Prim.Native.Nat.{◌-◌}
 use Rattle.mdf.specs.Walk.{id_size}
 use Rattle.records.specs.Table.{Tabled}
 use Rattle.places.specs.Stretch.{Ready}
-use Rattle.data_blocks.specs.Filled.{Usable}
-use Rattle.data_blocks.specs.FilledLaws.{if_usable, usable_in, Filling, filling_begin, filling_stop, filling_turn, filling_end, tables_of_lem}
-use borrow.Author.Rules.{rules}
-use native.Mathlib.Omega.{arith}
+use Rattle.data_blocks.specs.FilledLaws.{Filling}
 use Rattle.data_blocks.proofs.by.by_several.Given as goal
 
 abbrev pub invariant-loop-at : goal.invariant-loop-at

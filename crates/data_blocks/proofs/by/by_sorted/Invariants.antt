@@ -1,11 +1,7 @@
 -- Each turn puts the records of the next stretch.
 use mathlib.Core.List.{[], ◌∷◌}
-use mathlib.Core.Path.{refl}
-use Prim.Native.Nat.{◌+◌, ◌-◌, ◌≤◌}
-use Rattle.data_blocks.specs.Filled.{Usable}
-use Rattle.data_blocks.specs.FilledLaws.{if_usable, usable_in, Filling, filling_begin, filling_stop, filling_turn, filling_end}
-use native.Mathlib.Omega.{arith}
-use borrow.Author.Rules.{rules}
+use Prim.Native.Nat.{◌-◌}
+use Rattle.data_blocks.specs.FilledLaws.{Filling}
 use Rattle.data_blocks.proofs.by.by_sorted.Given as goal
 
 abbrev pub invariant-loop-at : goal.invariant-loop-at

@@ -4,7 +4,6 @@ use mathlib.Core.Path.{refl}
 use Rattle.data_blocks.specs.RegionLaws.{lying_past}
 use Rattle.data_blocks.specs.FilledLaws.{past_in_lem, rest-none, rest_all, rest_part}
 use native.Mathlib.Omega.{arith}
-use borrow.Author.Rules.{rules}
 use Rattle.data_blocks.proofs.by.put_rest.Goals as goal
 
 pub overflow_add-t : goal.overflow_add-t

@@ -1,7 +1,6 @@
 -- By kept stretches as far as they go, then by kept offsets, then by framing.
 use Rattle.data_blocks.specs.WrittenLaws.{formed-same, among_all, among_listed, among_rest}
 use native.Mathlib.Omega.{arith}
-use borrow.Author.Rules.{rules}
 use Rattle.data_blocks.proofs.column.among.Goals as goal
 
 pub by_pool-done-requires : goal.by_pool-done-requires

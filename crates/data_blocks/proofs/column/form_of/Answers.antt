@@ -1,6 +1,5 @@
 -- As its parts are found.
 use mathlib.Core.Path.{refl}
-use borrow.Author.Rules.{rules}
 use Rattle.data_blocks.proofs.column.form_of.Goals as goal
 
 pub returns : goal.returns

@@ -1,5 +1,4 @@
 -- Nothing changes, or stretches are added.
-use borrow.Author.Rules.{rules}
 use Rattle.data_blocks.proofs.column.prepare.Goals as goal
 
 pub returns-then-first-ne0 : goal.returns-then-first-ne0

@@ -1,6 +1,5 @@
 -- They stood there, or come to stand.
 use Rattle.data_blocks.specs.WrittenLaws.{prepares_known, prepares_new}
-use borrow.Author.Rules.{rules}
 use Rattle.data_blocks.proofs.column.prepare_offsets.Goals as goal
 
 pub returns-then-before : goal.returns-then-before

@@ -1,6 +1,5 @@
 -- By the number of the groups.
 use Rattle.data_blocks.specs.WrittenLaws.{alone-all}
-use borrow.Author.Rules.{rules}
 use Rattle.data_blocks.proofs.column.put_records.Goals as goal
 
 pub by_sorted-requires : goal.by_sorted-requires

@@ -1,6 +1,5 @@
 -- A column that is ready passes the tests; then its records come to stand.
-use Rattle.data_blocks.specs.WrittenLaws.{is_fit, not-false, form_empty, form_formed, form_readable, form_written, written-unfit, written_full, written_outside}
-use borrow.Author.Rules.{rules}
+use Rattle.data_blocks.specs.WrittenLaws.{is_fit, form_empty, form_formed, form_readable, form_written, written-unfit, written_full, written_outside}
 use Rattle.std.specs.Prelude.{not}
 use Rattle.std.proofs.Common.{ap}
 use Rattle.data_blocks.proofs.column.write_blocks.Goals as goal
@@ -20,18 +19,18 @@ returns-then-not-has_room c =
     let a = c.args in
     written_full (c.form_of-f.ensures (is_fit _ c.fits_in.ensures (ap not c.if-not-fits_in.false))) c.if-f-eq0.false a.groups.now a.fragments.now a.pool.now a.words.now a.out.now _ c.has_room.ensures (ap not c.if-not-has_room.true)
 
-pub returns-then-not-total : goal.returns-then-not-total
-returns-then-not-total c =
+pub returns-in_default : goal.returns-in_default
+returns-in_default c =
     let a = c.args in
-    written_outside (c.form_of-f.ensures (is_fit _ c.fits_in.ensures (ap not c.if-not-fits_in.false))) c.if-f-eq0.false a.groups.now a.fragments.now a.pool.now a.words.now a.out.now c.total_of-total.ensures c.if-not-total.true
+    written_outside (c.form_of-f.ensures (is_fit _ c.fits_in.ensures (ap not c.if-not-fits_in.false))) c.if-f-eq0.false a.groups.now a.fragments.now a.pool.now a.words.now a.out.now c.total_of.ensures c.in_default.is
 
 pub put_records-requires : goal.put_records-requires
 put_records-requires c =
     let o = c.form_of-f.ensures (is_fit _ c.fits_in.ensures (ap not c.if-not-fits_in.false)) in
-    let t = c.total_of-total.ensures in
-    let k = not-false _ c.if-not-total.false in
+    let t = c.total_of.ensures in
+    let k = c.in-Some.is in
     let r = c.has_room.ensures.yes (c.if-not-has_room.false) in
-    (form_readable o c.if-f-eq0.false c.args.fragments.now t k, form_formed o c.if-f-eq0.false r, (t.yes k).1)
+    (form_readable o c.if-f-eq0.false c.args.fragments.now t k, form_formed o c.if-f-eq0.false r, (t.yes _ k).1)
 
 pub returns : goal.returns
 returns c =

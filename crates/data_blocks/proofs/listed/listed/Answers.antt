@@ -3,10 +3,8 @@ use mathlib.Core.Path.{refl}
 use Prim.Native.Nat.{◌+◌, ◌-◌}
 use native.Mathlib.Nat.{mod-lt}
 use Rattle.joined.specs.SpotLaws.{spot_front}
-use Rattle.cells.specs.Gathered.{FewOrAll}
 use Rattle.data_blocks.specs.RegionLaws.{begin_room, piece_room, Piece, piece_of, piece_block}
-use Rattle.data_blocks.specs.ListedLaws.{Listing, listing_begin, listing_turn, listing_end, listed_stop}
-use borrow.Author.Rules.{rules}
+use Rattle.data_blocks.specs.ListedLaws.{listing_begin, listing_turn, listing_end, listed_stop}
 use native.Mathlib.Omega.{arith}
 use Rattle.data_blocks.proofs.listed.listed.Goals as goal
 
@@ -32,7 +30,7 @@ pub overflow_add-from : goal.overflow_add-from
 overflow_add-from c = omega (arith, c.requires.3, c.well_formed.1)
 
 pub overflow_add-result : goal.overflow_add-result
-overflow_add-result c = let q : Piece c.args.f.per c.loop-at.at c.least-c.result (c.args.n - c.loop-at.at) = (let r = begin_room c.requires.1 c.loop-at.at (omega (arith, c.requires.5)) in piece_of _ _ _ _ r.0 (omega arith) c.least-c.ensures) in omega (arith, q.within, c.put_gathered-r.ensures.0, c.ranges.n)
+overflow_add-result c = let q : Piece c.args.f.per c.loop-at.at c.min-c.result (c.args.n - c.loop-at.at) = (let r = begin_room c.requires.1 c.loop-at.at (omega (arith, c.requires.5)) in piece_of _ _ _ _ r.0 (omega arith) c.min-c.ensures) in omega (arith, q.within, c.put_gathered-r.ensures.0, c.ranges.n)
 
 pub shape_of-out-then-r-c : goal.shape_of-out-then-r-c
 shape_of-out-then-r-c c = omega (arith, c.begin_block-body.auto.out, c.put_gathered-r.auto.out, c.loop-at.invariant.same)
@@ -42,8 +40,8 @@ returns-then-r-c c =
     let p = c.requires in
     let a = c.args in
     let v = c.loop-at.invariant in
-    let q : Piece c.args.f.per c.loop-at.at c.least-c.result (c.args.n - c.loop-at.at) = (let r = begin_room c.requires.1 c.loop-at.at (omega (arith, c.requires.5)) in piece_of _ _ _ _ r.0 (omega arith) c.least-c.ensures) in
-    let x = piece_room p.1 c.loop-at.at c.least-c.result q.some q.block (omega (arith, q.within, p.5)) in
+    let q : Piece c.args.f.per c.loop-at.at c.min-c.result (c.args.n - c.loop-at.at) = (let r = begin_room c.requires.1 c.loop-at.at (omega (arith, c.requires.5)) in piece_of _ _ _ _ r.0 (omega arith) c.min-c.ensures) in
+    let x = piece_room p.1 c.loop-at.at c.min-c.result q.some q.block (omega (arith, q.within, p.5)) in
     let r = c.put_gathered-r.ensures.1 p.0 v.spot p.2 (omega (arith, q.within, p.3))
     (omega (arith, x, c.begin_block-body.ensures.0, v.same, c.begin_block-body.auto)) in (
       omega (arith, v.number),
@@ -53,18 +51,18 @@ returns-then-r-c c =
     )
 
 pub overflow_add-at : goal.overflow_add-at
-overflow_add-at c = let q : Piece c.args.f.per c.loop-at.at c.least-c.result (c.args.n - c.loop-at.at) = (let r = begin_room c.requires.1 c.loop-at.at (omega (arith, c.requires.5)) in piece_of _ _ _ _ r.0 (omega arith) c.least-c.ensures) in omega (arith, q.within, c.put_gathered-r.ensures.0, c.ranges.n)
+overflow_add-at c = let q : Piece c.args.f.per c.loop-at.at c.min-c.result (c.args.n - c.loop-at.at) = (let r = begin_room c.requires.1 c.loop-at.at (omega (arith, c.requires.5)) in piece_of _ _ _ _ r.0 (omega arith) c.min-c.ensures) in omega (arith, q.within, c.put_gathered-r.ensures.0, c.ranges.n)
 
 pub loop-at-smaller : goal.loop-at-smaller
-loop-at-smaller c = let q : Piece c.args.f.per c.loop-at.at c.least-c.result (c.args.n - c.loop-at.at) = (let r = begin_room c.requires.1 c.loop-at.at (omega (arith, c.requires.5)) in piece_of _ _ _ _ r.0 (omega arith) c.least-c.ensures) in omega (arith, q.some, q.within, c.put_gathered-r.ensures.0)
+loop-at-smaller c = let q : Piece c.args.f.per c.loop-at.at c.min-c.result (c.args.n - c.loop-at.at) = (let r = begin_room c.requires.1 c.loop-at.at (omega (arith, c.requires.5)) in piece_of _ _ _ _ r.0 (omega arith) c.min-c.ensures) in omega (arith, q.some, q.within, c.put_gathered-r.ensures.0)
 
 pub loop-at-preserved : goal.loop-at-preserved
 loop-at-preserved c =
     let p = c.requires in
     let v = c.loop-at.invariant in
-    let q : Piece c.args.f.per c.loop-at.at c.least-c.result (c.args.n - c.loop-at.at) = (let r = begin_room c.requires.1 c.loop-at.at (omega (arith, c.requires.5)) in piece_of _ _ _ _ r.0 (omega arith) c.least-c.ensures) in
+    let q : Piece c.args.f.per c.loop-at.at c.min-c.result (c.args.n - c.loop-at.at) = (let r = begin_room c.requires.1 c.loop-at.at (omega (arith, c.requires.5)) in piece_of _ _ _ _ r.0 (omega arith) c.min-c.ensures) in
     let b = c.begin_block-body.ensures in
-    let x = piece_room p.1 c.loop-at.at c.least-c.result q.some q.block (omega (arith, q.within, p.5)) in
+    let x = piece_room p.1 c.loop-at.at c.min-c.result q.some q.block (omega (arith, q.within, p.5)) in
     let r = c.put_gathered-r.ensures.1 p.0 v.spot p.2 (omega (arith, q.within, p.3))
     (omega (arith, x, c.begin_block-body.ensures.0, v.same, c.begin_block-body.auto)) in
     let n = c.put_gathered-r.ensures.0 in

@@ -1,13 +1,6 @@
 -- Each turn puts the records of one block: the header, where the first begins it, then their cells.
-use mathlib.Core.Path.{refl}
-use Prim.Native.Nat.{◌+◌, ◌-◌}
-use native.Mathlib.Nat.{mod-lt}
-use Rattle.joined.specs.SpotLaws.{spot_front}
-use Rattle.cells.specs.Gathered.{FewOrAll}
-use Rattle.data_blocks.specs.RegionLaws.{begin_room, piece_room, Piece, piece_of, piece_block}
-use Rattle.data_blocks.specs.ListedLaws.{Listing, listing_begin, listing_turn, listing_end, listed_stop}
-use borrow.Author.Rules.{rules}
-use native.Mathlib.Omega.{arith}
+use Prim.Native.Nat.{◌-◌}
+use Rattle.data_blocks.specs.ListedLaws.{Listing}
 use Rattle.data_blocks.proofs.listed.listed.Given as goal
 
 abbrev pub invariant-loop-at : goal.invariant-loop-at

@@ -1,9 +1,6 @@
 -- Each turn puts the records of one block: the header, where the first begins it, then their cells.
-use native.Mathlib.Nat.{mod-lt}
 use Rattle.joined.specs.Spot.{SpotOf}
-use Rattle.data_blocks.specs.RegionLaws.{Piecing, piecing_begin, piecing_few, piecing_turn, piecing_end, piece_block, begin_room, lying_past, Piece, piece_of, piece_ready}
-use borrow.Author.Rules.{rules}
-use native.Mathlib.Omega.{arith}
+use Rattle.data_blocks.specs.RegionLaws.{Piecing}
 use Rattle.data_blocks.proofs.piece.put_piece.Given as goal
 
 abbrev pub invariant-loop-left : goal.invariant-loop-left

@@ -1,17 +1,13 @@
 -- Each turn passes a fragment that lies in the image.
-use mathlib.Core.Bool.{false}
-use mathlib.Core.Path.{◌≡◌, refl}
+use mathlib.Core.Path.{◌≡◌}
 use Prim.Native.Nat.{◌-◌, ◌<◌}
-use Rattle.data_blocks.specs.FilledLaws.{Totalling, totalling_begin, totalling_end, totalling_turn, totalling_out, totalling_over}
-use borrow.Author.Rules.{rules}
-use native.Mathlib.Omega.{arith}
+use Rattle.data_blocks.specs.FilledLaws.{Totalling}
 use lib.ListN.{length}
 use Rattle.data_blocks.proofs.total.total_of.Given as goal
 
 abbrev pub invariant-loop-i : goal.invariant-loop-i
 invariant-loop-i l =
-    Totalling l.image l.fragments l.i l.bytes × (l.n ≡ length l.fragments) × (l.size ≡ length l.image) × (l.none ≡ record { known = false; bytes = 0 })
-    × (l.bytes < 18446744073709551616)
+    Totalling l.image l.fragments l.i l.bytes × (l.n ≡ length l.fragments) × (l.size ≡ length l.image) × (l.bytes < 18446744073709551616)
 
 abbrev pub decreases-loop-i : goal.decreases-loop-i
 decreases-loop-i l = l.n - l.i

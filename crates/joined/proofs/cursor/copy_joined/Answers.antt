@@ -1,22 +1,14 @@
 -- Each turn passes on to the next fragment, or copies what is left of one. Where no fragment follows, there were fewer bytes.
-use Prim.Native.Nat.{◌+◌, ◌-◌, ◌≤◌}
 use mathlib.Core.Path.{◌≡◌, refl}
 use native.Mathlib.Nat.{min-le_left, min-le_right}
-use lib.ListN.{length, take}
 use Rattle.base.specs.Blit.{blit}
-use Rattle.base.specs.Checked.{fine}
-use Rattle.mdf.specs.Records.{ranges_in, joined, size_of}
-use Rattle.joined.specs.Ahead.{ahead}
-use Rattle.joined.specs.AheadLaws.{next-at, ranges_here, some_least, Copying, copying_next, copying_piece}
+use Rattle.joined.specs.AheadLaws.{next-at, ranges_here, some_least, copying_next, copying_piece}
 use borrow.Author.Rules.{rules}
 use native.Mathlib.Omega.{arith}
 use Rattle.joined.proofs.cursor.copy_joined.Goals as goal
 
 pub returns-then-room-at : goal.returns-then-room-at
 returns-then-room-at c = λ r e h. absurd (omega arith)
-
-pub returns-then-room-at-2 : goal.returns-then-room-at-2
-returns-then-room-at-2 c = λ r e h. absurd (omega arith)
 
 pub loop-left-init : goal.loop-left-init
 loop-left-init c = (λ r e. record { ranges = r; enough = e; bytes = refl }, omega arith, refl)
@@ -36,19 +28,19 @@ loop-left-preserved-then-k-eq0 c = (
 
 pub overflow_add-to : goal.overflow_add-to
 overflow_add-to c =
-    let m = c.least-m.ensures in
+    let m = c.min-m.ensures in
     let a = min-le_left c.loop-left.left c.loop-left.k.left in
     omega arith
 
 pub overflow_sub-left : goal.overflow_sub-left
 overflow_sub-left c =
-    let m = c.least-m.ensures in
+    let m = c.min-m.ensures in
     let a = min-le_left c.loop-left.left c.loop-left.k.left in
     omega arith
 
 pub loop-left-smaller : goal.loop-left-smaller
 loop-left-smaller c =
-    let m = c.least-m.ensures in
+    let m = c.min-m.ensures in
     let a = min-le_left c.loop-left.left c.loop-left.k.left in
     let e = c.onward-k.ensures.0 in
     let p = some_least c.loop-left.left c.loop-left.k.left c.loop-left-test.true (omega arith) in
@@ -56,7 +48,7 @@ loop-left-smaller c =
 
 pub loop-left-preserved : goal.loop-left-preserved
 loop-left-preserved c =
-    let m = c.least-m.ensures in
+    let m = c.min-m.ensures in
     let a = min-le_left c.loop-left.left c.loop-left.k.left in
     let b = min-le_right c.loop-left.left c.loop-left.k.left in (
       λ r e.

@@ -1,15 +1,12 @@
 -- Each turn passes on to the next fragment, or copies what is left of one. Where no fragment follows, there were fewer bytes.
 use Prim.Native.Nat.{◌+◌, ◌-◌, ◌≤◌}
-use mathlib.Core.Path.{◌≡◌, refl}
-use native.Mathlib.Nat.{min-le_left, min-le_right}
+use mathlib.Core.Path.{◌≡◌}
 use lib.ListN.{length, take}
 use Rattle.base.specs.Blit.{blit}
 use Rattle.base.specs.Checked.{fine}
 use Rattle.mdf.specs.Records.{ranges_in, joined, size_of}
 use Rattle.joined.specs.Ahead.{ahead}
-use Rattle.joined.specs.AheadLaws.{next-at, ranges_here, some_least, Copying, copying_next, copying_piece}
-use borrow.Author.Rules.{rules}
-use native.Mathlib.Omega.{arith}
+use Rattle.joined.specs.AheadLaws.{Copying}
 use Rattle.joined.proofs.cursor.copy_joined.Given as goal
 
 abbrev pub invariant-loop-left : goal.invariant-loop-left

@@ -1,11 +1,7 @@
 -- Each turn passes over a fragment without bytes; where no fragment follows, none had bytes.
-use Prim.Native.Nat.{◌-◌, ◌<◌}
+use Prim.Native.Nat.{◌<◌}
 use mathlib.Core.Path.{refl}
-use lib.ListN.{length}
-use Rattle.mdf.specs.Records.{size_of}
-use Rattle.joined.specs.Ahead.{ahead, settled}
-use Rattle.joined.specs.AheadLaws.{next-at, Settling, settling_next, settling_end}
-use borrow.Author.Rules.{rules}
+use Rattle.joined.specs.AheadLaws.{next-at, settling_next, settling_end}
 use native.Mathlib.Omega.{arith}
 use Rattle.joined.proofs.cursor.settle.Goals as goal
 

@@ -1,14 +1,12 @@
 -- Each turn passes over the rest of a fragment; the last part lies in one. Where no fragment follows, there were fewer bytes.
 use Prim.Native.Nat.{ℕ, ◌-◌, ◌≤◌}
 use mathlib.Core.List.{List}
-use mathlib.Core.Path.{◌≡◌, refl}
+use mathlib.Core.Path.{◌≡◌}
 use lib.ListN.{length}
 use Rattle.base.specs.Checked.{fine}
 use Rattle.mdf.specs.Records.{most64, ranges_in, size_of}
 use Rattle.joined.specs.Ahead.{ahead, past}
-use Rattle.joined.specs.AheadLaws.{more-words, next-at, ranges_here, Skipping, skipping_next, skipping_end}
-use borrow.Author.Rules.{rules}
-use native.Mathlib.Omega.{arith}
+use Rattle.joined.specs.AheadLaws.{Skipping}
 use Rattle.joined.proofs.cursor.skip.Given as goal
 
 abbrev pub invariant-loop-k : goal.invariant-loop-k

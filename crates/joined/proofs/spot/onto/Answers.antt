@@ -2,7 +2,6 @@
 use mathlib.Core.Path.{refl}
 use Rattle.joined.specs.SpotLaws.{spot_on}
 use native.Mathlib.Omega.{arith}
-use borrow.Author.Rules.{rules}
 use Rattle.joined.proofs.spot.onto.Goals as goal
 
 pub returns : goal.returns

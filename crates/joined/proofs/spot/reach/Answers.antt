@@ -1,7 +1,6 @@
 -- From the place, or from the front.
 use Rattle.joined.specs.SpotLaws.{spot_front}
 use native.Mathlib.Omega.{arith}
-use borrow.Author.Rules.{rules}
 use Rattle.joined.proofs.spot.reach.Goals as goal
 
 pub onto-requires : goal.onto-requires

@@ -15,7 +15,7 @@ pub put_column_line-p-requires : goal.put_column_line-p-requires
 put_column_line-p-requires c = (
   omega (arith, c.loop-k.invariant.1.past, c.loop-k.invariant.1.small),
   omega arith,
-  c.requires.2.each _ c.loop-k-test.true,
+  c.requires.2.each _ (omega arith),
 )
 
 pub loop-k-preserved : goal.loop-k-preserved
@@ -29,4 +29,4 @@ pub shape_of-lines : goal.shape_of-lines
 shape_of-lines c = laid-length c.loop-k.invariant.1
 
 pub returns : goal.returns
-returns c = lines_end _ _ _ _ _ c.loop-k.invariant.1 _ c.loop-k.invariant.0 c.loop-k-test.false
+returns c = lines_end _ _ _ _ _ c.loop-k.invariant.1 _ c.loop-k.invariant.0 (omega arith)

@@ -9,8 +9,5 @@ use Rattle.listing.specs.LinesLaws.{lines_begin, lines_end, lines_turn}
 use Rattle.listing.proofs.lines.put_column_lines.Given as goal
 
 abbrev pub invariant-loop-k : goal.invariant-loop-k
-invariant-loop-k l = (l.k ≤ l.n) × Laid l.at (lines_in l.image l.size l.columns l.fragments 0 l.k) (149 * l.k) l.initial.lines
+invariant-loop-k l = (l.k ≤ l.n) × Laid l.at (lines_in l.plan.image.now l.plan.size l.plan.columns.now l.plan.fragments.now 0 l.k) (149 * l.k) l.initial.lines
     l.lines l.p
-
-abbrev pub decreases-loop-k : goal.decreases-loop-k
-decreases-loop-k l = l.n - l.k

@@ -28,4 +28,4 @@ pub shape_of-lines : goal.shape_of-lines
 shape_of-lines c = laid-length c.loop-k.invariant.1
 
 pub returns : goal.returns
-returns c = omissions_end _ _ c.loop-k.invariant.1 _ c.loop-k.invariant.0 c.loop-k-test.false
+returns c = omissions_end _ _ c.loop-k.invariant.1 _ c.loop-k.invariant.0 (omega arith)

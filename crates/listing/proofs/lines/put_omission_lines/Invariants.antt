@@ -10,6 +10,3 @@ use Rattle.listing.proofs.lines.put_omission_lines.Given as goal
 
 abbrev pub invariant-loop-k : goal.invariant-loop-k
 invariant-loop-k l = (l.k ≤ l.n) × Laid l.at (omissions_in l.columns 4096 l.k) (42 * l.k) l.initial.lines l.lines l.p
-
-abbrev pub decreases-loop-k : goal.decreases-loop-k
-decreases-loop-k l = l.n - l.k

@@ -1,9 +1,6 @@
 -- What was noted before each record are offsets, and how many records of each group lie before it is known.
 use Prim.Native.Nat.{◌-◌}
-use Rattle.places.specs.FacingLaws.{not-false}
-use Rattle.offsets.specs.NotedLaws.{Going, going_begin, going_done, going_record}
-use borrow.Author.Rules.{rules}
-use native.Mathlib.Omega.{arith}
+use Rattle.offsets.specs.NotedLaws.{Going}
 use Rattle.offsets.proofs.note.pass.Given as goal
 
 abbrev pub invariant-records : goal.invariant-records

@@ -1,16 +1,9 @@
 -- What is right stays right through each part.
-use Rattle.places.specs.PassLaws.{fills_none, fills_kept, fills_all, fills_back}
+use Rattle.places.specs.PassLaws.{fills_all, fills_back}
 use Rattle.records.specs.TableLaws.{tabled}
 use mathlib.Core.Path.{refl}
-use borrow.Author.Rules.{rules}
 use native.Mathlib.Omega.{arith}
 use Rattle.places.proofs.pass.fill.Goals as goal
-
-pub returns-then-groups-lt2 : goal.returns-then-groups-lt2
-returns-then-groups-lt2 c = fills_none _ _ _ _ _
-
-pub returns-then-not-try_new : goal.returns-then-not-try_new
-returns-then-not-try_new c = fills_kept _ _ _ _ c.try_new.ensures
 
 pub returns-then-room : goal.returns-then-room
 returns-then-room c = fills_all _ _ _ _ _ _ _ (omega arith) c.id_size-n.ensures.is c.try_new.ensures (λ e. tabled _ _ _ _ e c.make_tables.ensures.0 refl c.make_tables.ensures.1 refl) c.pass-room.ensures

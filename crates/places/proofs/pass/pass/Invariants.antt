@@ -1,10 +1,7 @@
 -- What was kept is right, and how many records of each group lie before the place is known.
-use Rattle.places.specs.FacingLaws.{not-false}
-use Rattle.places.specs.PassLaws.{PassingOn, passing_begin, passing_record, passing_out, passing_done, passing_counted}
+use Rattle.places.specs.PassLaws.{PassingOn}
 use Prim.Native.Nat.{◌-◌}
-use mathlib.Core.Path.{◌≡◌, refl}
-use borrow.Author.Rules.{rules}
-use native.Mathlib.Omega.{arith}
+use mathlib.Core.Path.{◌≡◌}
 use lib.ListN.{length}
 use Rattle.places.proofs.pass.pass.Given as goal
 

@@ -1,9 +1,6 @@
 -- What was found so far is a stretch, and the records that follow are ahead.
-use Rattle.places.specs.FacingLaws.{not-false, not-true}
-use Rattle.places.specs.NextLaws.{Going, going_begin, going_own, going_other, next_end, next-many, next_stop}
+use Rattle.places.specs.NextLaws.{Going}
 use Prim.Native.Nat.{◌-◌}
-use borrow.Author.Rules.{rules}
-use native.Mathlib.Omega.{arith}
 use Rattle.places.proofs.several.several_next.Given as goal
 
 abbrev pub invariant-records : goal.invariant-records

@@ -1,7 +1,6 @@
 -- Without a fragment here there is no DV, and with one its kind is read.
 use Rattle.places.specs.RunLaws.{begins-none, begins-some}
 use native.Mathlib.Omega.{arith}
-use borrow.Author.Rules.{rules}
 use Rattle.places.proofs.sorted.kind_at.Goals as goal
 
 pub returns-then-n-at : goal.returns-then-n-at

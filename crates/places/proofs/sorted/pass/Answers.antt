@@ -1,15 +1,7 @@
 -- Each turn passes a fragment of the kind, and its bytes are added.
-use mathlib.Core.Path.{◌≡◌, refl}
-use Prim.Native.Nat.{◌-◌, ◌≤◌}
-use Rattle.records.specs.Straddle.{kind_if}
-use Rattle.places.specs.RunLaws.{Passing, pass_begin, pass_end, pass_other, pass_on, pass_over}
-use borrow.Author.Rules.{rules}
+use Rattle.places.specs.RunLaws.{pass_end, pass_other, pass_on, pass_over}
 use native.Mathlib.Omega.{arith}
-use lib.ListN.{length}
 use Rattle.places.proofs.sorted.pass.Goals as goal
-
-pub loop-i-init : goal.loop-i-init
-loop-i-init c = (pass_begin, refl, omega arith)
 
 pub returns-then-n-i-lt3 : goal.returns-then-n-i-lt3
 returns-then-n-i-lt3 c = let e = c.loop-i.invariant.1 in pass_end c.loop-i.invariant.0 (omega arith)

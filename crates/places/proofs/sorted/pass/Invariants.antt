@@ -1,10 +1,8 @@
 -- Each turn passes a fragment of the kind, and its bytes are added.
-use mathlib.Core.Path.{◌≡◌, refl}
+use mathlib.Core.Path.{◌≡◌}
 use Prim.Native.Nat.{◌-◌, ◌≤◌}
 use Rattle.records.specs.Straddle.{kind_if}
-use Rattle.places.specs.RunLaws.{Passing, pass_begin, pass_end, pass_other, pass_on, pass_over}
-use borrow.Author.Rules.{rules}
-use native.Mathlib.Omega.{arith}
+use Rattle.places.specs.RunLaws.{Passing}
 use lib.ListN.{length}
 use Rattle.places.proofs.sorted.pass.Given as goal
 

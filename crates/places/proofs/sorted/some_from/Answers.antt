@@ -1,16 +1,7 @@
 -- Each turn passes a fragment without bytes.
-use Prim.Native.Nat.{◌-◌}
-use mathlib.Core.Path.{◌≡◌, refl}
-use Rattle.records.specs.Ahead.{fragments_from}
-use Rattle.places.specs.Run.{with_bytes}
 use Rattle.places.specs.RunLaws.{some-none, some-here, some-on}
-use borrow.Author.Rules.{rules}
 use native.Mathlib.Omega.{arith}
-use lib.ListN.{length}
 use Rattle.places.proofs.sorted.some_from.Goals as goal
-
-pub loop-i-init : goal.loop-i-init
-loop-i-init c = (refl, refl)
 
 pub returns-then-n-i-lt3 : goal.returns-then-n-i-lt3
 returns-then-n-i-lt3 c = let e = c.loop-i.invariant.1 in some-none _ _ _ c.loop-i.invariant.0 (omega arith)

@@ -1,11 +1,8 @@
 -- Each turn passes a fragment without bytes.
 use Prim.Native.Nat.{◌-◌}
-use mathlib.Core.Path.{◌≡◌, refl}
+use mathlib.Core.Path.{◌≡◌}
 use Rattle.records.specs.Ahead.{fragments_from}
 use Rattle.places.specs.Run.{with_bytes}
-use Rattle.places.specs.RunLaws.{some-none, some-here, some-on}
-use borrow.Author.Rules.{rules}
-use native.Mathlib.Omega.{arith}
 use lib.ListN.{length}
 use Rattle.places.proofs.sorted.some_from.Given as goal
 

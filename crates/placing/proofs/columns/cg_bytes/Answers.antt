@@ -6,5 +6,5 @@ use Rattle.placing.proofs.columns.cg_bytes.Goals as goal
 pub returns-then-master-eq0 : goal.returns-then-master-eq0
 returns-then-master-eq0 c = cg_yes _ (omega arith)
 
-pub returns : goal.returns
-returns c = cg_no _ (λ e. omega arith)
+pub returns-else-master-eq0 : goal.returns-else-master-eq0
+returns-else-master-eq0 c = cg_no _ (λ e. omega arith)

@@ -3,7 +3,6 @@ use Rattle.copier.specs.AttachingLaws.{three_stores}
 use mathlib.Core.Path.{refl}
 use native.Mathlib.Omega.{arith}
 use lib.ListN.{length-set}
-use borrow.Author.Rules.{rules}
 use Rattle.placing.proofs.columns.put_place.Goals as goal
 
 pub bounds-memo-q-2 : goal.bounds-memo-q-2

@@ -1,7 +1,6 @@
 -- A zero byte and padding.
 use Rattle.placing.specs.LayingLaws.{md_bytes_lem}
 use native.Mathlib.Omega.{arith}
-use borrow.Author.Rules.{rules}
 use Rattle.placing.proofs.layout.md_bytes.Goals as goal
 
 pub returns : goal.returns

@@ -1,7 +1,5 @@
 -- The words so far are those of the first groups.
-use Prim.Native.Nat.{◌-◌}
-use Rattle.planning.specs.ClocksLaws.{StandLeft, stand_begin, stand_end, stand-on}
-use borrow.Author.Rules.{rules}
+use Rattle.planning.specs.ClocksLaws.{stand_begin, stand_end, stand-on}
 use native.Mathlib.Omega.{arith}
 use Rattle.planning.proofs.clocks.all_stand.Goals as goal
 
@@ -10,8 +8,8 @@ loop-j-init c = stand_begin
 
 pub loop-j-preserved : goal.loop-j-preserved
 loop-j-preserved c = stand-on c.loop-j.invariant (omega arith) (omega arith)
-    c.loop-j-test.true c.stands_in-by.ensures
+    (omega arith) c.stands_in-by.ensures
     c.put.ensures
 
 pub returns : goal.returns
-returns c = stand_end c.loop-j.invariant c.loop-j-test.false
+returns c = stand_end c.loop-j.invariant (omega arith)

@@ -1,6 +1,5 @@
 -- Other keys, or the cells are compared.
 use Rattle.planning.specs.ClocksLaws.{same-other, same-cells}
-use borrow.Author.Rules.{rules}
 use Rattle.planning.proofs.clocks.same_times.Goals as goal
 
 pub returns-then-shares_key : goal.returns-then-shares_key

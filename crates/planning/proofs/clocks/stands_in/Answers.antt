@@ -1,6 +1,5 @@
 -- None without a master.
 use Rattle.planning.specs.ClocksLaws.{stands_none, stands_some}
-use borrow.Author.Rules.{rules}
 use Rattle.planning.proofs.clocks.stands_in.Goals as goal
 
 pub returns-then-e-eq0 : goal.returns-then-e-eq0

@@ -1,6 +1,5 @@
 -- The word is one more than the fragments before, or 0.
 use Rattle.planning.specs.ChannelLaws.{signal_set, signal_clear}
-use borrow.Author.Rules.{rules}
 use Rattle.planning.proofs.column.signal_word.Goals as goal
 
 pub returns-then-signal : goal.returns-then-signal

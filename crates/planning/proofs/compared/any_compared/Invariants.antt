@@ -1,12 +1,7 @@
 -- What is left of the entries gives what all of them give.
-use Prim.Native.Nat.{◌-◌}
 use Rattle.planning.specs.Table.{entries_at}
-use Rattle.planning.specs.ComparedLaws.{Seeing, any_begin, any_end, any_hit, any_on}
-use borrow.Author.Rules.{rules}
+use Rattle.planning.specs.ComparedLaws.{Seeing}
 use Rattle.planning.proofs.compared.any_compared.Given as goal
 
 abbrev pub invariant-loop-j : goal.invariant-loop-j
 invariant-loop-j l = Seeing l.image (entries_at l.table 0 l.n) l.d l.table l.n l.j
-
-abbrev pub decreases-loop-j : goal.decreases-loop-j
-decreases-loop-j l = l.n - l.j

@@ -1,6 +1,5 @@
 -- Several groups, not compared, or read.
 use Rattle.planning.specs.ComparedLaws.{stream_several, stream_other, stream_read}
-use borrow.Author.Rules.{rules}
 use Rattle.planning.proofs.compared.stream_of.Goals as goal
 
 pub returns-then-e-ne1 : goal.returns-then-e-ne1

@@ -1,6 +1,5 @@
 -- None without a master.
 use Rattle.planning.specs.ComparedLaws.{unit_none, unit_some}
-use borrow.Author.Rules.{rules}
 use Rattle.planning.proofs.compared.unit_of.Goals as goal
 
 pub returns-then-e-eq0 : goal.returns-then-e-eq0

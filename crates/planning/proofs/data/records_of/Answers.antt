@@ -1,7 +1,6 @@
 -- Only a group that is alone in its DG is read.
 use native.Mathlib.Omega.{arith}
 use Rattle.planning.specs.DataWordsLaws.{records_none, records_one}
-use borrow.Author.Rules.{rules}
 use Rattle.planning.proofs.data.records_of.Goals as goal
 
 pub returns-then-own_groups-ne1 : goal.returns-then-own_groups-ne1
@@ -10,4 +9,4 @@ returns-then-own_groups-ne1 c = records_none _ _ _ _ _ _ _ _ (omega arith) c.own
 pub returns : goal.returns
 returns c = records_one _ _ _ _ _ _ _ _ (omega arith) c.own_groups.ensures
     c.if-own_groups-ne1.false c.first_group-g.ensures
-    c.end_of-all.ensures c.least-end.ensures.0 c.sorted_of.ensures
+    c.end_of.ensures c.min-end.ensures c.sorted_of.ensures

@@ -1,6 +1,5 @@
 -- By the column's words.
 use Rattle.planning.specs.DataWordsLaws.{signal_other, signal_none, signal_some}
-use borrow.Author.Rules.{rules}
 use Rattle.planning.proofs.data.signal_in.Goals as goal
 
 pub returns-then-word-d : goal.returns-then-word-d

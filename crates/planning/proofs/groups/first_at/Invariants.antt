@@ -1,6 +1,5 @@
 -- The chain of an address gives the first of its groups.
-use Rattle.planning.specs.NotedLaws.{Seeking, seek_begin, seek_end, seek_less, seek_hit, seek_unmarked, seek_elsewhere}
-use borrow.Author.Rules.{rules}
+use Rattle.planning.specs.NotedLaws.{Seeking}
 use Rattle.planning.proofs.groups.first_at.Given as goal
 
 abbrev pub invariant-loop-i : goal.invariant-loop-i

@@ -1,6 +1,5 @@
 -- A storage group has none; others have their first.
 use Rattle.planning.specs.TimeLaws.{master_storage, master_own}
-use borrow.Author.Rules.{rules}
 use Rattle.planning.proofs.masters.master_of.Goals as goal
 
 pub returns-then-is_storage : goal.returns-then-is_storage

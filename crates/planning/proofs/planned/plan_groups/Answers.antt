@@ -6,8 +6,5 @@ use Rattle.planning.proofs.planned.plan_groups.Goals as goal
 pub note_items-requires : goal.note_items-requires
 note_items-requires c = (search rules, search rules, index_begin _ _)
 
-pub plan_noted-requires : goal.plan_noted-requires
-plan_noted-requires c = let noted = c.note_items.ensures in search rules
-
 pub returns : goal.returns
 returns c = c.plan_noted.ensures

@@ -1,57 +1,32 @@
 -- Slices long enough, then what planning gives; after a refusal every word is zero.
 use native.Mathlib.Omega.{arith}
-use mathlib.Core.Path.{refl}
+use mathlib.Core.Path.{refl, sym, ◌∙◌}
 use Rattle.base.specs.ChoiceLaws.{lt_yes, lt_no}
 use Rattle.planning.specs.Answer.{plan_into}
 use Rattle.planning.specs.AnswerLaws.{plan_refused, plan_done}
 use borrow.Author.Rules.{rules}
+use Rattle.planning.proofs.recording.plan.Goals.{then-source-lt4096-via-then-source-lt4096, then-source-lt4096-via-else-source-lt4096+then-fragments-lt3072, then-source-lt4096-via-else-source-lt4096+else-fragments-lt3072+then-columns-lt6144}
 use Rattle.planning.proofs.recording.plan.Goals as goal
 
 pub returns-then-source-lt4096 : goal.returns-then-source-lt4096
 unfolding plan_into
-returns-then-source-lt4096 c = λ _. lt_yes _ _ _ _ (omega arith) refl
+returns-then-source-lt4096 c =
+    elim c.then-source-lt4096.branch [
+      | then-source-lt4096-via-then-source-lt4096 w ↦ λ _. lt_yes _ _ _ _ (omega arith) refl
+      | then-source-lt4096-via-else-source-lt4096+then-fragments-lt3072 w ↦ λ _. lt_no _ _ _ _ (omega arith) (lt_yes _ _ _ _ (omega arith) refl)
+      | then-source-lt4096-via-else-source-lt4096+else-fragments-lt3072+then-columns-lt6144 w ↦ λ _. lt_no _ _ _ _ (omega arith) (lt_no _ _ _ _ (omega arith) (lt_yes _ _ _ _ (omega arith) refl))
+    ]
 
-pub returns-then-fragments-lt3072 : goal.returns-then-fragments-lt3072
-unfolding plan_into
-returns-then-fragments-lt3072 c = λ _. lt_no _ _ _ _ (omega arith) (lt_yes _ _ _ _ (omega arith) refl)
-
-pub returns-then-columns-lt6144 : goal.returns-then-columns-lt6144
-unfolding plan_into
-returns-then-columns-lt6144 c = λ _. lt_no _ _ _ _ (omega arith) (lt_no _ _ _ _ (omega arith) (lt_yes _ _ _ _ (omega arith) refl))
-
-pub returns-in-Refused : goal.returns-in-Refused
-returns-in-Refused c = λ short. plan_refused _ _ _ _ _ _ (omega (
-  arith,
-  c.if-source-lt4096.false,
-))
-    (omega (
-      arith,
-      c.if-fragments-lt3072.false,
-    ))
-    (omega (
-      arith,
-      c.if-columns-lt6144.false,
-    ))
-    c.plan_all-answer.new.source
-    c.plan_all-answer.new.fragments
-    c.plan_all-answer.new.columns
-    _ (c.plan_all-answer.ensures short)
-    c.in-Refused.is
+pub returns-then-is_err : goal.returns-then-is_err
+returns-then-is_err c = λ short.
+    plan_refused _ _ _ _ _ _ (omega arith) (omega arith) (omega arith)
+    c.plan_all-answer.new.source c.plan_all-answer.new.fragments c.plan_all-answer.new.columns
+    _ (c.plan_all-answer.ensures short) (sym c.is_err.ensures.value ∙ c.if-is_err.true)
     (search rules) (search rules) (search rules)
-    c.clear.ensures
-    c.clear-in-Refused.ensures c.clear-in-Refused-2.ensures
+    c.clear.ensures c.clear-then-is_err.ensures c.clear-then-is_err-2.ensures
 
-pub returns : goal.returns
-returns c = λ short. plan_done _ _ _ _ _ _ (omega (
-  arith,
-  c.if-source-lt4096.false,
-))
-    (omega (
-      arith,
-      c.if-fragments-lt3072.false,
-    )) (omega
-    (arith, c.if-columns-lt6144.false))
-    c.plan_all-answer.new.source
-    c.plan_all-answer.new.fragments
-    c.plan_all-answer.new.columns _
-    (c.plan_all-answer.ensures short) c.in_default.is
+pub returns-else-is_err : goal.returns-else-is_err
+returns-else-is_err c = λ short.
+    plan_done _ _ _ _ _ _ (omega arith) (omega arith) (omega arith)
+    c.plan_all-answer.new.source c.plan_all-answer.new.fragments c.plan_all-answer.new.columns
+    _ (c.plan_all-answer.ensures short) (sym c.is_err.ensures.value ∙ c.if-is_err.false)

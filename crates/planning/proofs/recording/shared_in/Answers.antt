@@ -1,6 +1,5 @@
 -- Where times aren't shared all words stay zero.
 use Rattle.planning.specs.AnswerLaws.{stands_off, stands_on}
-use borrow.Author.Rules.{rules}
 use Rattle.planning.proofs.recording.shared_in.Goals as goal
 
 pub returns-then-share : goal.returns-then-share

@@ -2,7 +2,6 @@
 use mathlib.Core.Path.{refl}
 use Rattle.planning.specs.StandsLaws.{alike_none, alike_all}
 use native.Mathlib.Omega.{arith}
-use borrow.Author.Rules.{rules}
 use Rattle.planning.proofs.recording.some_stands.Goals as goal
 
 pub returns-then-shared_groups-eq0 : goal.returns-then-shared_groups-eq0

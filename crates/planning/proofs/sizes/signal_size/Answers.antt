@@ -1,7 +1,6 @@
 -- None, or the sizes of its fragments.
 use Rattle.planning.specs.SizesLaws.{signal_none, signal_some}
 use native.Mathlib.Omega.{arith}
-use borrow.Author.Rules.{rules}
 use Rattle.planning.proofs.sizes.signal_size.Goals as goal
 
 pub returns-then-first-eq0 : goal.returns-then-first-eq0

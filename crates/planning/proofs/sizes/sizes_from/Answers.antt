@@ -1,6 +1,5 @@
 -- The sum so far and the fragments left give the whole.
-use Rattle.planning.specs.SizesLaws.{Summing, sum_begin, sum_end, sum_past, sum_over, sum-next}
-use borrow.Author.Rules.{rules}
+use Rattle.planning.specs.SizesLaws.{sum_begin, sum_end, sum_past, sum_over, sum-next}
 use native.Mathlib.Omega.{arith}
 use Rattle.planning.proofs.sizes.sizes_from.Goals as goal
 

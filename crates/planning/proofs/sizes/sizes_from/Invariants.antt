@@ -1,7 +1,5 @@
 -- The sum so far and the fragments left give the whole.
-use Rattle.planning.specs.SizesLaws.{Summing, sum_begin, sum_end, sum_past, sum_over, sum-next}
-use borrow.Author.Rules.{rules}
-use native.Mathlib.Omega.{arith}
+use Rattle.planning.specs.SizesLaws.{Summing}
 use Rattle.planning.proofs.sizes.sizes_from.Given as goal
 
 abbrev pub invariant-loop-left : goal.invariant-loop-left

@@ -1,7 +1,6 @@
 -- What is left of the items gives what all of them give.
-use Prim.Native.Nat.{◌-◌}
-use Rattle.planning.specs.SpanLaws.{Counting, count_begin, count_end, count_stop, count_on, Ending, end_begin, end_end, end_stop, end_on}
-use borrow.Author.Rules.{rules}
+use Rattle.planning.specs.SpanLaws.{count_begin, count_end, count_stop, count_on, end_begin, end_end, end_stop, end_on}
+use native.Mathlib.Omega.{arith}
 use Rattle.planning.proofs.span.rest_of.Goals as goal
 
 pub loop-k-init : goal.loop-k-init
@@ -9,12 +8,12 @@ loop-k-init c = (count_begin, end_begin)
 
 pub returns-then-mark-gt1 : goal.returns-then-mark-gt1
 returns-then-mark-gt1 c = (
-  count_stop c.loop-k.invariant.0 c.loop-k-test.true c.word-mark.ensures c.if-mark-gt1.true c.least-m.ensures.0,
-  end_stop c.loop-k.invariant.1 c.loop-k-test.true c.word-mark.ensures c.if-mark-gt1.true c.least-m.ensures.0,
+  count_stop c.loop-k.invariant.0 (omega arith) c.word-mark.ensures c.if-mark-gt1.true c.min-m.ensures,
+  end_stop c.loop-k.invariant.1 (omega arith) c.word-mark.ensures c.if-mark-gt1.true c.min-m.ensures,
 )
 
 pub loop-k-preserved : goal.loop-k-preserved
-loop-k-preserved c = (count_on c.loop-k.invariant.0 c.loop-k-test.true c.word-mark.ensures c.if-mark-gt1.false, end_on c.loop-k.invariant.1 c.loop-k-test.true c.word-mark.ensures c.if-mark-gt1.false)
+loop-k-preserved c = (count_on c.loop-k.invariant.0 (omega arith) c.word-mark.ensures c.if-mark-gt1.false, end_on c.loop-k.invariant.1 (omega arith) c.word-mark.ensures c.if-mark-gt1.false)
 
 pub returns : goal.returns
-returns c = (count_end c.loop-k.invariant.0 c.loop-k-test.false c.least-m.ensures.0, end_end c.loop-k.invariant.1 c.loop-k-test.false c.least-m.ensures.0)
+returns c = (count_end c.loop-k.invariant.0 (omega arith) c.min-m.ensures, end_end c.loop-k.invariant.1 (omega arith) c.min-m.ensures)

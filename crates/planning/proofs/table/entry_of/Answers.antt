@@ -1,6 +1,5 @@
 -- Eight words.
 use Rattle.planning.specs.TableLaws.{entry_read}
-use borrow.Author.Rules.{rules}
 use Rattle.planning.proofs.table.entry_of.Goals as goal
 
 pub returns : goal.returns

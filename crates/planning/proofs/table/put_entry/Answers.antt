@@ -1,6 +1,5 @@
 -- The words of the entry.
 use Rattle.planning.specs.TableLaws.{put_entry_lem}
-use borrow.Author.Rules.{rules}
 use Rattle.planning.proofs.table.put_entry.Goals as goal
 
 pub returns : goal.returns

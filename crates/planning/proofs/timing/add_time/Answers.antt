@@ -1,7 +1,6 @@
 -- A time column that stands is kept; else a new one is put.
 use Rattle.planning.specs.SettleLaws.{time_stands, time_new}
 use native.Mathlib.Omega.{arith}
-use borrow.Author.Rules.{rules}
 use Rattle.planning.proofs.timing.add_time.Goals as goal
 
 pub returns-then-k-ne0 : goal.returns-then-k-ne0

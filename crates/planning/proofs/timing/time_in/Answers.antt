@@ -1,8 +1,5 @@
 -- No new column, or its channel's references.
-use mathlib.Core.Path.{◌∙◌}
-use native.Mathlib.Omega.{arith}
 use Rattle.planning.specs.SettleLaws.{tested_none, tested_new}
-use borrow.Author.Rules.{rules}
 use Rattle.planning.proofs.timing.time_in.Goals as goal
 
 pub returns-then-n-nc : goal.returns-then-n-nc

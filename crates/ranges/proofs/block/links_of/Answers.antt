@@ -1,6 +1,5 @@
 -- A link of 0 has none.
 use Rattle.ranges.specs.BlocksLaws.{links_none, links_some}
-use borrow.Author.Rules.{rules}
 use Rattle.ranges.proofs.block.links_of.Goals as goal
 
 pub returns-then-a-eq0 : goal.returns-then-a-eq0

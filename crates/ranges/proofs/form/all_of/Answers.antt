@@ -1,9 +1,6 @@
 -- What is left of the blocks gives what all give.
-use Rattle.ranges.specs.Blocks.{listed_from, all_of}
 use Rattle.ranges.specs.BlocksLaws.{kinds_hit, kinds_pass, kinds_end}
-use mathlib.Core.Path.{◌≡◌, refl}
-use Prim.Native.Nat.{◌-◌}
-use borrow.Author.Rules.{rules}
+use mathlib.Core.Path.{refl}
 use Rattle.ranges.proofs.form.all_of.Goals as goal
 
 pub loop-i-init : goal.loop-i-init

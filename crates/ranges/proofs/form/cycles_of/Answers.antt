@@ -1,7 +1,6 @@
 -- The field is the definition.
 use Rattle.ranges.specs.FormLaws.{cycles_is}
-use borrow.Author.Rules.{rules}
 use Rattle.ranges.proofs.form.cycles_of.Goals as goal
 
 pub returns : goal.returns
-returns c = cycles_is _ _ c.data_u64.ensures.is
+returns c = cycles_is _ _ c.data_field.ensures.is

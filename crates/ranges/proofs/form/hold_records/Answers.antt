@@ -1,6 +1,5 @@
 -- Records without bytes sum to 0.
 use Rattle.ranges.specs.FormLaws.{records_none, records_some}
-use borrow.Author.Rules.{rules}
 use Rattle.ranges.proofs.form.hold_records.Goals as goal
 
 pub returns-then-w-eq0 : goal.returns-then-w-eq0

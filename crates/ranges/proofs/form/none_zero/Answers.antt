@@ -1,9 +1,6 @@
 -- What is left of the search gives what the whole search gives.
-use Rattle.ranges.specs.Blocks.{none_from}
 use Rattle.ranges.specs.BlocksLaws.{none_hit, none_pass, none_end}
-use mathlib.Core.Path.{◌≡◌, refl}
-use Prim.Native.Nat.{◌-◌}
-use borrow.Author.Rules.{rules}
+use mathlib.Core.Path.{refl}
 use Rattle.ranges.proofs.form.none_zero.Goals as goal
 
 pub loop-i-init : goal.loop-i-init

@@ -1,6 +1,5 @@
 -- The sum of two fields.
 use Rattle.ranges.specs.FormLaws.{bytes_is}
-use borrow.Author.Rules.{rules}
 use Rattle.ranges.proofs.form.record_bytes.Goals as goal
 
 pub returns : goal.returns

@@ -1,10 +1,10 @@
 -- A DG or not.
+use Rattle.std.proofs.Common.{arith}
 use Rattle.ranges.specs.OpenLaws.{item-dg, item-other}
-use borrow.Author.Rules.{rules}
 use Rattle.ranges.proofs.open.item_range.Goals as goal
 
-pub returns-then-mark-gt1 : goal.returns-then-mark-gt1
-returns-then-mark-gt1 c = item-dg _ _ _ c.if-mark-gt1.true c.link_at.ensures c.chain_ranges.ensures
+pub returns-then-mark-lt2 : goal.returns-then-mark-lt2
+returns-then-mark-lt2 c = item-other _ _ _ (omega arith)
 
 pub returns : goal.returns
-returns c = item-other _ _ _ c.if-mark-gt1.false
+returns c = item-dg _ _ _ (omega arith) c.link_at.ensures c.chain_ranges.ensures

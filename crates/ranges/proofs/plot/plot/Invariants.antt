@@ -12,6 +12,3 @@ invariant-loop-i l = record {
   ahead : turns_from l.image l.table (l.n - l.i) l.i (laid l.state l.destination)
       ≡ turns_from l.image l.table (turns_of (length l.table)) 0 (laid (start_of l.image (length l.table)) l.fn.destination);
 }
-
-abbrev pub decreases-loop-i : goal.decreases-loop-i
-decreases-loop-i l = l.n - l.i

@@ -1,12 +1,7 @@
 -- What is left of the bytes gives the whole buffer.
-use Rattle.ranges.specs.CopyLaws.{Copying, copy_begin, copy_full, copy_end, copy_place, copy_inside, copy-on}
-use Rattle.base.specs.Blit.{blit, part}
-use Rattle.mdf.specs.Records.{joined}
-use Rattle.ranges.specs.Blocks.{listed_from}
-use Prim.Native.Nat.{◌-◌}
+use Rattle.ranges.specs.CopyLaws.{copy_begin, copy_full, copy_end, copy_place, copy_inside, copy-on}
 use borrow.Author.Rules.{rules}
 use native.Mathlib.Omega.{arith}
-use lib.ListN.{length}
 use Rattle.ranges.proofs.seek.copy_from.Goals as goal
 
 pub loop-i-init : goal.loop-i-init
@@ -25,7 +20,7 @@ pub overflow_add-x-in-loop-i : goal.overflow_add-x-in-loop-i
 overflow_add-x-in-loop-i c = let a = copy_place c.loop-i.invariant c.loop-i-test.true c.link_at-x.ensures c.bytes_at.ensures in let b = copy_inside c.loop-i.invariant c.loop-i-test.true c.link_at-x.ensures c.bytes_at.ensures in omega arith
 
 pub loop-i-preserved : goal.loop-i-preserved
-loop-i-preserved c = copy-on c.loop-i.invariant c.loop-i-test.true c.link_at-x.ensures c.bytes_at.ensures c.least-n.ensures c.copy.ensures
+loop-i-preserved c = copy-on c.loop-i.invariant c.loop-i-test.true c.link_at-x.ensures c.bytes_at.ensures c.min-n.ensures c.copy.ensures
 
 pub returns : goal.returns
 returns c = copy_end c.loop-i.invariant c.loop-i-test.false

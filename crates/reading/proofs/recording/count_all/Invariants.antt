@@ -1,8 +1,6 @@
 -- The DG from block i on, counted after those before, give what all give.
-use borrow.Author.Rules.{rules}
-use native.Mathlib.Omega.{arith}
 use Prim.Native.Nat.{◌-◌}
-use Rattle.reading.specs.CountingLaws.{Counting, held-room, count_begin, count_ready, count_next, count_refused, count_on, count_end}
+use Rattle.reading.specs.CountingLaws.{Counting}
 use Rattle.reading.proofs.recording.count_all.Given as goal
 
 abbrev pub invariant-loop-i : goal.invariant-loop-i

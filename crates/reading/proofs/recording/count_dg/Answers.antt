@@ -1,6 +1,5 @@
 -- The counts that were laid in the lent part are laid in the whole.
 use Rattle.reading.specs.CountingLaws.{count_lent}
-use borrow.Author.Rules.{rules}
 use Rattle.reading.proofs.recording.count_dg.Goals as goal
 
 pub returns : goal.returns

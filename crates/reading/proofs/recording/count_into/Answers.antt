@@ -1,11 +1,14 @@
 -- The counts that were made, as many as groups, go into the words of the source.
-use Rattle.reading.specs.ReadLaws.{into_refused, into_words}
-use borrow.Author.Rules.{rules}
+use mathlib.Core.Path.{refl}
+use native.Mathlib.Omega.{arith}
+use Rattle.fields.specs.AnswerLaws.{passed_on}
+use Rattle.reading.specs.ReadLaws.{counts_laid, into_refused, into_words}
 use Rattle.reading.proofs.recording.count_into.Goals as goal
 
-pub returns-in-Refused : goal.returns-in-Refused
-returns-in-Refused c = into_refused c.count_all-counted.ensures _ c.in-Refused.is
+pub returns-in_err-count_all : goal.returns-in_err-count_all
+returns-in_err-count_all c = rw (passed_on _ _ c.from_residual.ensures) (into_refused c.count_all.ensures _ c.in_err-count_all.was)
 
 pub returns : goal.returns
 returns c =
-    into_words c.count_all-counted.ensures _ c.in_default.is (search rules) c.store.ensures
+    let l = c.requires.0.long in
+    into_words c.count_all.ensures _ c.in_ok-count_all.was refl (counts_laid _ _ _ _ (omega arith) c.copy_from_slice.ensures.after (omega arith) (omega arith))

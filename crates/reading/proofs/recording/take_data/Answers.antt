@@ -1,18 +1,16 @@
 -- The chain's answer, then the id size, are the cases of the definition.
+use Rattle.fields.specs.AnswerLaws.{passed_on}
 use Rattle.reading.specs.DataLaws.{data_chain_stopped, data_unsized, data_taken}
-use borrow.Author.Rules.{rules}
 use Rattle.reading.proofs.recording.take_data.Goals as goal
 
-pub returns-in-Stopped : goal.returns-in-Stopped
-returns-in-Stopped c =
-    data_chain_stopped _ _ _ _ _ c.link_at-data.ensures c.chain-chained.ensures c.in-Stopped.is
+pub returns-in_err-count : goal.returns-in_err-count
+returns-in_err-count c =
+    rw (passed_on _ _ c.from_residual.ensures) (data_chain_stopped _ _ _ _ _ c.link_at.ensures _ c.chain.ensures c.in_err-count.was)
 
-pub returns-in-Refused : goal.returns-in-Refused
-returns-in-Refused c =
-    data_unsized _ _ _ _ _ c.link_at-data.ensures c.chain-chained.ensures c.in-Done.is
-    c.id_size_in-sized.ensures c.in-Refused.is
+pub returns-in_err-id_size_in : goal.returns-in_err-id_size_in
+returns-in_err-id_size_in c =
+    rw (passed_on _ _ c.from_residual-in_err-id_size_in.ensures)
+    (data_unsized _ _ _ _ _ c.link_at.ensures _ c.chain.ensures c.in_ok-count.was c.id_size_in.ensures c.in_err-id_size_in.was)
 
-pub returns-in-Fine : goal.returns-in-Fine
-returns-in-Fine c =
-    data_taken _ _ _ _ _ c.link_at-data.ensures c.chain-chained.ensures c.in-Done.is
-    c.id_size_in-sized.ensures c.in-Fine.is
+pub returns : goal.returns
+returns c = data_taken _ _ _ _ _ c.link_at.ensures _ c.chain.ensures c.in_ok-count.was c.id_size_in.ensures c.in_ok-id_size_in.was

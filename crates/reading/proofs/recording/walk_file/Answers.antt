@@ -3,7 +3,6 @@ use mathlib.Core.Path.{refl}
 use mathlib.Core.List.{[]}
 use Rattle.mdf.specs.Chain.{file_limits}
 use Rattle.reading.specs.WalkedLaws.{without-pieces}
-use borrow.Author.Rules.{rules}
 use Rattle.reading.proofs.recording.walk_file.Goals as goal
 
 pub returns : goal.returns

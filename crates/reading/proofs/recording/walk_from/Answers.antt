@@ -24,7 +24,7 @@ visit-met-requires c = let r = c.walk.invariant.0.within in (omega (arith, r), r
 
 pub groups-init : goal.groups-init
 groups-init c = (
-  begin _ _ _ _ _ (data_within _ _ _ _ c.take_data-taken.ensures (after_done _ _ c.in-Done.is)
+  begin _ _ _ _ _ (data_within _ _ _ _ c.take_data-taken.ensures (after_done _ _ c.in-Ok.is)
       (fragments_for c.args.file) (dg-within _ _ _ c.walk.invariant.0.within c.visit-met.ensures.met (after-fine _ _ c.in_default.is) (omega
       arith))),
   index_fine _ _ _ _ c.visit-met.ensures.indexed c.in_default.is,
@@ -41,7 +41,7 @@ walk-preserved c = (
   turn_on c.walk.invariant.0 c.if-dg-eq0.false c.walk.invariant.0.within.dg-room
       (dg-block _ _ _ _ c.link_at-cg.ensures
       (dg-gives _ _ _ c.walk.invariant.0.within c.visit-met.ensures.met (after-fine _ _ c.in_default.is))
-      (data_gives _ _ _ _ c.take_data-taken.ensures (after_done _ _ c.in-Done.is))
+      (data_gives _ _ _ _ c.take_data-taken.ensures (after_done _ _ c.in-Ok.is))
       (turn_end c.groups.invariant.0 c.groups-test.false c.groups.invariant.0.within.cg-room))
       c.link_at-dg.ensures (omega arith) c.groups.invariant.0.within (omega arith) (omega arith),
   c.groups.invariant.1,
@@ -101,38 +101,38 @@ channels-preserved c = (
 pub returns-then-dg-eq0 : goal.returns-then-dg-eq0
 returns-then-dg-eq0 c = walk-gives _ _ _ _ _ (turn_end c.walk.invariant.0 c.if-dg-eq0.true c.walk.invariant.0.within.dg-room)
 
-pub returns-in-Refused : goal.returns-in-Refused
-returns-in-Refused c =
+pub returns-in-Err : goal.returns-in-Err
+returns-in-Err c =
     walk_stops _ _ _ _ _ (turn_stop c.walk.invariant.0 c.if-dg-eq0.false c.walk.invariant.0.within.dg-room
     (dg-block_stops _ _ _ (dg_stops _ _ _ c.walk.invariant.0.within c.visit-met.ensures.met (after_refused _ _
-    c.in-Refused.is))))
+    c.in-Err.is))))
 
-pub returns-in-Refused-taken : goal.returns-in-Refused-taken
-returns-in-Refused-taken c =
+pub returns-in-Err-taken : goal.returns-in-Err-taken
+returns-in-Err-taken c =
     walk_stops _ _ _ _ _ (turn_stop c.walk.invariant.0 c.if-dg-eq0.false c.walk.invariant.0.within.dg-room
     (dg_data_stops _ _ _
     (dg-gives _ _ _ c.walk.invariant.0.within c.visit-met.ensures.met (after-fine _ _ c.in_default.is))
-    (data_stops _ _ _ _ c.take_data-taken.ensures (after_stopped _ _ c.in-Refused-taken.is))))
+    (data_stops _ _ _ _ c.take_data-taken.ensures (after_stopped _ _ c.in-Err-taken.is))))
 
-pub shape_of-source-in-Refused-met : goal.shape_of-source-in-Refused-met
-shape_of-source-in-Refused-met c = omega (arith, c.walk.invariant.0.words_same, c.visit-met.auto.source, c.groups.invariant.0.words_same, c.met_cg-met.auto.source)
+pub shape_of-source-in-Err-met : goal.shape_of-source-in-Err-met
+shape_of-source-in-Err-met c = omega (arith, c.walk.invariant.0.words_same, c.visit-met.auto.source, c.groups.invariant.0.words_same, c.met_cg-met.auto.source)
 
-pub shape_of-fragments-in-Refused-met : goal.shape_of-fragments-in-Refused-met
-shape_of-fragments-in-Refused-met c = omega (arith, c.walk.invariant.0.frags_same, c.take_data-taken.auto.fragments, c.groups.invariant.0.frags_same)
+pub shape_of-fragments-in-Err-met : goal.shape_of-fragments-in-Err-met
+shape_of-fragments-in-Err-met c = omega (arith, c.walk.invariant.0.frags_same, c.take_data-taken.auto.fragments, c.groups.invariant.0.frags_same)
 
-pub returns-in-Refused-met : goal.returns-in-Refused-met
-returns-in-Refused-met c =
+pub returns-in-Err-met : goal.returns-in-Err-met
+returns-in-Err-met c =
     walk_stops _ _ _ _ _ (turn_stop c.walk.invariant.0 c.if-dg-eq0.false c.walk.invariant.0.within.dg-room
     (dg-below_stops _ _ _ _ c.link_at-cg.ensures
     (dg-gives _ _ _ c.walk.invariant.0.within c.visit-met.ensures.met (after-fine _ _ c.in_default.is))
-    (data_gives _ _ _ _ c.take_data-taken.ensures (after_done _ _ c.in-Done.is))
+    (data_gives _ _ _ _ c.take_data-taken.ensures (after_done _ _ c.in-Ok.is))
     (turn_stop c.groups.invariant.0 c.groups-test.true
     c.groups.invariant.0.within.cg-room
     (cg-block_stops _ _ (cg_stops _ _ _ c.groups.invariant.0.within c.met_cg-met.ensures.met
-    (after_refused _ _ c.in-Refused-met.is))))))
+    (after_refused _ _ c.in-Err-met.is))))))
 
-pub shape_of-source-in-Refused-met-2 : goal.shape_of-source-in-Refused-met-2
-shape_of-source-in-Refused-met-2 c =
+pub shape_of-source-in-Err-met-2 : goal.shape_of-source-in-Err-met-2
+shape_of-source-in-Err-met-2 c =
     omega (
       arith,
       c.walk.invariant.0.words_same,
@@ -143,8 +143,8 @@ shape_of-source-in-Refused-met-2 c =
       c.met_cn-met.auto.source,
     )
 
-pub shape_of-fragments-in-Refused-met-2 : goal.shape_of-fragments-in-Refused-met-2
-shape_of-fragments-in-Refused-met-2 c =
+pub shape_of-fragments-in-Err-met-2 : goal.shape_of-fragments-in-Err-met-2
+shape_of-fragments-in-Err-met-2 c =
     omega (
       arith,
       c.walk.invariant.0.frags_same,
@@ -153,12 +153,12 @@ shape_of-fragments-in-Refused-met-2 c =
       c.channels.invariant.0.frags_same,
     )
 
-pub returns-in-Refused-met-2 : goal.returns-in-Refused-met-2
-returns-in-Refused-met-2 c =
+pub returns-in-Err-met-2 : goal.returns-in-Err-met-2
+returns-in-Err-met-2 c =
     walk_stops _ _ _ _ _ (turn_stop c.walk.invariant.0 c.if-dg-eq0.false c.walk.invariant.0.within.dg-room
     (dg-below_stops _ _ _ _ c.link_at-cg.ensures
     (dg-gives _ _ _ c.walk.invariant.0.within c.visit-met.ensures.met (after-fine _ _ c.in_default.is))
-    (data_gives _ _ _ _ c.take_data-taken.ensures (after_done _ _ c.in-Done.is))
+    (data_gives _ _ _ _ c.take_data-taken.ensures (after_done _ _ c.in-Ok.is))
     (turn_stop c.groups.invariant.0 c.groups-test.true
     c.groups.invariant.0.within.cg-room
     (cg-below_stops _ _ _ c.link_at-cn.ensures
@@ -167,4 +167,4 @@ returns-in-Refused-met-2 c =
     (turn_stop c.channels.invariant.0 c.channels-test.true
     c.channels.invariant.0.within.cn-room
     (cn-block_stops _ _ (cn_stops _ _ _ c.channels.invariant.0.within c.met_cn-met.ensures.met
-    (after_refused _ _ c.in-Refused-met-2.is))))))))
+    (after_refused _ _ c.in-Err-met-2.is))))))))

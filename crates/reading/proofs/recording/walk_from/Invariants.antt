@@ -1,19 +1,10 @@
 -- Each loop is a level of the walk: what is left of it gives what the whole of it gives, and the words hold what was met.
-use borrow.Author.Rules.{rules}
-use native.Mathlib.Omega.{arith}
 use Prim.Native.Nat.{◌-◌}
-use mathlib.Core.Path.{refl}
 use Rattle.mdf.specs.Walk.{level_dg, level_cg, level_cn, below_dg, below_cg, below_cn, most_items}
 use Rattle.chains.specs.Node.{limits_for}
-use Rattle.chains.specs.TurnLaws.{fragments_for}
 use Rattle.index.specs.Index.{Indexed}
 use Rattle.reading.specs.Held.{state}
-use Rattle.reading.specs.VisitLaws.{index_fine}
-use Rattle.reading.specs.HeldLaws.{after-fine, after_refused, after_done, after_stopped, dg_stops, dg-gives, dg-within, cg_stops, cg-gives, cg-within}
-use Rattle.reading.specs.HeldLaws.{cn_stops, cn-gives, cn-within, data_stops, data_gives, data_within}
-use Rattle.reading.specs.LevelLaws.{Turn, begin, turn_end, turn_stop, turn_on, cn-block, cn-block_stops, cg-block, cg-below_stops, cg-block_stops}
-use Rattle.reading.specs.LevelLaws.{dg-block, dg-below_stops, dg_data_stops, dg-block_stops}
-use Rattle.reading.specs.WalkedLaws.{within_none, walk-gives, walk_stops}
+use Rattle.reading.specs.LevelLaws.{Turn}
 use Rattle.reading.proofs.recording.walk_from.Given as goal
 
 abbrev pub invariant-channels : goal.invariant-channels

@@ -2,11 +2,8 @@
 use Rattle.mdf.specs.Records.{any_dv}
 use Rattle.work_words.specs.Words.{fragments_of}
 use Rattle.records.specs.Ahead.{fragments_from}
-use Rattle.records.specs.FragmentLaws.{from_start, dv_met, dv-next, dv_end}
 use mathlib.Core.Path.{◌≡◌}
 use Prim.Native.Nat.{◌-◌, ◌≤◌}
-use borrow.Author.Rules.{rules}
-use native.Mathlib.Omega.{arith}
 use lib.ListN.{length}
 use Rattle.records.proofs.fragment.any_dv.Given as goal
 

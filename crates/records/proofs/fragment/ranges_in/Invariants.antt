@@ -2,11 +2,8 @@
 use Rattle.mdf.specs.Records.{ranges_in}
 use Rattle.work_words.specs.Words.{fragments_of}
 use Rattle.records.specs.Ahead.{fragments_from}
-use Rattle.records.specs.FragmentLaws.{from_start, ranges_out, ranges_next, ranges_end}
 use mathlib.Core.Path.{◌≡◌}
 use Prim.Native.Nat.{◌-◌, ◌≤◌}
-use borrow.Author.Rules.{rules}
-use native.Mathlib.Omega.{arith}
 use lib.ListN.{length}
 use Rattle.records.proofs.fragment.ranges_in.Given as goal
 

@@ -1,7 +1,6 @@
 -- Four bytes, the lowest first.
 use Rattle.records.specs.FrameLaws.{four_bytes}
 use native.Mathlib.Omega.{arith}
-use borrow.Author.Rules.{rules}
 use Rattle.records.proofs.framing.length_at.Goals as goal
 
 pub returns : goal.returns

@@ -1,11 +1,5 @@
 -- The bytes from index i on were taken, the highest first.
 use Rattle.records.specs.FrameLaws.{number-start, number_big, number_more, number_done}
-use Rattle.records.specs.Ahead.{ahead}
-use Rattle.mdf.specs.Records.{joined}
-use Rattle.base.specs.Field.{le_at}
-use mathlib.Core.Path.{◌≡◌}
-use Prim.Native.Nat.{◌-◌, ◌≤◌}
-use borrow.Author.Rules.{rules}
 use native.Mathlib.Omega.{arith}
 use Rattle.records.proofs.framing.number_at.Goals as goal
 

@@ -1,17 +1,14 @@
 -- The bytes from index i on were taken, the highest first.
-use Rattle.records.specs.FrameLaws.{number-start, number_big, number_more, number_done}
-use Rattle.records.specs.Ahead.{ahead}
+use Rattle.records.specs.Answer.{ahead_of}
 use Rattle.mdf.specs.Records.{joined}
 use Rattle.base.specs.Field.{le_at}
 use mathlib.Core.Path.{◌≡◌}
 use Prim.Native.Nat.{◌-◌, ◌≤◌}
-use borrow.Author.Rules.{rules}
-use native.Mathlib.Omega.{arith}
 use Rattle.records.proofs.framing.number_at.Given as goal
 
 abbrev pub invariant-loop-i : goal.invariant-loop-i
 invariant-loop-i l =
-    (l.i ≤ l.n) × (l.x ≤ 18446744073709551615) × (l.x ≡ le_at (l.n - l.i) (joined l.image (ahead l.image l.fragments l.at l.position l.left)) l.i)
+    (l.i ≤ l.n) × (l.x ≤ 18446744073709551615) × (l.x ≡ le_at (l.n - l.i) (joined l.image (ahead_of l.image l.fragments l.from)) l.i)
 
 abbrev pub decreases-loop-i : goal.decreases-loop-i
 decreases-loop-i l = l.i

@@ -1,11 +1,7 @@
 -- What is left to skip of what is then ahead gives what the whole gives.
 use Rattle.records.specs.AheadLaws.{part_high, spot_stay, spot_move, spot_over}
-use Rattle.records.specs.Ahead.{ahead, spot_past}
-use mathlib.Core.Path.{◌≡◌, refl, ◌∙◌}
-use Prim.Native.Nat.{◌-◌, ◌≤◌}
-use borrow.Author.Rules.{rules}
+use mathlib.Core.Path.{refl, ◌∙◌}
 use native.Mathlib.Omega.{arith}
-use lib.ListN.{length}
 use Rattle.records.proofs.framing.skip_on.Goals as goal
 
 pub loop-more-init : goal.loop-more-init
@@ -13,19 +9,19 @@ loop-more-init c = (omega arith, refl)
 
 pub overflow_add-result : goal.overflow_add-result
 overflow_add-result c =
-    let h = part_high c.loop-more.p c.loop-more.l
+    let h = part_high c.loop-more.spot.position c.loop-more.spot.left
     c.args.image.now in let e = c.inside-here.ensures in omega arith
 
 pub returns-then-more-here : goal.returns-then-more-here
 returns-then-more-here c = spot_stay _ _ _ _ _ _ c.inside-here.ensures c.if-more-here.true ∙ c.loop-more.invariant.1
 
-pub returns-then-n-i : goal.returns-then-n-i
-returns-then-n-i c =
+pub returns-then-n-spot : goal.returns-then-n-spot
+returns-then-n-spot c =
     spot_over _ _ _ _ _ _ c.inside-here.ensures c.loop-more.invariant.1 c.if-more-here.false
     (omega arith)
 
-pub returns-then-n-i-lt3 : goal.returns-then-n-i-lt3
-returns-then-n-i-lt3 c =
+pub returns-then-n-spot-lt3 : goal.returns-then-n-spot-lt3
+returns-then-n-spot-lt3 c =
     spot_over _ _ _ _ _ _ c.inside-here.ensures c.loop-more.invariant.1
     c.if-more-here.false (omega arith)
 
@@ -35,5 +31,5 @@ loop-more-preserved c = (
   spot_move _ _ _ _ _ _ c.inside-here.ensures
       c.loop-more.invariant.1 c.if-more-here.false (omega
       arith)
-      c.word_at-p.ensures c.word_at-l.ensures,
+      c.word_at.ensures c.word_at-in-loop-more.ensures,
 )

@@ -1,7 +1,6 @@
 -- The group is VLSD storage by bit 0 of its flags.
 use Rattle.records.specs.GroupLaws.{storage_is}
-use borrow.Author.Rules.{rules}
 use Rattle.records.proofs.group.is_storage.Goals as goal
 
 pub returns : goal.returns
-returns c = storage_is _ _ c.data_u16.ensures.is
+returns c = storage_is _ _ c.data_field.ensures.is

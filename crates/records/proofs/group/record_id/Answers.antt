@@ -1,7 +1,6 @@
 -- The record id is the 64-bit field at data byte 0.
 use Rattle.records.specs.GroupLaws.{record_id_is}
-use borrow.Author.Rules.{rules}
 use Rattle.records.proofs.group.record_id.Goals as goal
 
 pub returns : goal.returns
-returns c = record_id_is _ _ c.data_u64.ensures.is
+returns c = record_id_is _ _ c.data_field.ensures.is

@@ -1,7 +1,6 @@
 -- In DV a record has its data bytes, in DT also its id and its invalidation bytes.
 use Rattle.records.specs.GroupLaws.{size-dv, size-dt}
 use native.Mathlib.Omega.{arith}
-use borrow.Author.Rules.{rules}
 use Rattle.records.proofs.group.record_size.Goals as goal
 
 pub returns-then-dv : goal.returns-then-dv

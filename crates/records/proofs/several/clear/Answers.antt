@@ -1,26 +1,11 @@
--- What is left to set, done to the present words, gives the result.
-use Rattle.records.specs.SeveralLaws.{zero-past, zero_turn, zero_done}
-use Rattle.base.specs.Blit.{blit}
-use lib.ListN.{replicate}
-use mathlib.Core.Path.{◌≡◌, refl}
-use borrow.Author.Rules.{rules}
-use native.Mathlib.Omega.{arith}
-use lib.ListN.{length, length-set}
+-- The words that are there are all that count.
+use Rattle.std.proofs.Common.{arith, ◌≡◌, length, take, replicate, length-take-le}
+use Rattle.records.specs.SeveralLaws.{zero_some}
 use Rattle.records.proofs.several.clear.Goals as goal
 
-pub loop-left-init : goal.loop-left-init
-loop-left-init c = (refl, refl)
-
-pub returns-then-words-p : goal.returns-then-words-p
-returns-then-words-p c = zero-past c.loop-left.left _ _ c.if-words-p.true c.loop-left.invariant.1
-
-pub loop-left-preserved : goal.loop-left-preserved
-loop-left-preserved c = (
-  simp length-set c.loop-left.invariant.0,
-  zero_turn _ _ _ c.loop-left-test.true
-      c.loop-left.invariant.1,
-)
-
 pub returns : goal.returns
-returns c = zero_done c.loop-left.left c.loop-left.p c.loop-left.words (omega arith)
-    c.loop-left.invariant.1
+returns c =
+    let e = c.min-k.ensures in
+    let m : length (take c.min-k.result c.args.words.now) ≡ c.min-k.result = length-take-le c.min-k.result c.args.words.now (omega arith) in
+    let is : c.fill.new.self ≡ replicate c.min-k.result 0 = rw m at (c.fill.ensures.after (λ y e. e)) in
+    rw is (zero_some _ _ _ c.min-k.ensures)

@@ -1,6 +1,5 @@
 -- By the number of groups.
 use Rattle.records.specs.SeveralLaws.{groups_none, groups_many}
-use borrow.Author.Rules.{rules}
 use Rattle.records.proofs.several.count_groups.Goals as goal
 
 pub returns-then-groups-eq0 : goal.returns-then-groups-eq0

@@ -1,28 +1,17 @@
 -- What is left of the search gives what the whole gives.
 use Rattle.records.specs.SeveralLaws.{is_id, is_next, is_end}
-use Rattle.mdf.specs.Records.{is_id_of}
-use lib.ListN.{drop}
-use mathlib.Core.Path.{◌≡◌, refl}
-use Prim.Native.Nat.{◌-◌}
-use borrow.Author.Rules.{rules}
+use mathlib.Core.Path.{refl}
 use native.Mathlib.Omega.{arith}
-use lib.ListN.{length}
 use Rattle.records.proofs.several.is_id_of.Goals as goal
 
 pub loop-i-init : goal.loop-i-init
 loop-i-init c = refl
 
 pub returns-then-record_id-id : goal.returns-then-record_id-id
-returns-then-record_id-id c =
-    is_id _ _ _ _ c.loop-i.invariant c.loop-i-test.true
-    c.word_at.ensures c.record_id.ensures c.if-record_id-id.true
+returns-then-record_id-id c = is_id _ _ _ _ c.loop-i.invariant c.loop-i-test.true refl c.record_id.ensures c.if-record_id-id.true
 
 pub loop-i-preserved : goal.loop-i-preserved
-loop-i-preserved c =
-    is_next _ _ _ _ c.loop-i.invariant c.loop-i-test.true
-    c.word_at.ensures c.record_id.ensures c.if-record_id-id.false
+loop-i-preserved c = is_next _ _ _ _ c.loop-i.invariant c.loop-i-test.true refl c.record_id.ensures c.if-record_id-id.false
 
 pub returns : goal.returns
-returns c =
-    is_end c.args.image.now c.args.id
-    c.args.groups.now c.loop-i.i c.loop-i.invariant (omega arith)
+returns c = is_end _ _ _ c.loop-i.i c.loop-i.invariant (omega arith)

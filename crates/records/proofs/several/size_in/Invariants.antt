@@ -1,13 +1,9 @@
 -- The sum so far and what is left give the whole.
 use Rattle.mdf.specs.Records.{size_of}
 use Rattle.work_words.specs.Words.{fragments_of}
-use Rattle.records.specs.SeveralLaws.{size-start, size-next, size_end, size-over, size_fits}
 use Rattle.records.specs.Ahead.{fragments_from}
-use native.Mathlib.Nat.{zero-add}
-use mathlib.Core.Path.{◌≡◌, ◌∙◌}
+use mathlib.Core.Path.{◌≡◌}
 use Prim.Native.Nat.{◌+◌, ◌-◌, ◌≤◌}
-use borrow.Author.Rules.{rules}
-use native.Mathlib.Omega.{arith}
 use lib.ListN.{length}
 use Rattle.records.proofs.several.size_in.Given as goal
 

@@ -1,13 +1,9 @@
 -- The sum so far and what is left give the whole.
 use Rattle.work_words.specs.Words.{fragments_of}
-use Rattle.records.specs.CountLaws.{bytes-start, bytes_next, bytes_end, within-over, within_in}
 use Rattle.records.specs.Counted.{bytes_of}
 use Rattle.records.specs.Ahead.{fragments_from}
-use native.Mathlib.Nat.{zero-add}
-use mathlib.Core.Path.{◌≡◌, ◌∙◌}
+use mathlib.Core.Path.{◌≡◌}
 use Prim.Native.Nat.{◌+◌, ◌-◌, ◌≤◌}
-use borrow.Author.Rules.{rules}
-use native.Mathlib.Omega.{arith}
 use lib.ListN.{length}
 use Rattle.records.proofs.sorted.bytes_of.Given as goal
 

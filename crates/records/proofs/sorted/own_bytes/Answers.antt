@@ -1,20 +1,9 @@
--- By the kind of the fragment and the kind asked for.
-use Rattle.records.specs.CountLaws.{own-dv, other-dv, other-dt, own-dt}
-use borrow.Author.Rules.{rules}
+-- By whether the fragment is of the kind asked for.
+use Rattle.records.specs.CountLaws.{own, other}
 use Rattle.records.proofs.sorted.own_bytes.Goals as goal
 
-pub returns-then-dv : goal.returns-then-dv
-returns-then-dv c =
-    own-dv _ _ _ c.is_dv.ensures c.if-is_dv.true c.if-dv.true
-    c.word_at.ensures
-
-pub returns-then-is_dv : goal.returns-then-is_dv
-returns-then-is_dv c = other-dv _ _ _ c.is_dv.ensures c.if-is_dv.true c.if-dv.false
-
-pub returns-then-dv-2 : goal.returns-then-dv-2
-returns-then-dv-2 c = other-dt _ _ _ c.is_dv.ensures c.if-is_dv.false c.if-dv-2.true
+pub returns-then-is_dv-dv : goal.returns-then-is_dv-dv
+returns-then-is_dv-dv c = own _ _ c.is_dv.ensures c.args.dv c.if-is_dv-dv.true c.word_at.ensures
 
 pub returns : goal.returns
-returns c =
-    own-dt _ _ _ c.is_dv.ensures c.if-is_dv.false c.if-dv-2.false
-    c.word_at-2.ensures
+returns c = other _ _ c.is_dv.ensures c.args.dv c.if-is_dv-dv.false

@@ -1,6 +1,5 @@
 -- The two ways of the definition.
 use Rattle.records.specs.CountLaws.{quotient-none, quotient-some}
-use borrow.Author.Rules.{rules}
 use Rattle.records.proofs.sorted.quotient_of.Goals as goal
 
 pub returns-then-m-eq0 : goal.returns-then-m-eq0

@@ -3,7 +3,6 @@ use Rattle.records.specs.RunLaws.{remaining_none, remaining_some}
 use native.Mathlib.Nat.{mod-lt}
 use Prim.Native.Nat.{◌+◌, ◌%◌}
 use native.Mathlib.Omega.{arith}
-use borrow.Author.Rules.{rules}
 use Rattle.records.proofs.sorted.remaining.Goals as goal
 
 pub returns-then-n-eq0 : goal.returns-then-n-eq0

@@ -1,11 +1,7 @@
 -- What is left of the check, with the run passed so far in front, gives what the whole gives.
-use Rattle.records.specs.RunLaws.{Passing, pass_begin, pass_in, pass_straddle, pass_on, pass_end, pass_early}
-use Rattle.records.specs.Straddle.{kind_if}
+use Rattle.records.specs.RunLaws.{pass_begin, pass_in, pass_straddle, pass_on, pass_end, pass_early}
 use mathlib.Core.Path.{sym, ◌∙◌}
-use Prim.Native.Nat.{◌-◌, ◌≤◌, ◌<◌}
-use borrow.Author.Rules.{rules}
 use native.Mathlib.Omega.{arith}
-use lib.ListN.{length}
 use Rattle.records.proofs.sorted.runs_whole.Goals as goal
 
 pub loop-i-init : goal.loop-i-init

@@ -1,7 +1,6 @@
 -- The two ways of the definition.
 use Rattle.records.specs.RunLaws.{start_in, start_before}
 use native.Mathlib.Omega.{arith}
-use borrow.Author.Rules.{rules}
 use Rattle.records.proofs.sorted.start_of.Goals as goal
 
 pub returns-then-bytes-size : goal.returns-then-bytes-size

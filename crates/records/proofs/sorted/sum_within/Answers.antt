@@ -1,11 +1,6 @@
--- The sum is tested before it is made.
-use Rattle.records.specs.CountLaws.{within-over, within_in}
-use native.Mathlib.Omega.{arith}
-use borrow.Author.Rules.{rules}
+-- The sum is tested as it is made.
+use Rattle.records.specs.CountLaws.{sum_tested}
 use Rattle.records.proofs.sorted.sum_within.Goals as goal
 
-pub returns-then-a-b : goal.returns-then-a-b
-returns-then-a-b c = within-over _ _ (omega arith)
-
 pub returns : goal.returns
-returns c = within_in _ _ (omega arith)
+returns c = sum_tested _ _ c.checked_add.result c.checked_add.ensures c.ok_or.ensures.value

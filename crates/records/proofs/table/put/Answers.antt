@@ -1,7 +1,6 @@
 -- A word past the end is none; else the store is the contract.
 use Rattle.records.specs.SeveralLaws.{up_none}
-use borrow.Author.Rules.{rules}
 use Rattle.records.proofs.table.put.Goals as goal
 
-pub returns-then-words-i : goal.returns-then-words-i
-returns-then-words-i c = up_none _ _ _ c.if-words-i.true
+pub returns-else-i-words : goal.returns-else-i-words
+returns-else-i-words c = up_none _ _ _ c.if-i-words.false

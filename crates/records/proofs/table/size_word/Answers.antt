@@ -1,6 +1,5 @@
 -- By the kind of the group.
 use Rattle.records.specs.TableLaws.{word-stored, word-plain}
-use borrow.Author.Rules.{rules}
 use Rattle.records.proofs.table.size_word.Goals as goal
 
 pub returns-then-is_storage : goal.returns-then-is_storage

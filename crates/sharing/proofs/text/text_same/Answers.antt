@@ -1,6 +1,5 @@
 -- Two texts are compared by kind, by length, then byte by byte.
 use Rattle.sharing.specs.TextLaws.{texts_apart, texts_none, texts_by, bodies_apart, bodies-none, bodies-by}
-use borrow.Author.Rules.{rules}
 use native.Mathlib.Omega.{arith}
 use Rattle.sharing.proofs.text.text_same.Goals as goal
 

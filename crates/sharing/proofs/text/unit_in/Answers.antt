@@ -1,6 +1,5 @@
 -- The seventh link leads to the unit.
 use Rattle.result.specs.Sharing.{unit_of}
-use borrow.Author.Rules.{rules}
 use Rattle.sharing.proofs.text.unit_in.Goals as goal
 
 pub returns : goal.returns

@@ -1,6 +1,5 @@
 -- The seventh links lead to the units.
 use Rattle.result.specs.Sharing.{unit_of}
-use borrow.Author.Rules.{rules}
 use Rattle.sharing.proofs.text.unit_same.Goals as goal
 
 pub returns : goal.returns

@@ -1,7 +1,6 @@
 -- A dash, then blanks.
 use native.Mathlib.Omega.{arith}
 use Rattle.sheets.specs.FieldLaws.{dash_put}
-use borrow.Author.Rules.{rules}
 use Rattle.sheets.proofs.field.put_dash.Goals as goal
 
 pub returns : goal.returns

@@ -1,7 +1,6 @@
 -- By the channel type.
 use mathlib.Core.Path.{sym, ◌∙◌}
 use Rattle.sheets.specs.LineLaws.{kind_time, kind_signal}
-use borrow.Author.Rules.{rules}
 use Rattle.sheets.proofs.line.kind_of.Goals as goal
 
 pub returns-then-is_master_type : goal.returns-then-is_master_type

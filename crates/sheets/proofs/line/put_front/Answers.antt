@@ -1,6 +1,5 @@
 -- Number, blank, kind, blank.
 use Rattle.sheets.specs.LineLaws.{front_put}
-use borrow.Author.Rules.{rules}
 use Rattle.sheets.proofs.line.put_front.Goals as goal
 
 pub returns : goal.returns

@@ -2,7 +2,6 @@
 use mathlib.Core.Path.{refl}
 use native.Mathlib.Omega.{arith}
 use Rattle.sheets.specs.LineLaws.{line_put}
-use borrow.Author.Rules.{rules}
 use Rattle.sheets.proofs.line.put_line.Goals as goal
 
 pub overflow_add-at-6 : goal.overflow_add-at-6

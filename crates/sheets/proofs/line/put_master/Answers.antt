@@ -1,11 +1,10 @@
 -- A dash without a column, else the number.
+use Rattle.std.proofs.Common.{arith}
 use Rattle.sheets.specs.LineLaws.{master_nothing, master_column}
-use native.Mathlib.Omega.{arith}
-use borrow.Author.Rules.{rules}
 use Rattle.sheets.proofs.line.put_master.Goals as goal
 
-pub returns-in-Nothing : goal.returns-in-Nothing
-returns-in-Nothing c = master_nothing _ _ _ (c.master_of-found.ensures (omega arith)) c.in-Nothing.is c.put_dash.ensures
+pub returns-in-None : goal.returns-in-None
+returns-in-None c = master_nothing _ _ _ (c.master_of.ensures (omega arith)) c.in-None.is c.put_dash.ensures
 
-pub returns-in-Column : goal.returns-in-Column
-returns-in-Column c = master_column _ _ _ (c.master_of-found.ensures (omega arith)) c.in-Column.is c.put_right.ensures
+pub returns-in-Some : goal.returns-in-Some
+returns-in-Some c = master_column _ _ _ (c.master_of.ensures (omega arith)) c.in-Some.is c.put_right.ensures

@@ -1,6 +1,5 @@
 -- Data bytes, blank, records.
 use Rattle.sheets.specs.LineLaws.{sizes_put}
-use borrow.Author.Rules.{rules}
 use Rattle.sheets.proofs.line.put_sizes.Goals as goal
 
 pub returns : goal.returns

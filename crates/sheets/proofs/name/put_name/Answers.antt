@@ -13,12 +13,12 @@ pub returns-then-n-eq0 : goal.returns-then-n-eq0
 returns-then-n-eq0 c = name_empty _ _ c.link_at-a.ensures
     c.text_kind.ensures
     c.if-text_kind-eq0.false c.text_bytes.ensures
-    c.least-n.ensures c.if-n-eq0.true c.fill.ensures
+    c.min-n.ensures c.if-n-eq0.true c.fill.ensures
 
 pub overflow_add-a : goal.overflow_add-a
 overflow_add-a c = let h = name_inside _ _ c.link_at-a.ensures
     c.text_kind.ensures c.if-text_kind-eq0.false
-    c.text_bytes.ensures c.least-n.ensures c.if-n-eq0.false in omega arith
+    c.text_bytes.ensures c.min-n.ensures c.if-n-eq0.false in omega arith
 
 pub put_shown-requires : goal.put_shown-requires
 put_shown-requires c = (
@@ -26,11 +26,11 @@ put_shown-requires c = (
   search rules,
   name_inside _ _ c.link_at-a.ensures
       c.text_kind.ensures c.if-text_kind-eq0.false
-      c.text_bytes.ensures c.least-n.ensures c.if-n-eq0.false,
+      c.text_bytes.ensures c.min-n.ensures c.if-n-eq0.false,
 )
 
 pub returns : goal.returns
 returns c = name_put _ _ c.link_at-a.ensures
     c.text_kind.ensures
     c.if-text_kind-eq0.false c.text_bytes.ensures
-    c.least-n.ensures c.put_shown.ensures
+    c.min-n.ensures c.put_shown.ensures

@@ -1,6 +1,5 @@
 -- One, or the quotient.
 use Rattle.sheets.specs.PageLaws.{count_none, count_some}
-use borrow.Author.Rules.{rules}
 use Rattle.sheets.proofs.page.page_count.Goals as goal
 
 pub returns-then-n-eq0 : goal.returns-then-n-eq0

@@ -1,10 +1,7 @@
 -- The answer's numbers beside the buffer.
-use Rattle.sitaungo.specs.ColumnFileLaws.{read_as}
-use borrow.Author.Rules.{rules}
+use Rattle.std.proofs.Common.{ap}
+use Rattle.sitaungo.specs.ColumnFile.{exported_read}
 use Rattle.sitaungo.proofs.column_file.sitaungo_read_range.Goals as goal
 
-pub returns-in-Refused : goal.returns-in-Refused
-returns-in-Refused c = read_as _ _ _ c.read_range-answer.ensures c.in-Refused.is
-
-pub returns-in-Fine : goal.returns-in-Fine
-returns-in-Fine c = read_as _ _ _ c.read_range-answer.ensures c.in-Fine.is
+pub returns : goal.returns
+returns c = rw c.into.ensures (ap exported_read c.read_range.ensures)

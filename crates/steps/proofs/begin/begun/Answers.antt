@@ -1,6 +1,4 @@
-use native.Mathlib.Omega.{arith}
-use borrow.Author.Rules.{rules}
 use Rattle.steps.proofs.begin.begun.Goals as goal
 
 pub returns : goal.returns
-returns c = rw c.steps_of-steps.ensures
+returns c = rw c.steps_of.ensures

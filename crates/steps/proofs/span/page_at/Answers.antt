@@ -1,13 +1,13 @@
-use Rattle.steps.specs.SpanLaws.{page-none}
-use native.Mathlib.Omega.{arith}
-use borrow.Author.Rules.{rules}
+use Rattle.std.proofs.Common.{arith}
+use Rattle.steps.specs.SpanLaws.{page-there, pages_by, page-none}
 use Rattle.steps.proofs.span.page_at.Goals as goal
 
-pub page-requires : goal.page-requires
-page-requires c = c.is_page.ensures.yes c.if-is_page.true
+pub returns-in-Some : goal.returns-in-Some
+returns-in-Some c =
+    page-there _ _ c.in-Some.ensures.1 c.if-from-size.true c.max.ensures (omega (arith, c.min.ensures, c.saturating_add.ensures, c.ranges.size))
 
-pub returns-then-is_page : goal.returns-then-is_page
-returns-then-is_page c = c.page.ensures
+pub returns-in_default : goal.returns-in_default
+returns-in_default c = page-none _ _ (pages_by _ _ (omega (arith, c.in-Some.ensures.1)))
 
-pub returns : goal.returns
-returns c = page-none _ _ (c.is_page.ensures.no c.if-is_page.false)
+pub returns-in_default-2 : goal.returns-in_default-2
+returns-in_default-2 c = page-none _ _ (pages_by _ _ (omega (arith, c.in_default.ensures, c.ranges.size)))

@@ -1,6 +1,4 @@
 use Rattle.steps.specs.StepsLaws.{all-cleared}
-use native.Mathlib.Omega.{arith}
-use borrow.Author.Rules.{rules}
 use Rattle.steps.proofs.step.close.Goals as goal
 
 pub returns : goal.returns

@@ -1,7 +1,6 @@
 use mathlib.Core.Path.{refl}
 use Rattle.steps.specs.StepsLaws.{step_further, step_before, step_last, holds-moved, list-fits, further_bounded, before_bounded, last_bounded, before_steps, last_step}
 use native.Mathlib.Omega.{arith}
-use borrow.Author.Rules.{rules}
 use Rattle.steps.proofs.step.step.Goals as goal
 
 pub returns-then-k : goal.returns-then-k

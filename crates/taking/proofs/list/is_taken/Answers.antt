@@ -1,11 +1,14 @@
 -- By the mark of the master.
 use Rattle.taking.specs.MarksLaws.{taken_none, taken-some}
+use Rattle.taking.specs.WordsLaws.{master_below}
 use native.Mathlib.Omega.{arith}
-use borrow.Author.Rules.{rules}
 use Rattle.taking.proofs.list.is_taken.Goals as goal
 
-pub returns-in-Nothing : goal.returns-in-Nothing
-returns-in-Nothing c = λ ns r. taken_none _ _ _ _ (c.master_of-found.ensures (omega arith)) c.in-Nothing.is
+pub bounds-marks-number : goal.bounds-marks-number
+bounds-marks-number c = omega (arith, master_below _ _ _ _ (c.master_of.ensures (omega arith)) c.in-Some.is)
 
-pub returns-in-Column : goal.returns-in-Column
-returns-in-Column c = λ ns r. taken-some _ _ _ _ (c.master_of-found.ensures (omega arith)) c.in-Column.is (c.is_out.ensures _ r)
+pub returns-in-None : goal.returns-in-None
+returns-in-None c = λ ns r. taken_none _ _ _ c.group.ensures (c.master_of.ensures (omega arith)) c.in-None.is
+
+pub returns-in-Some : goal.returns-in-Some
+returns-in-Some c = λ ns r. taken-some _ _ _ c.group.ensures (c.master_of.ensures (omega arith)) c.in-Some.is (r.is _)

@@ -1,18 +1,11 @@
 -- What is left of the columns gives what all give.
 use Prim.Native.Nat.{◌-◌, ◌≤◌}
-use mathlib.Core.Path.{◌≡◌, ◌∙◌}
-use native.Mathlib.Omega.{arith}
-use Rattle.ranges.specs.Open.{columns_of}
+use mathlib.Core.Path.{◌≡◌}
+use Rattle.taking.specs.Opened.{columns_in}
 use Rattle.taking.specs.Each.{each}
-use Rattle.taking.specs.EachLaws.{each_begin, each_refused, each_next, each_end}
 use Rattle.taking.specs.Sound.{sound_at}
-use Rattle.taking.specs.SoundLaws.{sound-each}
-use borrow.Author.Rules.{rules}
 use Rattle.taking.proofs.sound.columns_sound.Given as goal
 
 abbrev pub invariant-loop-k : goal.invariant-loop-k
 invariant-loop-k l =
-    (l.k ≤ l.n) × (each (sound_at l.image l.source (columns_of l.image l.source l.n 0)) (l.n - l.k) l.k ≡ each (sound_at l.image l.source (columns_of l.image l.source l.n 0)) l.n 0)
-
-abbrev pub decreases-loop-k : goal.decreases-loop-k
-decreases-loop-k l = l.n - l.k
+    (l.k ≤ l.file.count) × (each (sound_at l.file.image.now l.file.source.now (columns_in l.file)) (l.file.count - l.k) l.k ≡ each (sound_at l.file.image.now l.file.source.now (columns_in l.file)) l.file.count 0)

@@ -1,6 +1,5 @@
 -- Where there is signal data, its block is asked.
 use Rattle.taking.specs.SoundLaws.{sound_none, sound-led}
-use borrow.Author.Rules.{rules}
 use Rattle.taking.proofs.sound.signal_sound.Goals as goal
 
 pub returns-then-a-eq0 : goal.returns-then-a-eq0

@@ -1,8 +1,6 @@
 -- What is left of the blocks, put, gives what all give.
-use Prim.Native.Nat.{◌-◌}
 use native.Mathlib.Omega.{arith}
-use Rattle.thin_blocks.specs.AnewLaws.{Moving, moving_begin, moving_end, moving_turn, moving_lost}
-use borrow.Author.Rules.{rules}
+use Rattle.thin_blocks.specs.AnewLaws.{moving_begin, moving_end, moving_turn, moving_lost}
 use Rattle.thin_blocks.proofs.anew.put_moved.Goals as goal
 
 pub loop-i-init : goal.loop-i-init

@@ -1,7 +1,6 @@
 -- Header and links, the master where it is remote, the data.
 use Rattle.thin.specs.Fill.{kept_data}
 use Rattle.thin_blocks.specs.BlocksLaws.{cg-remote, cg-own}
-use borrow.Author.Rules.{rules}
 use Rattle.thin_blocks.proofs.kept.put_kept_cg.Goals as goal
 
 pub returns-then-remote : goal.returns-then-remote

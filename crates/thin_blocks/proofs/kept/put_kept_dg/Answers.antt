@@ -5,7 +5,6 @@ use Rattle.base.specs.BlitLaws.{blit-append}
 use Rattle.puts.specs.PutLaws.{length-header}
 use Rattle.thin.specs.Fill.{kept_data}
 use Rattle.thin_blocks.specs.Blocks.{dg_kept}
-use borrow.Author.Rules.{rules}
 use Rattle.thin_blocks.proofs.kept.put_kept_dg.Goals as goal
 
 pub returns : goal.returns

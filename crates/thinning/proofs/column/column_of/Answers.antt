@@ -1,6 +1,6 @@
 -- Each number by its words; the DG is near.
 use native.Mathlib.Omega.{arith}
-use Rattle.thinning.specs.ColumnLaws.{cn_near, column-made}
+use Rattle.thinning.specs.ColumnLaws.{set-is, cn_near, column-made}
 use borrow.Author.Rules.{rules}
 use Rattle.thinning.proofs.column.column_of.Goals as goal
 
@@ -11,22 +11,22 @@ overflow_add-cn c = let b = c.requires.0.below _
 pub overflow_add-cn-2 : goal.overflow_add-cn-2
 overflow_add-cn-2 c = let b = c.requires.0.below _
     c.requires.1 in let e = cn_near 0 _
-    c.by_word.ensures in omega arith
+    c.cg_bytes.ensures in omega arith
 
 pub returns : goal.returns
 returns c = (
-  column-made _ _ _ _ _ c.is_set-remote.ensures
+  column-made _ _ _ _ _ (set-is _)
       c.master_place-master.ensures
-      c.by_word.ensures
+      c.cg_bytes.ensures
       c.by_word-sd.ensures
-      c.link_at-dl.ensures
+      c.link_at.ensures
       c.blocks_of-blocks.ensures c.photos_of-photos.ensures.0
-      c.data_u64-payload.ensures,
+      c.data_field-payload.ensures,
   record {
     dg = c.requires.0.below _
         c.requires.1;
     cn = cn_near _ _
-        c.by_word.ensures;
+        c.cg_bytes.ensures;
     photos = c.photos_of-photos.ensures.1;
   },
 )

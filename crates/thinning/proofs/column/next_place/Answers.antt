@@ -3,8 +3,8 @@ use Rattle.thinning.specs.ColumnLaws.{next_no, next_yes}
 use borrow.Author.Rules.{rules}
 use Rattle.thinning.proofs.column.next_place.Goals as goal
 
-pub returns-then-n-k : goal.returns-then-n-k
-returns-then-n-k c = next_no _ _ _ c.if-n-k.true
+pub returns-then-file-k : goal.returns-then-file-k
+returns-then-file-k c = next_no _ _ _ c.if-file-k.true
 
-pub returns : goal.returns
-returns c = next_yes _ _ _ c.if-n-k.false
+pub returns-else-file-k : goal.returns-else-file-k
+returns-else-file-k c = next_yes _ _ _ c.if-file-k.false

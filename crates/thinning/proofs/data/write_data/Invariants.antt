@@ -6,7 +6,4 @@ use borrow.Author.Rules.{rules}
 use Rattle.thinning.proofs.data.write_data.Given as goal
 
 abbrev pub invariant-loop-k : goal.invariant-loop-k
-invariant-loop-k l = Writing l.image l.columns l.memo l.n l.at l.initial.out l.k l.p l.out
-
-abbrev pub decreases-loop-k : goal.decreases-loop-k
-decreases-loop-k l = l.n - l.k
+invariant-loop-k l = Writing l.file.image.now l.file.columns.now l.file.memo.now l.file.numbers.columns l.at l.initial.out l.k l.p l.out

@@ -8,5 +8,5 @@ use Rattle.thinning.proofs.front.first_history.Goals as goal
 pub returns-then-chain-eq0 : goal.returns-then-chain-eq0
 returns-then-chain-eq0 c = eq_yes _ _ _ _ c.if-chain-eq0.true refl
 
-pub returns : goal.returns
-returns c = history-some _ _ _ c.if-chain-eq0.false c.new_link.ensures
+pub returns-else-chain-eq0 : goal.returns-else-chain-eq0
+returns-else-chain-eq0 c = history-some _ _ _ c.if-chain-eq0.false c.new_link.ensures

@@ -9,5 +9,5 @@ unfolding kept_data
 returns c = filled-cn _ _ _ _ _ _ _ _
     c.fill_front.ensures
     (c.put_photos.ensures
-    c.requires.0.photos c.requires.2 c.requires.3)
+    c.requires.photos c.args.led.now.few c.args.led.now.long)
     c.put_cut_data.ensures

@@ -6,7 +6,7 @@ use borrow.Author.Rules.{rules}
 use Rattle.thinning.proofs.structure.fill_front.Goals as goal
 
 pub overflow_add-links : goal.overflow_add-links
-overflow_add-links c = let b = c.requires.0.photos in omega arith
+overflow_add-links c = let b = c.requires.photos in omega arith
 
 pub returns : goal.returns
 returns c = filled-front _ _ _ _ _ c.put_cn.ensures refl refl

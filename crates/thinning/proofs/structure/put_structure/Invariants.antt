@@ -13,9 +13,6 @@ use borrow.Author.Rules.{rules}
 use Rattle.thinning.proofs.structure.put_structure.Given as goal
 
 abbrev pub invariant-loop-k : goal.invariant-loop-k
-invariant-loop-k l = (l.k ≤ l.n) × (length l.out ≡ length l.initial.out) ×
-    (laid (structure_from l.image (copies_in l.memo l.used) (attachments_in l.memo l.metadata l.attached) l.columns l.memo l.n l.k (l.n - l.k)) l.out ≡ laid
-    (structure_from l.image (copies_in l.memo l.used) (attachments_in l.memo l.metadata l.attached) l.columns l.memo l.n 0 l.n) l.initial.out)
-
-abbrev pub decreases-loop-k : goal.decreases-loop-k
-decreases-loop-k l = l.n - l.k
+invariant-loop-k l = (l.k ≤ l.file.numbers.columns) × (length l.out ≡ length l.initial.out) ×
+    (laid (structure_from l.file.image.now (copies_in l.file.memo.now l.file.numbers.copies) (attachments_in l.file.memo.now l.file.numbers.metadata l.file.numbers.attachments) l.file.columns.now l.file.memo.now l.file.numbers.columns l.k (l.file.numbers.columns - l.k)) l.out ≡ laid
+    (structure_from l.file.image.now (copies_in l.file.memo.now l.file.numbers.copies) (attachments_in l.file.memo.now l.file.numbers.metadata l.file.numbers.attachments) l.file.columns.now l.file.memo.now l.file.numbers.columns 0 l.file.numbers.columns) l.initial.out)

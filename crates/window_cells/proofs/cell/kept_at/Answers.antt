@@ -4,7 +4,6 @@ use Rattle.mdf.specs.Records.{most64}
 use Rattle.joined.specs.SpotLaws.{spot_front}
 use Rattle.window_cells.specs.CellLaws.{record_left, kept_is}
 use native.Mathlib.Omega.{arith}
-use borrow.Author.Rules.{rules}
 use Rattle.window_cells.proofs.cell.kept_at.Goals as goal
 
 pub returns : goal.returns

@@ -1,7 +1,6 @@
 use Prim.Native.Nat.{◌-◌}
 use Rattle.window_cells.specs.StretchLaws.{more}
 use native.Mathlib.Omega.{arith}
-use borrow.Author.Rules.{rules}
 use Rattle.window_cells.proofs.stretch.further.Goals as goal
 
 pub overflow_mul-result : goal.overflow_mul-result

@@ -1,6 +1,5 @@
 use Rattle.window_cells.specs.StretchLaws.{lain_further, cut-single, cut-first}
 use native.Mathlib.Omega.{arith}
-use borrow.Author.Rules.{rules}
 use Rattle.window_cells.proofs.stretch.lay_cut.Goals as goal
 
 pub returns-then-r-eq1 : goal.returns-then-r-eq1

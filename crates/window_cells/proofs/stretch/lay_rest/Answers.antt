@@ -3,7 +3,6 @@ use native.Mathlib.Nat.{le_refl}
 use Rattle.joined.specs.SpotLaws.{spot_front}
 use Rattle.window_cells.specs.StretchLaws.{rest-past, rest_whole, rest-none, rest-room, rest_end}
 use native.Mathlib.Omega.{arith}
-use borrow.Author.Rules.{rules}
 use Rattle.window_cells.proofs.stretch.lay_rest.Goals as goal
 
 pub returns-then-room-to : goal.returns-then-room-to

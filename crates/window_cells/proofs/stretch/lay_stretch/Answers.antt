@@ -1,9 +1,7 @@
 use mathlib.Core.Path.{sym, ◌∙◌}
 use mathlib.Core.Bool.{false≢true}
-use Rattle.places.specs.FacingLaws.{not-false, not-true}
 use Rattle.window_cells.specs.StretchLaws.{lain_of, lain_further, passed-all, passed-front, passed_most}
 use native.Mathlib.Omega.{arith}
-use borrow.Author.Rules.{rules}
 use Rattle.window_cells.proofs.stretch.lay_stretch.Goals as goal
 
 pub returns-then-not-is_laid : goal.returns-then-not-is_laid

@@ -1,7 +1,6 @@
 -- Its own copies, then the AT.
 use Rattle.stores.specs.Over.{over}
 use mathlib.Core.Path.{ap, ◌∙◌}
-use borrow.Author.Rules.{rules}
 use Rattle.window_copies.proofs.attached.lay_attachment.Goals as goal
 
 pub returns : goal.returns

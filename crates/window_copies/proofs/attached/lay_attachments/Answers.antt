@@ -1,24 +1,12 @@
 -- Each turn lays an attachment; those that are left give what all give.
 use Rattle.window_copies.specs.LayingAtLaws.{at_begin, at_turn, at_end, next_end}
-use Rattle.window_copies.specs.LayingAt.{LayingAt}
-use Rattle.work_words.specs.CopyWords.{history_at}
-use Rattle.base.specs.Blit.{part}
-use Prim.Native.Nat.{ℕ, ◌-◌, ◌≤◌}
-use lib.ListN.{length}
-use mathlib.Core.List.{List}
-use mathlib.Core.Path.{◌≡◌, refl}
+use mathlib.Core.Path.{refl}
 use borrow.Author.Rules.{rules}
 use native.Mathlib.Omega.{arith}
 use Rattle.window_copies.proofs.attached.lay_attachments.Goals as goal
 
 pub returns-then-first-gt2050 : goal.returns-then-first-gt2050
 returns-then-first-gt2050 c = λ h l n k v. absurd (omega arith)
-
-pub returns-then-count-gt64 : goal.returns-then-count-gt64
-returns-then-count-gt64 c = λ h l n k v. absurd (omega arith)
-
-pub returns-then-memo-lt4292 : goal.returns-then-memo-lt4292
-returns-then-memo-lt4292 c = λ h l n k v. absurd (omega arith)
 
 pub loop-i-init : goal.loop-i-init
 loop-i-init c = (omega arith, refl, λ g t. t)

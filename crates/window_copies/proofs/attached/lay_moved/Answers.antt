@@ -1,7 +1,6 @@
 -- An AT that has no byte in the window leaves it as it is.
 use Rattle.window_copies.specs.LayingAtLaws.{apart_at}
 use mathlib.Core.Path.{refl}
-use borrow.Author.Rules.{rules}
 use Rattle.window_copies.proofs.attached.lay_moved.Goals as goal
 
 pub returns-then-lies : goal.returns-then-lies

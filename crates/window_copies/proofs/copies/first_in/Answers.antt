@@ -1,8 +1,6 @@
 -- What is passed over leaves the window as it is.
-use Rattle.window_copies.specs.LayingLaws.{passed_none, passed_turn}
-use Rattle.window_copies.specs.Laying.{Passed}
-use Prim.Native.Nat.{◌-◌}
-use borrow.Author.Rules.{rules}
+use native.Mathlib.Omega.{arith}
+use Rattle.window_copies.specs.LayingLaws.{passed_none, passed_turn, passed_end}
 use Rattle.window_copies.proofs.copies.first_in.Goals as goal
 
 pub loop-i-init : goal.loop-i-init
@@ -15,4 +13,4 @@ pub loop-i-preserved : goal.loop-i-preserved
 loop-i-preserved c = passed_turn c.loop-i.invariant c.loop-i-test.true (c.lies.ensures c.if-lies.false)
 
 pub returns : goal.returns
-returns c = c.loop-i.invariant
+returns c = passed_end c.loop-i.invariant (omega arith)

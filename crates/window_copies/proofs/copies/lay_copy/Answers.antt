@@ -1,7 +1,6 @@
 -- A copy that has no byte in the window leaves it as it is.
 use Rattle.window_copies.specs.LayingLaws.{apart_copy}
 use mathlib.Core.Path.{refl}
-use borrow.Author.Rules.{rules}
 use Rattle.window_copies.proofs.copies.lay_copy.Goals as goal
 
 pub returns-then-lies : goal.returns-then-lies

@@ -1,7 +1,6 @@
 -- By kept stretches as far as they go, then by kept offsets, then by framing.
 use Rattle.window_data.specs.FilledLaws.{form_in}
 use Rattle.window_data.specs.BlocksLaws.{pool_laid, listed-laid, framed_laid}
-use borrow.Author.Rules.{rules}
 use native.Mathlib.Omega.{arith}
 use Rattle.window_data.proofs.column.lay_among.Goals as goal
 

@@ -1,6 +1,5 @@
 -- By the number of the groups.
 use Rattle.window_data.specs.BlocksLaws.{alone-laid}
-use borrow.Author.Rules.{rules}
 use Rattle.window_data.proofs.column.lay_records.Goals as goal
 
 pub lay_sorted-requires : goal.lay_sorted-requires

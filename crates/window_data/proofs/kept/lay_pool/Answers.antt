@@ -1,13 +1,9 @@
 -- Each turn lays the records of a kept stretch; past the window it ends.
-use lib.ListN.{length}
-use mathlib.Core.Path.{◌≡◌, refl}
-use Prim.Native.Nat.{◌-◌, ◌≤◌}
+use mathlib.Core.Path.{refl}
 use Rattle.data_blocks.specs.Filled.{Usable}
 use Rattle.data_blocks.specs.FilledLaws.{if_usable, usable_in}
 use Rattle.window_data.specs.RegionLaws.{block_in_lem}
-use Rattle.window_data.specs.Kept.{PoolFilledIn}
 use Rattle.window_data.specs.KeptLaws.{pool_none, pool_turn, pool_past}
-use borrow.Author.Rules.{rules}
 use native.Mathlib.Omega.{arith}
 use Rattle.std.specs.Prelude.{not}
 use Rattle.std.proofs.Common.{ap}
@@ -36,9 +32,6 @@ overflow_add-next c =
 
 pub returns-then-at-t : goal.returns-then-at-t
 returns-then-at-t c = let v = c.loop-at.invariant in (v.0, v.1, v.3)
-
-pub returns-then-next-at : goal.returns-then-next-at
-returns-then-next-at c = let v = c.loop-at.invariant in (v.0, v.1, v.3)
 
 pub lay_rest-requires : goal.lay_rest-requires
 lay_rest-requires c =

@@ -1,14 +1,8 @@
 -- Each turn lays the records of a kept stretch; past the window it ends.
 use lib.ListN.{length}
-use mathlib.Core.Path.{◌≡◌, refl}
+use mathlib.Core.Path.{◌≡◌}
 use Prim.Native.Nat.{◌-◌, ◌≤◌}
-use Rattle.data_blocks.specs.Filled.{Usable}
-use Rattle.data_blocks.specs.FilledLaws.{if_usable, usable_in}
-use Rattle.window_data.specs.RegionLaws.{block_in_lem}
 use Rattle.window_data.specs.Kept.{PoolFilledIn}
-use Rattle.window_data.specs.KeptLaws.{pool_none, pool_turn, pool_past}
-use borrow.Author.Rules.{rules}
-use native.Mathlib.Omega.{arith}
 use Rattle.window_data.proofs.kept.lay_pool.Given as goal
 
 abbrev pub invariant-loop-at : goal.invariant-loop-at

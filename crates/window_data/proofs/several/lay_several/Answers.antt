@@ -1,13 +1,10 @@
 -- Each turn lays the records of the next stretch, as far as they are asked for; past the window it ends.
-use mathlib.Core.Path.{◌≡◌, refl}
-use Prim.Native.Nat.{◌+◌, ◌-◌, ◌≤◌}
-use Rattle.mdf.specs.Walk.{id_size}
-use Rattle.records.specs.Table.{Tabled}
-use Rattle.places.specs.Stretch.{Ready}
+use mathlib.Core.Path.{refl}
+use Prim.Native.Nat.{◌+◌, ◌≤◌}
 use Rattle.data_blocks.specs.Filled.{Usable}
 use Rattle.data_blocks.specs.FilledLaws.{if_usable, usable_in, tables_of_lem}
 use Rattle.window_data.specs.RegionLaws.{block_in_lem}
-use Rattle.window_data.specs.FilledLaws.{Filling, filling_begin, filling_stop, filling_turn, filling_past, filling_end}
+use Rattle.window_data.specs.FilledLaws.{filling_begin, filling_stop, filling_turn, filling_past, filling_end}
 use borrow.Author.Rules.{rules}
 use native.Mathlib.Omega.{arith}
 use Rattle.std.specs.Prelude.{not}

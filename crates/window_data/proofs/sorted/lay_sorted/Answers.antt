@@ -1,10 +1,8 @@
-use borrow.Author.Rules.{rules}
-use Prim.Native.Nat.{◌+◌, ◌-◌, ◌≤◌}
-use mathlib.Core.List.{[], ◌∷◌}
+use Prim.Native.Nat.{◌+◌, ◌≤◌}
 use mathlib.Core.Path.{refl}
 use Rattle.data_blocks.specs.Filled.{Usable}
 use Rattle.data_blocks.specs.FilledLaws.{if_usable, usable_in}
-use Rattle.window_data.specs.FilledLaws.{form_in, Filling, filling_begin, filling_stop, filling_turn, filling_end, filled-all}
+use Rattle.window_data.specs.FilledLaws.{form_in, filling_begin, filling_stop, filling_turn, filling_end, filled-all}
 use native.Mathlib.Omega.{arith}
 use Rattle.std.specs.Prelude.{not}
 use Rattle.std.proofs.Common.{ap}

@@ -1,11 +1,6 @@
-use borrow.Author.Rules.{rules}
-use Prim.Native.Nat.{◌+◌, ◌-◌, ◌≤◌}
+use Prim.Native.Nat.{◌-◌}
 use mathlib.Core.List.{[], ◌∷◌}
-use mathlib.Core.Path.{refl}
-use Rattle.data_blocks.specs.Filled.{Usable}
-use Rattle.data_blocks.specs.FilledLaws.{if_usable, usable_in}
-use Rattle.window_data.specs.FilledLaws.{form_in, Filling, filling_begin, filling_stop, filling_turn, filling_end, filled-all}
-use native.Mathlib.Omega.{arith}
+use Rattle.window_data.specs.FilledLaws.{Filling}
 use Rattle.window_data.proofs.sorted.lay_sorted.Given as goal
 
 abbrev pub invariant-loop-at : goal.invariant-loop-at

@@ -1,6 +1,5 @@
 -- One block after the other.
 use Rattle.window_structure.specs.ColumnLaws.{laid-column}
-use borrow.Author.Rules.{rules}
 use Rattle.window_structure.proofs.column.lay_column.Goals as goal
 
 pub returns : goal.returns

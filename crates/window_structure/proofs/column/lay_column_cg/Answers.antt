@@ -4,7 +4,6 @@ use Rattle.stores.specs.Over.{over}
 use Rattle.window_blocks.specs.ApartLaws.{apart_same}
 use Rattle.writing.specs.StructureLaws.{filled-cg}
 use Rattle.window_structure.specs.ColumnLaws.{cg_most}
-use borrow.Author.Rules.{rules}
 use Rattle.window_structure.proofs.column.lay_column_cg.Goals as goal
 
 pub returns-then-apart : goal.returns-then-apart

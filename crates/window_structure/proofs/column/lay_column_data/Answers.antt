@@ -2,7 +2,6 @@
 use mathlib.Core.Path.{refl}
 use Rattle.window_blocks.specs.ApartLaws.{apart_same}
 use Rattle.window_structure.specs.ColumnLaws.{data_few, laid_data}
-use borrow.Author.Rules.{rules}
 use Rattle.window_structure.proofs.column.lay_column_data.Goals as goal
 
 pub returns-then-apart : goal.returns-then-apart

@@ -3,7 +3,6 @@ use Rattle.stores.specs.Over.{over}
 use Rattle.window_blocks.specs.ApartLaws.{apart_same}
 use Rattle.writing.specs.StructureLaws.{length-column_dg, filled-dg}
 use native.Mathlib.Omega.{arith}
-use borrow.Author.Rules.{rules}
 use Rattle.window_structure.proofs.column.lay_column_dg.Goals as goal
 
 pub returns-then-apart : goal.returns-then-apart

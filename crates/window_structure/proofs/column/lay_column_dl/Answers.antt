@@ -1,7 +1,6 @@
 -- Without blocks there is none.
 use Rattle.window_structure.specs.ColumnLaws.{laid_no_dl, laid-dl}
 use native.Mathlib.Omega.{arith}
-use borrow.Author.Rules.{rules}
 use Rattle.window_structure.proofs.column.lay_column_dl.Goals as goal
 
 pub returns-then-n-eq0 : goal.returns-then-n-eq0

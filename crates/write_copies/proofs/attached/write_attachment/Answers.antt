@@ -2,7 +2,6 @@
 use Rattle.write_copies.specs.AttachmentsLaws.{own_end, wrote_attachment}
 use Rattle.copies_laws.specs.Laid.{laid-to}
 use native.Mathlib.Omega.{arith}
-use borrow.Author.Rules.{rules}
 use Rattle.write_copies.proofs.attached.write_attachment.Goals as goal
 
 pub returns : goal.returns

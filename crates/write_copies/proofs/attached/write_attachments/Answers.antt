@@ -1,26 +1,12 @@
 -- Each turn writes an attachment; those that are left end what all are.
-use Rattle.write_copies.specs.AttachmentsLaws.{AttachmentsLeft, attachments_begin, next_end, next_placing, attachments_turn, attachments_end_lem}
-use Rattle.window_copies.specs.Attachments.{attachments_in}
-use Rattle.copies_laws.specs.AttachLaws.{LaidAt, own_copies}
-use Rattle.result.specs.Fill.{attachment_blocks}
-use Rattle.copier.specs.Standing.{copies_in}
-use Rattle.work_words.specs.CopyWords.{history_at}
-use Rattle.base.specs.Blit.{part}
-use Prim.Native.Nat.{◌+◌, ◌-◌, ◌≤◌}
-use mathlib.Core.Path.{◌≡◌, refl}
-use lib.ListN.{length}
+use Rattle.write_copies.specs.AttachmentsLaws.{attachments_begin, next_end, next_placing, attachments_turn, attachments_end_lem}
+use mathlib.Core.Path.{refl}
 use borrow.Author.Rules.{rules}
 use native.Mathlib.Omega.{arith}
 use Rattle.write_copies.proofs.attached.write_attachments.Goals as goal
 
 pub returns-then-first-gt2050 : goal.returns-then-first-gt2050
 returns-then-first-gt2050 c = λ h u f k l. absurd (omega arith)
-
-pub returns-then-count-gt64 : goal.returns-then-count-gt64
-returns-then-count-gt64 c = λ h u f k l. absurd (omega arith)
-
-pub returns-then-memo-lt8192 : goal.returns-then-memo-lt8192
-returns-then-memo-lt8192 c = λ h u f k l. absurd (omega arith)
 
 pub loop-i-init : goal.loop-i-init
 loop-i-init c = (omega arith, refl, λ h u l. attachments_begin _ _ _ _ _ _ _ _ _ h l)

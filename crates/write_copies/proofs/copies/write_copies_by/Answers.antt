@@ -1,15 +1,6 @@
 -- Each turn writes a copy; the copies that are left end what all are.
-use Rattle.write_copies.specs.CopiesLaws.{CopiesLeft, copies_begin, next-copy, copies_turn, copies_end}
-use Rattle.copies_laws.specs.Laid.{Laid}
-use Rattle.result.specs.Fill.{copied_blocks}
-use Rattle.copier.specs.Standing.{copies_in}
-use Rattle.copier.specs.Index.{Indexes}
-use Rattle.copying.specs.ChainIndex.{ChainIndexes}
-use Rattle.work_words.specs.CopyWords.{history_at}
-use Rattle.base.specs.Blit.{part}
-use Prim.Native.Nat.{◌-◌, ◌≤◌}
-use mathlib.Core.Path.{◌≡◌, refl}
-use lib.ListN.{length}
+use Rattle.write_copies.specs.CopiesLaws.{copies_begin, next-copy, copies_turn, copies_end}
+use mathlib.Core.Path.{refl}
 use borrow.Author.Rules.{rules}
 use native.Mathlib.Omega.{arith}
 use Rattle.write_copies.proofs.copies.write_copies_by.Goals as goal

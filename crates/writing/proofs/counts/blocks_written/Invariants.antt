@@ -6,6 +6,3 @@ use Rattle.writing.proofs.counts.blocks_written.Given as goal
 
 abbrev pub invariant-loop-k : goal.invariant-loop-k
 invariant-loop-k l = Summing (blocks_at l.image l.size l.columns) 4294967296 l.n l.k l.sum
-
-abbrev pub decreases-loop-k : goal.decreases-loop-k
-decreases-loop-k l = l.n - l.k

@@ -6,6 +6,3 @@ use Rattle.writing.proofs.counts.source_groups.Given as goal
 
 abbrev pub invariant-loop-i : goal.invariant-loop-i
 invariant-loop-i l = Summing (group_at l.image l.source) 1 l.n l.i l.sum
-
-abbrev pub decreases-loop-i : goal.decreases-loop-i
-decreases-loop-i l = l.n - l.i

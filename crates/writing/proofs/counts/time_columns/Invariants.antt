@@ -6,6 +6,3 @@ use Rattle.writing.proofs.counts.time_columns.Given as goal
 
 abbrev pub invariant-loop-k : goal.invariant-loop-k
 invariant-loop-k l = Summing (time_at l.columns) 1 l.n l.k l.sum
-
-abbrev pub decreases-loop-k : goal.decreases-loop-k
-decreases-loop-k l = l.n - l.k

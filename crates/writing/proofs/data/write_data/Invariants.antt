@@ -7,8 +7,5 @@ use Rattle.writing.proofs.data.write_data.Given as goal
 
 abbrev pub invariant-loop-k : goal.invariant-loop-k
 invariant-loop-k l =
-    Writing l.image l.size l.source l.n l.fragments l.nf l.columns l.memo l.number l.at l.initial.out l.k l.p l.out × Kept l.image l.source l.n l.fragments l.nf l.pool l.words
-    × (length l.pool ≡ 4096) × (length l.words ≡ length l.initial.words) × Knows l.source l.n l.nf l.known
-
-abbrev pub decreases-loop-k : goal.decreases-loop-k
-decreases-loop-k l = l.number - l.k
+    Writing l.r.image.now l.r.size l.r.source.now l.r.n l.r.fragments.now l.r.nf l.columns l.memo l.number l.at l.initial.out l.k l.p l.out × Kept l.r.image.now l.r.source.now l.r.n l.r.fragments.now l.r.nf l.pool l.words
+    × (length l.pool ≡ 4096) × (length l.words ≡ length l.initial.words) × Knows l.r.source.now l.r.n l.r.nf l.known

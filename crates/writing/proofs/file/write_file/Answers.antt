@@ -3,14 +3,12 @@ use Rattle.writing.specs.FileLaws.{few-attachments, front_is, front-room, front_
 use Rattle.std.proofs.Common.{rules}
 use Rattle.writing.proofs.file.write_file.Goals as goal
 
--- src/file.rt:70:9
 pub write_front-a-requires : goal.write_front-a-requires
 write_front-a-requires c = front-room
     c.requires.0
     c.args.out.now
     c.requires.1
 
--- src/file.rt:72:9
 pub write_history-c-requires : goal.write_history-c-requires
 write_history-c-requires c =
     let s = c.requires.0
@@ -26,7 +24,6 @@ write_history-c-requires c =
     let b2 = history_done s _ b1 c.write_copies-b.ensures in
     new_asks s _ b2
 
--- src/file.rt:74:9
 pub write_structure-e-requires : goal.write_structure-e-requires
 write_structure-e-requires c =
     let s = c.requires.0
@@ -49,10 +46,9 @@ write_structure-e-requires c =
 pub first_fragments-kept-requires : goal.first_fragments-kept-requires
 first_fragments-kept-requires c = long_fragments_lem c.requires.0
 
-pub slice_bounds-write_data-end : goal.slice_bounds-write_data-end
-slice_bounds-write_data-end c = kept-long c.requires.0 c.first_fragments-kept.ensures
+pub slice_bounds-recording-end : goal.slice_bounds-recording-end
+slice_bounds-recording-end c = kept-long c.requires.0 c.first_fragments-kept.ensures
 
--- src/file.rt:75:9
 pub write_data-f-requires : goal.write_data-f-requires
 write_data-f-requires c =
     let s = c.requires.0
@@ -75,7 +71,6 @@ write_data-f-requires c =
     let b5 = structure_done s _ b4 c.write_structure-e.ensures in
     data_asks s _ c.first_fragments-kept.ensures b5
 
--- src/file.rt:54:1
 pub shape_of-out : goal.shape_of-out
 shape_of-out c =
     let s = c.requires.0
@@ -106,7 +101,6 @@ shape_of-out c =
     let b7 = attached_done s b6 c.write_attachments-g.ensures in
     file-same s _ b7 c.gap.ensures
 
--- src/file.rt:54:1
 pub returns : goal.returns
 returns c =
     let s = c.requires.0

@@ -5,6 +5,3 @@ use Rattle.writing.proofs.omissions.put_words.Given as goal
 
 abbrev pub invariant-loop-k : goal.invariant-loop-k
 invariant-loop-k l = Putting l.initial.list l.w l.at l.i l.n l.k l.list
-
-abbrev pub decreases-loop-k : goal.decreases-loop-k
-decreases-loop-k l = l.n - l.k

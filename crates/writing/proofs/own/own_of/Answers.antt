@@ -8,5 +8,5 @@ overflow_add-past c = let h = past-few _ _ _ c.past_dg-past.ensures.0 in omega a
 
 pub returns : goal.returns
 returns c =
-    own_is _ _ _ _ c.past_dg-past.ensures.0 c.rest_of-rest.ensures.1 c.least-end.ensures c.word.ensures c.less_two.ensures c.least-begin.ensures
+    own_is _ _ _ _ c.past_dg-past.ensures.0 c.rest_of-rest.ensures.1 c.min-end.ensures c.word.ensures c.saturating_sub.ensures c.min-begin.ensures
     c.past_dg-past.ensures.1 c.rest_of-rest.ensures.0

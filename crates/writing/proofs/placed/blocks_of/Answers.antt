@@ -3,4 +3,4 @@ use Rattle.std.proofs.Common.{◌∙◌, rules}
 use Rattle.writing.proofs.placed.blocks_of.Goals as goal
 
 pub returns : goal.returns
-returns c = c.block_count.ensures ∙ rw c.width_of-w.ensures.is
+returns c = c.block_count.ensures ∙ rw c.width_of.ensures.is

@@ -1,5 +1,5 @@
 -- The master's DG, 64 bytes before its CG.
-use Rattle.writing.specs.StructureLaws.{place_no, place_past, place_yes, not_far}
+use Rattle.writing.specs.ColumnLaws.{place_no, place_past, place_yes, not_far}
 use Rattle.std.proofs.Common.{arith, rules}
 use Rattle.writing.proofs.placed.master_place.Goals as goal
 

@@ -1,5 +1,5 @@
 -- 0 where the table says so, else the type as it is.
-use Rattle.writing.specs.StructureLaws.{stored-zero, stored_same}
+use Rattle.writing.specs.ColumnLaws.{stored-zero, stored_same}
 use Rattle.std.proofs.Common.{rules}
 use Rattle.writing.proofs.placed.stored_type.Goals as goal
 

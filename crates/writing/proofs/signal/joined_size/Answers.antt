@@ -17,7 +17,7 @@ loop-i-init c = (
 pub loop-i-preserved : goal.loop-i-preserved
 loop-i-preserved c = (
   sum_turn _ _ _ _ _ c.loop-i.invariant.0 (omega arith) c.inside-here.ensures
-      c.wrapping_add_u64-sum.ensures.value,
+      refl,
   omega arith,
   c.loop-i.invariant.2,
 )

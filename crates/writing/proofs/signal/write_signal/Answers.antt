@@ -1,10 +1,10 @@
 -- The header, then the joined data.
 use Rattle.writing.specs.SignalLaws.{signal_is}
-use Rattle.std.proofs.Common.{rules}
+use Rattle.std.proofs.Common.{refl, rules}
 use Rattle.writing.proofs.signal.write_signal.Goals as goal
 
 pub returns : goal.returns
 returns c = signal_is _ _ _ _ _ _ _
-    c.joined_size.ensures
-    c.wrapping_add_u64-size.ensures.value
+    c.joined_size-size.ensures
+    refl
     c.header.ensures c.copy_all.ensures

@@ -1,5 +1,5 @@
 -- Zeros, then the CG.
-use Rattle.writing.specs.StructureLaws.{wrote_cg}
+use Rattle.writing.specs.BlockLaws.{wrote_cg}
 use Rattle.std.proofs.Common.{arith, rules}
 use Rattle.writing.proofs.structure.write_cg.Goals as goal
 

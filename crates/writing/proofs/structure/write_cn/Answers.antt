@@ -1,6 +1,6 @@
 -- Zeros, then the CN.
 use Rattle.std.proofs.Common.{arith, rules}
-use Rattle.writing.specs.StructureLaws.{wrote_cn}
+use Rattle.writing.specs.BlockLaws.{wrote_cn}
 use Rattle.writing.proofs.structure.write_cn.Goals as goal
 
 pub fill_cn-requires : goal.fill_cn-requires

@@ -15,8 +15,8 @@ write_cg-b-requires c = (
   c.requires.1,
 )
 
-pub write_cn-c-requires : goal.write_cn-c-requires
-write_cn-c-requires c = (
+pub write_cn-past-requires : goal.write_cn-past-requires
+write_cn-past-requires c = (
   omega (arith, c.requires.0.cn, past_one _ _ c.write_cg-b.ensures (length-column_cg _ _ _ c.requires.0.group)),
   omega (arith, c.requires.0.ends, c.write_dg-a.auto.out, c.write_cg-b.auto.out),
   c.requires.0.channel,
@@ -28,9 +28,9 @@ write_cn-c-requires c = (
 
 pub write_dl-requires : goal.write_dl-requires
 write_dl-requires c = (
-  omega (arith, past_one _ _ c.write_cn-c.ensures (length-column_cn _ _ _ _ c.requires.0.channel)),
-  omega (arith, c.requires.0.ends, c.write_dg-a.auto.out, c.write_cg-b.auto.out, c.write_cn-c.auto.out),
+  omega (arith, past_one _ _ c.write_cn-past.ensures (length-column_cn _ _ _ _ c.requires.0.channel)),
+  omega (arith, c.requires.0.ends, c.write_dg-a.auto.out, c.write_cg-b.auto.out, c.write_cn-past.auto.out),
 )
 
 pub returns : goal.returns
-returns c = wrote_column _ _ _ c.requires.0 c.write_dg-a.ensures c.write_cg-b.ensures c.write_cn-c.ensures c.write_dl.ensures
+returns c = wrote_column _ _ _ c.requires.0 c.write_dg-a.ensures c.write_cg-b.ensures c.write_cn-past.ensures c.write_dl.ensures

@@ -1,6 +1,6 @@
 -- Zeros, then the DG.
 use Rattle.std.proofs.Common.{arith, rules}
-use Rattle.writing.specs.StructureLaws.{wrote_dg}
+use Rattle.writing.specs.BlockLaws.{wrote_dg}
 use Rattle.writing.proofs.structure.write_dg.Goals as goal
 
 pub fill_dg-requires : goal.fill_dg-requires

@@ -1,6 +1,7 @@
 -- Zeros, then the DL.
 use Rattle.std.proofs.Common.{arith, rules}
-use Rattle.writing.specs.StructureLaws.{dl-some, wrote_dl, wrote_no_dl}
+use Rattle.writing.specs.BlockLaws.{wrote_dl, wrote_no_dl}
+use Rattle.writing.specs.StructureLaws.{dl-some}
 use Rattle.writing.proofs.structure.write_dl.Goals as goal
 
 pub returns-then-n-eq0 : goal.returns-then-n-eq0

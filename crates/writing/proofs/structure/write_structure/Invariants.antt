@@ -7,6 +7,3 @@ use Rattle.writing.proofs.structure.write_structure.Given as goal
 
 abbrev pub invariant-loop-k : goal.invariant-loop-k
 invariant-loop-k l = Structures l.photos (on_table l.table) l.image l.size l.columns l.memo (attachments_in l.memo l.metadata l.attached) l.n l.used l.at l.initial.out l.k l.to l.out
-
-abbrev pub decreases-loop-k : goal.decreases-loop-k
-decreases-loop-k l = l.n - l.k

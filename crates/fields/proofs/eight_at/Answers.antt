@@ -1,8 +1,0 @@
--- The law of halves.
-use Rattle.base.specs.FieldLaws.{split}
-use borrow.Author.Rules.{rules}
-use native.Mathlib.Omega.{arith}
-use Rattle.fields.proofs.eight_at.Goals as goal
-
-pub returns : goal.returns
-returns c = omega (arith, split 4 4 c.args.s.now c.args.p)

@@ -1,8 +1,0 @@
--- One store.
-use native.Mathlib.Omega.{arith}
-use Rattle.texts.specs.LaidLaws.{laid_byte}
-use borrow.Author.Rules.{rules}
-use Rattle.listing.proofs.text.put_byte.Goals as goal
-
-pub returns : goal.returns
-returns c = laid_byte c.put_u8.ensures (omega arith)

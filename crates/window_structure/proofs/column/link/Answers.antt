@@ -1,7 +1,0 @@
--- The link, then its copy by the index.
-use Rattle.writing.specs.StructureLaws.{link_new}
-use borrow.Author.Rules.{rules}
-use Rattle.window_structure.proofs.column.link.Goals as goal
-
-pub returns : goal.returns
-returns c = link_new _ _ _ (c.link_by.ensures c.requires) c.link_at-to.ensures
