@@ -18,13 +18,20 @@ use Rattle.copier.specs.Answer.{found_of}
 use Rattle.copier.specs.Begin.{begin_at}
 
 -- ---- from the search's answer to the definition's
-pub so_some : (o : std.Option ℕ) {v : Option ℕ} {b : Bool} → found_of o ≡ v → b ≡ is_some o → b ≡ true → (x : ℕ) × (v ≡ some x)
-so_some (Some x) e f q = (x, sym e)
-so_some None e f q = absurd (let z : ◌≡◌ {A = Bool} false true = sym f ∙ q in false≢true z)
+pub so_some : {o : std.Option ℕ} {v : Option ℕ} {x : ℕ} → found_of o ≡ v → o ≡ Some x → v ≡ some x
+so_some e q = sym e ∙ rw q
 
-pub so_none : (o : std.Option ℕ) {v : Option ℕ} {b : Bool} → found_of o ≡ v → b ≡ is_some o → b ≡ false → v ≡ none
-so_none (Some x) e f q = absurd (let z : ◌≡◌ {A = Bool} false true = sym q ∙ f in false≢true z)
-so_none None e f q = sym e
+pub so_none : {o : std.Option ℕ} {v : Option ℕ} → found_of o ≡ v → o ≡ None → v ≡ none
+so_none e q = sym e ∙ rw q
+
+-- the same from the test whether something was found
+pub tested_some : (o : std.Option ℕ) {v : Option ℕ} {b : Bool} → found_of o ≡ v → b ≡ is_some o → b ≡ true → (x : ℕ) × (v ≡ some x)
+tested_some (Some x) e f q = (x, so_some e refl)
+tested_some None e f q = absurd (let z : ◌≡◌ {A = Bool} false true = sym f ∙ q in false≢true z)
+
+pub tested_none : (o : std.Option ℕ) {v : Option ℕ} {b : Bool} → found_of o ≡ v → b ≡ is_some o → b ≡ false → v ≡ none
+tested_none (Some x) e f q = absurd (let z : ◌≡◌ {A = Bool} false true = sym q ∙ f in false≢true z)
+tested_none None e f q = so_none e refl
 
 -- the words from an index to the end
 part-all : (w : List ℕ) (i e : ℕ) → length w ≡ e → take (e - i) (drop i w) ≡ drop i w

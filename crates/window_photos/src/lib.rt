@@ -27,6 +27,19 @@ fn sought(memo: &[u64], metadata: u64, attached: u64, a: u64) -> u64
     0
 }
 
+// The same of any words, where there are as many as it takes.
+pub fn moved_to(memo: &[u64], metadata: u64, attached: u64, a: u64) -> u64
+    ensures { attached ≤ 64 → 8192 ≤ length memo.now → result ≡ moved_to a (attachments_in memo.now metadata attached) }
+{
+    if 64 < attached {
+        return 0;
+    }
+    if memo.len() < 8192 {
+        return 0;
+    }
+    sought(memo, metadata, attached, a)
+}
+
 // The references of the CN at c, which has n, from number from on, at index at of w.
 fn put_photos(
     w: &mut [u8],
