@@ -1,5 +1,5 @@
 // A block's header, links and data, and the checks that every block passes.
-ghost use Rattle.std.specs.Prelude.{◌≡◌, ◌+◌, ◌≤◌};
+ghost use Rattle.std.specs.Prelude.{◌≡◌, ◌+◌, min};
 ghost use Rattle.base.specs.Field.{Field};
 ghost use Rattle.fields.specs.Answer.{verdict_of};
 ghost use Rattle.blocks.specs.Data.{Begins};
@@ -102,10 +102,9 @@ pub fn data_at(image: &[u8], a: u64) -> u64
     at
 }
 
-// The number of the N bytes at byte i of the data of the block at a.
+// The number of the N bytes, of eight of them at most, at byte i of the data of the block at a.
 pub fn data_field<const N: usize>(image: &[u8], a: u64, i: u64) -> u64
-    requires { N ≤ 8 }
-    ensures { Field N image.now (data_at image.now a + i) result }
+    ensures { Field (min N 8) image.now (data_at image.now a + i) result }
 {
     let n = image.len() as u64;
     if n < i {

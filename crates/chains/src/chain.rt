@@ -1,5 +1,6 @@
 // The walk of a data chain, and its fragments kept in lent words.
 ghost use Rattle.std.specs.Prelude.{◌≡◌, [], ◌∷◌, ◌+◌, ◌*◌, ◌-◌, ◌≤◌, length, set};
+ghost use Rattle.base.specs.Field.{Field};
 ghost use Rattle.fields.specs.Answer.{verdict_of};
 ghost use Rattle.mdf.specs.Block.{links_at};
 ghost use Rattle.mdf.specs.Chain.{added, fragment_at, listed, chain};
@@ -9,7 +10,6 @@ ghost use Rattle.chains.specs.Turn.{list_at, list_turn, header_turn, turn_at, mo
 
 use crate::node::{Node, SrcBlock, node_at};
 use blocks::block::{first_link, length_in, links_at};
-use fields::field_in;
 use fields::refusal::Refusal;
 
 // The refusal that stopped a chain; count: the fragments kept, with those before the chain.
@@ -65,6 +65,16 @@ fn keep(fragments: &mut [u64], n: u64, b: SrcBlock)
         put(fragments, i + 1, b.size);
         put(fragments, i + 2, u64::from(b.kind));
     }
+}
+
+// The number of the eight bytes at p. The block of a DL is tested whole, so the loop over its links tests none of them.
+fn eight_at(s: &[u8], p: usize) -> u64
+    requires { p + 8 ≤ length s.now }
+    ensures { Field 8 s.now p result }
+{
+    let mut bytes = [0u8; 8];
+    bytes.copy_from_slice(&s[p..p + 8]);
+    u64::from_le_bytes(bytes)
 }
 
 // 8, 9, range, then the limit (19), of a DL or HL with k of them before it.
@@ -150,7 +160,7 @@ impl Walk {
         let links = links_at(image, a);
         let mut count = n;
         for i in 1..links {
-            let link = field_in::<8>(image, (a + 24 + 8 * i) as usize);
+            let link = eight_at(image, (a + 24 + 8 * i) as usize);
             if link == 0 {
                 continue;
             }

@@ -1,14 +1,14 @@
 // Framing by tables of a DG's groups that are made once: ids and sizes of records in the order of the groups, and hints by which the group
 // of an id is guessed. A guess counts only where the table has the id there.
-ghost use Rattle.std.specs.Prelude.{◌≡◌, ◌-◌, ◌<◌, ◌≤◌, length, get_or, set, IfSome, IsNone};
+ghost use Rattle.std.specs.Prelude.{◌≡◌, ◌+◌, ◌-◌, ◌<◌, ◌≤◌, length, get_or, set, IfSome, IsNone};
 ghost use Rattle.base.specs.Blit.{blit};
+ghost use Rattle.base.specs.Field.{Field};
 ghost use Rattle.records.specs.Ahead.{step_to};
 ghost use Rattle.records.specs.Answer.{ahead_of, reached_of};
 ghost use Rattle.records.specs.Table.{size_word, ids_of, sizes_of, Tabled, Guessed, IdAt, BodyIn};
 
 use crate::framing::{Framing, Record, inside};
 use crate::group::{inval_bytes, is_storage, record_id, samples_of};
-use fields::field_in;
 
 // The word of the group at g in the table of sizes.
 fn size_word(image: &[u8], g: u64) -> u64
@@ -123,6 +123,17 @@ fn note(hints: &mut [u64; 1536], last: u64, g: u64) {
     if last < 512 {
         hints[last as usize] = g;
     }
+}
+
+// The number of the N bytes at p. Whoever reads records tests the bytes left before, so the range is not tested again.
+fn field_in<const N: usize>(s: &[u8], p: usize) -> u64
+    requires width { N ≤ 8 }
+    requires inside { p + N ≤ length s.now }
+    ensures { Field N s.now p result }
+{
+    let mut bytes = [0u8; 8];
+    bytes[..N].copy_from_slice(&s[p..p + N]);
+    u64::from_le_bytes(bytes)
 }
 
 // The id of n bytes at p, where it lies in the bytes left and n is 1, 2, 4 or 8.
