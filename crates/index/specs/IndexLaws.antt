@@ -4,8 +4,8 @@ use Rattle.std.proofs.Common.{sym, ◌∙◌, add-one, sub-one, arith, eqb-true,
 use Rattle.std.proofs.lemmas.Bool.{eqb-false}
 use Rattle.std.proofs.lemmas.List.{length-replicate, get_or-replicate}
 use Rattle.base.specs.Choice.{pick, if_eq}
-use Rattle.base.specs.ChoiceLaws.{eq_yes, eq_no}
-use Rattle.index.specs.Index.{newest, Indexed}
+use Rattle.base.specs.ChoiceLaws.{lt_yes, le_yes, eq_yes, eq_no}
+use Rattle.index.specs.Index.{newest, Indexed, entered}
 
 -- ---- the newest of a chain
 newest_yes : (s : ℕ) (w : List ℕ) (b k : ℕ) → get_or w (s * k) 0 % 2039 ≡ b → newest s w b (k + 1) ≡ k + 1
@@ -101,6 +101,12 @@ index_more s w v x n a {h} few t same from e =
             let z = eqb-false b (a % 2039) q in
             out (set x n h) (2048 + a % 2039) (2048 + b) (n + 1) (λ r. z (omega (arith, r)))
             ∙ out x n (2048 + b) h (λ r. omega (arith, r)) ∙ u.heads b k ∙ sym (newest_no s v b n (λ r. z (sym (rw from at r))))
+
+-- where there is room, it is entered
+pub entered_is : (h n a : ℕ) (x : List ℕ) → h + 2039 ≤ 4096 → n < h
+    → entered h n a x ≡ set (set x n (get_or x (h + a % 2039) 0)) (h + a % 2039) (n + 1)
+unfolding entered
+entered_is h n a x room few = sym (le_yes _ _ _ _ room (lt_yes _ _ _ _ few refl))
 
 -- ---- the next of a chain
 pub older_is : (s : ℕ) (w x : List ℕ) (n a i : ℕ) {j : ℕ} → Indexed s w n x → 0 < i → i ≤ n → get_or w (s * (i - 1)) 0 % 2039 ≡ a % 2039

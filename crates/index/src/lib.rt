@@ -3,15 +3,15 @@
 
 ghost use Rattle.std.specs.Prelude.{◌≡◌, ◌+◌, ◌%◌, ◌≤◌, ◌<◌, length, get_or, take, set};
 ghost use Rattle.mdf.specs.Chain.{is_in};
-ghost use Rattle.index.specs.Index.{Indexed};
+ghost use Rattle.index.specs.Index.{entered, Indexed};
 
-// Address number n, a, becomes the newest of its chain; the chains' heads stand from HEADS on.
+// Address number n, a, becomes the newest of its chain; the chains' heads stand from HEADS on. Where these or n have no room, the index stays.
 pub fn enter_at<const HEADS: usize>(index: &mut [u16; 4096], n: u64, a: u64)
-    requires room { HEADS + 2039 ≤ 4096 }
-    requires below { n < HEADS }
-    ensures { index.new
-        ≡ set (set index.old n (get_or index.old (HEADS + a % 2039) 0)) (HEADS + a % 2039) (n + 1) }
+    ensures { index.new ≡ entered HEADS n a index.old }
 {
+    if 2057 < HEADS || HEADS as u64 <= n {
+        return;
+    }
     let head = HEADS + (a % 2039) as usize;
     index[n as usize] = index[head];
     index[head] = (n + 1) as u16;
@@ -22,9 +22,7 @@ pub fn enter(index: &mut [u16; 4096], n: u64, a: u64)
     ensures { n < 2048 → index.new
         ≡ set (set index.old n (get_or index.old (2048 + a % 2039) 0)) (2048 + a % 2039) (n + 1) }
 {
-    if n < 2048 {
-        enter_at::<2048>(index, n, a);
-    }
+    enter_at::<2048>(index, n, a);
 }
 
 // Whether a is one of the first n words, by their index.

@@ -1,6 +1,7 @@
 -- The two stores are one copy more, past those that stand.
 use Prim.Native.Nat.{◌+◌, ◌*◌, ◌<◌}
-use mathlib.Core.Path.{refl}
+use mathlib.Core.Path.{◌∙◌, refl}
+use Rattle.index.specs.IndexLaws.{entered_is}
 use native.Mathlib.Omega.{arith}
 use lib.ListN.{length, length-set}
 use Rattle.copier.specs.StandingLaws.{place_is, place_past, align_near}
@@ -19,5 +20,5 @@ returns c =
     let h : a.state.used * 2 + 1 < length a.memo.now = omega arith in record {
       copied = place_is a.memo.now a.a a.size c.aligned-to.result a.state h (c.aligned-to.ensures (omega arith));
       past = place_past a.memo.now a.a a.size c.aligned-to.result a.state h;
-      indexed = rw c.enter_at.ensures (index_placed a.memo.now a.index.now a.state.used (a.state.used * 2) a.a c.aligned-to.result refl h (omega arith) c.requires.4);
+      indexed = rw (c.enter_at.ensures ∙ entered_is _ _ _ _ (omega arith) (omega arith)) (index_placed a.memo.now a.index.now a.state.used (a.state.used * 2) a.a c.aligned-to.result refl h (omega arith) c.requires.4);
     }
