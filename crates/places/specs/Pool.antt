@@ -1,5 +1,5 @@
 -- Bookkeeping: stretches kept in lent words, of groups of any DG: how many, and six words each: the DG, the CG, the stretch.
-use Rattle.std.specs.Prelude.{ℕ, ◌+◌, ◌*◌, ◌≤◌, ◌<◌, List, ◌≡◌, length, get_or}
+use Rattle.std.specs.Prelude.{ℕ, ◌+◌, ◌-◌, ◌*◌, ◌/◌, ◌≤◌, ◌<◌, min, List, ◌≡◌, length, get_or}
 use Rattle.base.specs.Checked.{fine}
 use Rattle.plan.specs.Data.{records_in}
 use Rattle.work_words.specs.Words.{fragments_of}
@@ -31,6 +31,10 @@ RightOf s gs_of ws_of d g t = StretchOf s d (number_in g (gs_of d)) (gs_of d) (w
 -- all that are kept are right
 pub record Pooled (s : List ℕ) (gs_of ws_of : ℕ → List ℕ) (p : List ℕ) : Type 0 where
   pub right : (i : ℕ) → i < kept_in p → RightOf s gs_of ws_of (get_or p (entry_at i) 0) (get_or p (entry_at i + 1) 0) (stretch_in p i)
+
+-- as many of them, of so many words each, as have room past the first 8; of no words none, since a number by 0 is 0
+abbrev pub kept_by : ℕ → List ℕ → ℕ
+kept_by words p = min (kept_in p) ((length p - 8) / words)
 
 -- so many of them, of so many words each, whose words all stand there
 pub record KeptBy (words : ℕ) (p : List ℕ) (n : ℕ) : Type 0 where

@@ -1,12 +1,32 @@
 -- Kept stretches stay right: one is put, one more is kept, fewer are kept, other words change; and what is sought among them is right.
-use Rattle.std.specs.Prelude.{ℕ, suc, ◌+◌, ◌≤◌, ◌<◌, List, [], ◌∷◌, ◌≡◌, refl, ◌⊎◌, length, get_or, set}
-use Rattle.std.proofs.Common.{sym, ◌∙◌, inl, inr, ⊎_elim, add-zero, arith, get_or-set_same, get_or-set_other}
+use Rattle.std.specs.Prelude.{ℕ, suc, ◌+◌, ◌-◌, ◌*◌, ◌/◌, ◌≤◌, ◌<◌, List, [], ◌∷◌, ◌≡◌, refl, ◌⊎◌, length, get_or, set}
+use Rattle.std.proofs.Common.{sym, ◌∙◌, inl, inr, ⊎_elim, add-zero, mul_comm, mul-le-mul_right, div-mul-le_self, arith, get_or-set_same, get_or-set_other}
+use Rattle.std.proofs.Math.Nat.{zero-div}
 use Rattle.std.proofs.Math.Seq.{set_out}
 use Rattle.base.specs.Blit.{blit}
 use Rattle.records.specs.FragmentLaws.{lt_or_le, eq_or_ne}
 use Rattle.records.specs.SeveralLaws.{get_d_blit}
 use Rattle.places.specs.declared.stretch.Stretch.{Stretch}
-use Rattle.places.specs.Pool.{kept_in, entry_at, stretch_in, RightOf, Pooled, HeldIn}
+use Rattle.places.specs.Pool.{kept_in, kept_by, KeptBy, entry_at, stretch_in, RightOf, Pooled, HeldIn}
+
+-- ---- how many
+-- the words of as many as have room stand there
+pub kept_few : (words : ℕ) (p : List ℕ) {n : ℕ} → n ≡ kept_by words p → KeptBy words p n
+kept_few words p {n} e =
+    let a : n ≤ (length p - 8) / words = omega arith in
+    let b : n * words ≤ (length p - 8) / words * words = mul-le-mul_right words a in
+    record {
+      kept = omega arith;
+      room = λ z.
+          ⊎_elim (λ l. absurd (none l z)) (λ l. omega (arith, div-mul-le_self (length p - 8) words, mul_comm words n))
+          (lt_or_le (length p) 8);
+    }
+  where
+    none : length p < 8 → 0 < n → ⊥
+    none l z =
+        let f : length p - 8 ≡ 0 = omega arith in
+        let g : (length p - 8) / words ≡ 0 = rw f (zero-div words) in
+        omega arith
 
 -- ---- words
 -- the six words of an entry

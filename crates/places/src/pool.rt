@@ -1,6 +1,6 @@
 // Stretches of the groups of several DG, side by side in lent words.
-ghost use Rattle.std.specs.Prelude.{◌+◌, ◌<◌, ◌≤◌, length, IfSome};
-ghost use Rattle.places.specs.Pool.{entry_at, KeptBy, EntryIn, EntryFor, HeldIn};
+ghost use Rattle.std.specs.Prelude.{◌≡◌, ◌+◌, ◌≤◌, length, IfSome};
+ghost use Rattle.places.specs.Pool.{entry_at, kept_by, EntryIn, EntryFor, HeldIn};
 
 use crate::stretch::Stretch;
 
@@ -13,11 +13,10 @@ pub struct Held {
 
 // How many are kept past the first 8 words, of N words each; no more than have room.
 pub fn kept_in<const N: usize>(pool: &[u64]) -> u64
-    requires { 0 < N }
-    ensures { KeptBy N pool.now result }
+    ensures { result ≡ kept_by N pool.now }
 {
     let words = pool.len();
-    if words < 8 {
+    if N == 0 || words < 8 {
         return 0;
     }
     let room = ((words - 8) / N) as u64;
