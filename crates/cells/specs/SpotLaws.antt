@@ -1,12 +1,14 @@
 -- Laws of records at equal distances from a place in joined data on.
-use Rattle.std.specs.Prelude.{ℕ, zero, suc, ◌+◌, ◌*◌, ◌-◌, ◌/◌, ◌≤◌, ◌<◌, Bool, true, false, leb, List, ◌∷◌, ◌++◌, ◌≡◌, refl, length, take, drop}
+use Rattle.std.specs.Prelude.{ℕ, zero, suc, ◌+◌, ◌*◌, ◌-◌, ◌/◌, ◌≤◌, ◌<◌, ◌⊎◌, min, Bool, true, false, leb, List, ◌∷◌, ◌++◌, ◌≡◌, refl, length, take, drop}
 use Rattle.std.proofs.lemmas.Bool.{false≢true, leb-true, leb-false}
-use Rattle.std.proofs.Common.{append-nil, sym, ap, ◌∙◌, zero-mul, mul-zero, suc-mul, add-mul, mul-le-mul_right, div-mul-le_self, div-lt_iff_lt-mul, sub-one, arith, length-append, drop-drop}
+use Rattle.std.proofs.Common.{append-nil, sym, ap, ◌∙◌, inl, inr, zero-mul, mul-zero, suc-mul, add-mul, mul-le-mul_right, div-mul-le_self, div-lt_iff_lt-mul, sub-one, arith, length-append, drop-drop}
+use Rattle.base.specs.ChoiceLaws.{eq_yes, eq_no}
 use Rattle.base.specs.Blit.{part, blit}
 use Rattle.base.specs.BlitLaws.{blit-append}
 use Rattle.base.specs.Checked.{fine}
 use Rattle.mdf.specs.Records.{most64, ranges_in, joined, size_of}
 use Rattle.work_words.specs.Words.{fragments_of}
+use Rattle.records.specs.FragmentLaws.{lt_or_le, eq_or_ne}
 use Rattle.result.specs.Payload.{cell, cells}
 use Rattle.payload_laws.specs.SortedLaws.{joined_length}
 use Rattle.payload_laws.specs.CellLaws.{cells-append}
@@ -23,7 +25,7 @@ use Rattle.cells.specs.Shape.{Shaped}
 use Rattle.cells.specs.Strided.{Lying}
 use Rattle.cells.specs.ShapeLaws.{shaped_sound}
 use Rattle.cells.specs.StridedLaws.{mul_less, cell_wide}
-use Rattle.cells.specs.Spot.{Readable, RunOf, Roomy}
+use Rattle.cells.specs.Spot.{Readable, run_in, RunOf, Roomy}
 
 -- ---- a run of records
 pub run-one : (room n : ℕ) {stride : ℕ} → 0 < n → stride ≡ 0 → RunOf room stride n 1
@@ -38,6 +40,25 @@ pub run_most : (room stride n : ℕ) → room / stride < n → RunOf room stride
 run_most room stride n l =
     let e : room / stride + 1 - 1 ≡ room / stride = omega arith in
     record { some = omega arith; few = omega arith; within = rw e (div-mul-le_self room stride) }
+
+-- so many as are counted, where there is a record
+pub run_counted : (room stride n : ℕ) {m : ℕ} → 0 < n → m ≡ run_in room stride n → RunOf room stride n m
+unfolding run_in
+run_counted room stride n {m} h e = go (eq_or_ne stride 0) (lt_or_le (room / stride) n)
+  where
+    go : (stride ≡ 0) ⊎ (stride ≡ 0 → ⊥) → (room / stride < n) ⊎ (n ≤ room / stride) → RunOf room stride n m
+    go (inl z) w =
+        let a : m ≡ min n 1 = e ∙ sym (eq_yes stride 0 (min n 1) (min n (room / stride + 1)) z refl) in
+        let b : m ≡ 1 = omega arith in
+        rw b (run-one room n h z)
+    go (inr z) (inl l) =
+        let a : m ≡ min n (room / stride + 1) = e ∙ sym (eq_no stride 0 (min n 1) (min n (room / stride + 1)) z refl) in
+        let b : m ≡ room / stride + 1 = omega arith in
+        rw b (run_most room stride n l)
+    go (inr z) (inr l) =
+        let a : m ≡ min n (room / stride + 1) = e ∙ sym (eq_no stride 0 (min n 1) (min n (room / stride + 1)) z refl) in
+        let b : m ≡ n = omega arith in
+        rw b (run-all room stride n h l)
 
 -- ---- an answer to a question
 pub answer_yes : {A : Type 0} → A → (true ≡ true → A) × (A → true ≡ true)

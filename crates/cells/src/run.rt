@@ -10,7 +10,7 @@ ghost use Rattle.joined.specs.Ahead.{ahead};
 ghost use Rattle.joined.specs.Spot.{SpotOf};
 ghost use Rattle.cells.specs.Shape.{Shaped, Sound};
 ghost use Rattle.cells.specs.Strided.{Lying};
-ghost use Rattle.cells.specs.Spot.{Readable, RunOf, Roomy};
+ghost use Rattle.cells.specs.Spot.{Readable, run_in, Roomy};
 
 use crate::cell::{Shape, cell_joined, is_sound};
 use crate::strided::put_strided;
@@ -19,11 +19,10 @@ use joined::spot::{Spot, reach};
 
 // How many of n records begin at most so many bytes past the first one's start.
 pub fn run_of(room: u64, stride: u64, n: u64) -> u64
-    requires { 0 < n }
-    ensures { RunOf room stride n result }
+    ensures { result ≡ run_in room stride n }
 {
     if stride == 0 {
-        return 1;
+        return n.min(1);
     }
     let m = room / stride;
     if n <= m {
@@ -34,7 +33,8 @@ pub fn run_of(room: u64, stride: u64, n: u64) -> u64
 
 // Whether so many bytes lie at the cursor in its fragment, and that in the image.
 pub fn lies_here(image: &[u8], k: Cursor, bytes: u64) -> bool
-    ensures { result ≡ true → (bytes ≤ k.left) × (k.position + k.left ≤ length image.now) }
+    ensures { (result ≡ true → (bytes ≤ k.left) × (k.position + k.left ≤ length image.now))
+        × ((bytes ≤ k.left) × (k.position + k.left ≤ length image.now) → result ≡ true) }
 {
     let end = image.len() as u64;
     if k.left < bytes || end < k.left {

@@ -6,12 +6,12 @@ use native.Mathlib.Omega.{arith}
 use Rattle.cells.proofs.gathered.put_some.Goals as goal
 
 pub overflow_sub-v : goal.overflow_sub-v
-overflow_sub-v c = (c.lies_here.ensures c.if-lies_here.true).0
+overflow_sub-v c = (c.lies_here.ensures.0 c.if-lies_here.true).0
 
 pub put_near-requires : goal.put_near-requires
 put_near-requires c =
     let p = c.requires in
-    let y = c.lies_here.ensures c.if-lies_here.true in
+    let y = c.lies_here.ensures.0 c.if-lies_here.true in
     (p.0, record { some = p.1; words = p.2; first = p.3; inside = omega (arith, y.0, y.1) }, p.4)
 
 pub returns-then-lies_here : goal.returns-then-lies_here
@@ -21,7 +21,7 @@ returns-then-lies_here c =
     record {
       some = g.some;
       few = g.few;
-      put = λ w t i. g.put w.shaped _ (spot_alike t a.h.length a.from a.n (c.lies_here.ensures c.if-lies_here.true).0);
+      put = λ w t i. g.put w.shaped _ (spot_alike t a.h.length a.from a.n (c.lies_here.ensures.0 c.if-lies_here.true).0);
     }
 
 pub cell_joined-requires : goal.cell_joined-requires

@@ -1,13 +1,17 @@
--- As many as the room has distances, and the first.
+-- As many as the room has distances, and the first; no more than there are.
 use native.Mathlib.Omega.{arith}
-use Rattle.cells.specs.SpotLaws.{run-one, run-all, run_most}
+use Rattle.base.specs.ChoiceLaws.{eq_yes, eq_no}
+use Rattle.cells.specs.Spot.{run_in}
 use Rattle.cells.proofs.run.run_of.Goals as goal
 
 pub returns-then-stride-eq0 : goal.returns-then-stride-eq0
-returns-then-stride-eq0 c = run-one _ _ c.requires c.if-stride-eq0.true
+unfolding run_in
+returns-then-stride-eq0 c = eq_yes _ _ _ _ c.if-stride-eq0.true c.min.ensures
 
 pub returns-then-n-m : goal.returns-then-n-m
-returns-then-n-m c = run-all _ _ _ c.requires c.if-n-m.true
+unfolding run_in
+returns-then-n-m c = eq_no _ _ _ _ c.if-stride-eq0.false (omega arith)
 
 pub returns : goal.returns
-returns c = run_most _ _ _ (omega arith)
+unfolding run_in
+returns c = eq_no _ _ _ _ c.if-stride-eq0.false (omega arith)
