@@ -41,7 +41,7 @@ pub fn usable(t: Stretch, at: u64, f: Form, size: u64) -> bool
 }
 
 // The records of a stretch past the first m.
-pub fn past(t: Stretch, m: u64) -> Stretch
+fn past(t: Stretch, m: u64) -> Stretch
     requires { (m ≤ t.count) × (t.number + m < 18446744073709551616) × (t.first + m * t.stride < 18446744073709551616) }
     ensures { result ≡ past_of t m }
 {
