@@ -7,7 +7,7 @@ ghost use Rattle.data_blocks.specs.Region.{Formed, PieceIn};
 ghost use Rattle.window_data.specs.Filled.{FormIn, FromOf, LaysRest, LaysAll};
 
 use crate::piece::lay_piece;
-use data_blocks::by::{START, past, usable};
+use data_blocks::by::{START, usable};
 use data_blocks::piece::Form;
 use places::sorted::sorted_next;
 use places::stretch::Stretch;
@@ -51,7 +51,15 @@ pub(crate) fn lay_rest(
         lay_piece(w, a, image, fragments, f, t);
         return;
     }
-    lay_piece(w, a, image, fragments, f, past(t, r - t.number));
+    // The stretch past m, written out: a public function for it would require that the stretch has so many records.
+    let m = r - t.number;
+    let rest = Stretch {
+        number: t.number + m,
+        first: t.first + m * t.stride,
+        stride: t.stride,
+        count: t.count - m,
+    };
+    lay_piece(w, a, image, fragments, f, rest);
 }
 
 // All records of the group at g that is alone in the DG at d, in data of so many bytes.
