@@ -35,8 +35,8 @@ fn put_front(lines: &mut [u8], at: usize, columns: &[u64], k: u64) -> usize
 {
     let mark = letter(word(columns, 8 * k + 4));
     let p = put_number(lines, at, k, b' ');
-    let q = put_byte(lines, p, mark);
-    put_byte(lines, q, b' ')
+    let q = p + put_byte(lines, p, mark);
+    q + put_byte(lines, q, b' ')
 }
 
 // 1 where the invalidation bit of the channel at cn is kept.
@@ -95,7 +95,7 @@ fn put_master(lines: &mut [u8], at: usize, master: u64) -> usize
     ensures { Laid at (master_of master) 20 lines.old lines.new result }
 {
     if master == 0 {
-        return put_byte(lines, at, b'-');
+        return at + put_byte(lines, at, b'-');
     }
     put_decimal(lines, at, master - 1)
 }
@@ -110,7 +110,7 @@ pub(crate) fn put_column_line(lines: &mut [u8], at: usize, plan: Plan, k: u64) -
     let q = put_sizes(lines, p, plan, k);
     let t = put_amounts(lines, q, plan, k);
     let u = put_master(lines, t, master);
-    put_byte(lines, u, b'\n')
+    u + put_byte(lines, u, b'\n')
 }
 
 // The lines of n columns.
@@ -153,7 +153,7 @@ fn put_columns(lines: &mut [u8], at: usize, plan: Plan, n: u64) -> usize
     requires { (at ≤ 2199023255552) × (n ≤ 512) × AllCount plan.image.now plan.columns.now plan.fragments.now n }
     ensures { Laid at (columns_part plan.entry.image.now plan.entry.size plan.entry.columns.now plan.entry.fragments.now n) (29 + 149 * n) lines.old lines.new result }
 {
-    let p = put_text(lines, at, b"columns ");
+    let p = at + put_text(lines, at, b"columns ");
     let q = put_number(lines, p, n, b'\n');
     put_column_lines(lines, q, plan, n)
 }
@@ -163,7 +163,7 @@ fn put_omissions(lines: &mut [u8], at: usize, columns: &[u64], n: u64) -> usize
     requires { (at ≤ 2199023255552) × (n ≤ 1024) }
     ensures { Laid at (omissions_part columns.now n) (29 + 42 * n) lines.old lines.new result }
 {
-    let p = put_text(lines, at, b"omitted ");
+    let p = at + put_text(lines, at, b"omitted ");
     let q = put_number(lines, p, n, b'\n');
     put_omission_lines(lines, q, columns, n)
 }

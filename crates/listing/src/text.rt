@@ -20,5 +20,5 @@ pub(crate) fn put_number(lines: &mut [u8], at: usize, n: u64, after: u8) -> usiz
     ensures { Laid at (number_then n after) 21 lines.old lines.new result }
 {
     let p = put_decimal(lines, at, n);
-    put_byte(lines, p, after)
+    p + put_byte(lines, p, after)
 }

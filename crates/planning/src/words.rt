@@ -22,12 +22,15 @@ pub fn put(w: &mut [u64], i: u64, x: u64)
 
 // Words from word i on; those past the end are lost.
 pub fn put_words(w: &mut [u64], i: u64, words: &[u64])
-    requires { i < 4294967296 }
     ensures { w.new ≡ blit i words.now w.old }
 {
-    for k in 0..words.len() {
-        put(w, i + k as u64, words[k]);
+    let at = i as usize;
+    let room = w.len();
+    if room <= at {
+        return;
     }
+    let k = words.len().min(room - at);
+    w[at..at + k].copy_from_slice(&words[..k]);
 }
 
 // The eight words of column k.

@@ -15,9 +15,9 @@ fn put_heading(lines: &mut [u8], at: usize, p: u64, n: u64)
     requires { at ≤ 60000 }
     ensures { Piece at (heading p n ++ ascii "\n") 81 lines.old lines.new }
 {
-    let mut end = put_text(lines, at, b"page ");
+    let mut end = at + put_text(lines, at, b"page ");
     end += put_decimal(lines, end, p);
-    end = put_text(lines, end, b" of ");
+    end += put_text(lines, end, b" of ");
     end += put_decimal(lines, end, n);
     fill(lines, end, at + 80 - end, b' ');
     put_u8(lines, at + 80, 10);

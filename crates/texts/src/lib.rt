@@ -1,28 +1,26 @@
 // Numbers and refusals as texts, laid over a lent slice. What would lie past the slice's end is lost.
 #![tactic(auto)]
 
-ghost use Rattle.std.specs.Prelude.{[], ◌∷◌, ◌+◌, ◌≤◌, ◌<◌, length};
+ghost use Rattle.std.specs.Prelude.{[], ◌∷◌, ◌+◌, ◌≤◌, length};
 ghost use Rattle.result.specs.Listing.{digits_of, decimal, refusal_text};
 ghost use Rattle.texts.specs.Laid.{Laid};
 
 use puts::{copy, put_u8};
 
-// One byte; answers the index past it.
+// One byte at index at, which may be any; answers how many bytes that is, 1.
 pub fn put_byte(lines: &mut [u8], at: usize, x: u8) -> usize
-    requires { at < 18446744073709551615 }
-    ensures { Laid at (x ∷ []) 1 lines.old lines.new result }
+    ensures { Laid at (x ∷ []) 1 lines.old lines.new (at + result) }
 {
     put_u8(lines, at, x as u64);
-    at + 1
+    1
 }
 
-// A text; answers the index past it.
+// A text at index at, which may be any; answers how many bytes it has.
 pub fn put_text(lines: &mut [u8], at: usize, text: &[u8]) -> usize
-    requires { at + length text.now ≤ 18446744073709551615 }
-    ensures { Laid at text.now (length text.now) lines.old lines.new result }
+    ensures { Laid at text.now (length text.now) lines.old lines.new (at + result) }
 {
     copy(lines, at, text, 0, text.len() as u64);
-    at + text.len()
+    text.len()
 }
 
 // The decimal digits of n, at most so many; answers the index past them.
@@ -36,10 +34,10 @@ fn put_digits(lines: &mut [u8], at: usize, most: u64, n: u64) -> usize
     let digit = b'0' + (n % 10) as u8;
     let more = n / 10;
     if more == 0 {
-        return put_byte(lines, at, digit);
+        return at + put_byte(lines, at, digit);
     }
     let p = put_digits(lines, at, most - 1, more);
-    put_byte(lines, p, digit)
+    p + put_byte(lines, p, digit)
 }
 
 // A number at index at, which may be any; answers how many digits it has.
@@ -58,7 +56,7 @@ pub fn put_refusal(lines: &mut [u8], number: u64, place: u64) -> usize
 {
     let mut p = put_text(lines, 0, b"refused ");
     p += put_decimal(lines, p, number);
-    p = put_text(lines, p, b" place ");
+    p += put_text(lines, p, b" place ");
     p += put_decimal(lines, p, place);
-    put_byte(lines, p, b'\n')
+    p + put_byte(lines, p, b'\n')
 }
