@@ -5,5 +5,5 @@ use Rattle.listing.proofs.lines.put_columns.Goals as goal
 
 pub returns : goal.returns
 returns c = columns-laid _ _ _ _ _
-    c.put_text-p.ensures
+    c.put_text.ensures
     c.put_number-q.ensures c.put_column_lines.ensures

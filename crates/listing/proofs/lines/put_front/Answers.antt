@@ -8,4 +8,4 @@ returns c = front-laid _ _
     c.word.ensures
     c.letter-mark.ensures.is
     c.put_number-p.ensures
-    c.put_byte-q.ensures c.put_byte.ensures
+    c.put_byte.ensures c.put_byte-2.ensures

@@ -5,5 +5,5 @@ use Rattle.listing.proofs.lines.put_omissions.Goals as goal
 
 pub returns : goal.returns
 returns c = omissions_laid _ _
-    c.put_text-p.ensures
+    c.put_text.ensures
     c.put_number-q.ensures c.put_omission_lines.ensures

@@ -4,4 +4,4 @@ use Rattle.sheets.proofs.page.put_heading.Goals as goal
 
 pub returns : goal.returns
 returns c =
-    heading_put _ _ c.put_text-end.ensures c.put_decimal-end.ensures c.put_text-end-2.ensures c.put_decimal-end-2.ensures c.fill.ensures c.put_u8.ensures
+    heading_put _ _ c.put_text.ensures c.put_decimal-end.ensures c.put_text-end.ensures c.put_decimal-end-2.ensures c.fill.ensures c.put_u8.ensures
