@@ -53,6 +53,17 @@ pub fn least(a: u64, b: u64) -> u64
     a.min(b)
 }
 
+// n bytes of s from index from, at index at, all of them inside: byte by byte, for which the compiler puts `memcpy`. std's `copy_from_slice` comes to
+// `memmove` besides, which the library needs nowhere else.
+fn copy_in(d: &mut [u8], at: usize, s: &[u8], from: usize, n: usize)
+    requires { (at + n ≤ length d.old) × (from + n ≤ length s.now) }
+    ensures { d.new ≡ blit at (part from n s.now) d.old }
+{
+    for k in 0..n {
+        d[at + k] = s[from + k];
+    }
+}
+
 // n bytes of s from index from, as many as there are, at index at.
 pub fn copy(d: &mut [u8], at: usize, s: &[u8], from: u64, n: u64)
     ensures { d.new ≡ blit at (part from n s.now) d.old }
@@ -64,8 +75,7 @@ pub fn copy(d: &mut [u8], at: usize, s: &[u8], from: u64, n: u64)
     }
     let have = n.min(all - from);
     let k = have.min((room - at) as u64) as usize;
-    let first = from as usize;
-    d[at..at + k].copy_from_slice(&s[first..first + k]);
+    copy_in(d, at, s, from as usize, k);
 }
 
 // n zero bytes at index at.
