@@ -1,18 +1,30 @@
 -- Laws of the words of columns and omissions.
-use Rattle.std.specs.Prelude.{ℕ, zero, suc, ◌+◌, ◌*◌, ◌-◌, ◌≤◌, ◌<◌, min, List, ◌≡◌, Bool, true, false, length, take, get_or, eqb}
-use Rattle.std.proofs.Common.{ap, ◌∙◌, le_refl, sub-one, take_all}
+use Rattle.std.specs.Prelude.{ℕ, zero, suc, ◌+◌, ◌*◌, ◌-◌, ◌≤◌, ◌<◌, List, [], ◌∷◌, ◌≡◌, refl, Bool, true, false, length, take, get_or, set, eqb}
+use Rattle.std.proofs.Common.{sym, ap, ◌∙◌, add-one, sub-one}
+use Rattle.std.proofs.Math.Seq.{take-suc, take_all}
+use Rattle.std.proofs.lemmas.List.{length-take-le}
 use native.Mathlib.Omega.{arith}
 use borrow.Author.Tests.{eq-eqb, ne_eqb}
 use Rattle.base.specs.Choice.{pick}
-use Rattle.base.specs.Blit.{part, blit}
-use Rattle.puts.specs.PutLaws.{copy_clip}
+use Rattle.base.specs.Blit.{blit}
+use Rattle.base.specs.BlitLaws.{blit-one, blit-append}
 use Rattle.planning.specs.TimeIn.{is_time_in, time_in}
 
--- ---- a list of words: those that have room are all that count
-pub put_clip : (i k : ℕ) (ws w : List ℕ) → k ≡ min (length ws) (length w - i) → blit i (take k ws) w ≡ blit i ws w
-unfolding part
-put_clip i k ws w e =
-    copy_clip i 0 (length ws) (length ws) k ws w (omega arith) e ∙ ap (λ (l : List ℕ). blit i l w) (take_all (length ws) ws (le_refl _))
+-- ---- a list of words, stored one by one
+pub put_none : (i : ℕ) (ws w : List ℕ) → w ≡ blit i (take 0 ws) w
+unfolding blit
+put_none i ws w = refl
+
+pub put_next : (i k : ℕ) (ws w : List ℕ) {w1 w2 : List ℕ} → w1 ≡ blit i (take k ws) w → k < length ws → w2 ≡ set w1 (i + k) (get_or ws k 0) → w2 ≡ blit i (take (k + 1) ws) w
+put_next i k ws w e h f =
+    let n : length (take k ws) ≡ k = length-take-le k ws (omega arith) in
+    f ∙ ap (λ (l : List ℕ). set l (i + k) (get_or ws k 0)) e ∙ sym (blit-one (i + k) (get_or ws k 0) (blit i (take k ws) w))
+    ∙ ap (λ (j : ℕ). blit (i + j) (get_or ws k 0 ∷ []) (blit i (take k ws) w)) (sym n)
+    ∙ sym (blit-append (take k ws) i (get_or ws k 0 ∷ []) w)
+    ∙ ap (λ (l : List ℕ). blit i l w) (sym (rw add-one (take-suc ws k 0 h)))
+
+pub put_all : (i k : ℕ) (ws w : List ℕ) {w1 : List ℕ} → w1 ≡ blit i (take k ws) w → length ws ≤ k → w1 ≡ blit i ws w
+put_all i k ws w e h = e ∙ ap (λ (l : List ℕ). blit i l w) (take_all k ws h)
 
 -- ---- the time column
 module _ (w : List ℕ) (k g : ℕ) {x : ℕ} (e : x ≡ get_or w (8 * k + 4) 0) where

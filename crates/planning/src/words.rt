@@ -24,13 +24,13 @@ pub fn put(w: &mut [u64], i: u64, x: u64)
 pub fn put_words(w: &mut [u64], i: u64, words: &[u64])
     ensures { w.new ≡ blit i words.now w.old }
 {
-    let at = i as usize;
-    let room = w.len();
-    if room <= at {
+    let room = w.len() as u64;
+    if room <= i {
         return;
     }
-    let k = words.len().min(room - at);
-    w[at..at + k].copy_from_slice(&words[..k]);
+    for k in 0..words.len() {
+        put(w, i + k as u64, words[k]);
+    }
 }
 
 // The eight words of column k.
@@ -57,7 +57,8 @@ fn is_time(w: &[u64], k: u64, g: u64) -> bool
     word(w, 8 * k + 4) == 1 && word(w, 8 * k + 1) == g
 }
 
-// The time column of the group at g among the first n, and 1; 0 for none.
+// The time column of the group at g among the first n, and 1; 0 for none. Apart in the machine code, so that its loop has the registers.
+#[inline(never)]
 pub(crate) fn time_column(w: &[u64], n: u64, g: u64) -> u64
     requires { n < 16777216 }
     ensures { result ≡ time_in w.now g 0 n }

@@ -89,7 +89,8 @@ fn count_up(words: &mut [u64], k: u64)
     }
 }
 
-// The records of all groups, counted; ids have n bytes.
+// The records of all groups, counted; ids have n bytes. Apart in the machine code, so that its loop has the registers.
+#[inline(never)]
 fn count_frames(
     image: &[u8],
     n: u64,

@@ -107,7 +107,7 @@ fn lay_known(
         return;
     }
     let x = link_at(image, c, 8 + i);
-    let to = sought(memo, metadata, attached, x);
+    let to = moved_to(memo, metadata, attached, x);
     lay_u64(w, skip % 8, 0, to);
     put_photos(
         w,

@@ -10,4 +10,4 @@ pub returns-then-n-i : goal.returns-then-n-i
 returns-then-n-i c = before_window _ _ _ _ _ _ _ (omega arith) (omega arith)
 
 pub returns : goal.returns
-returns c = inside_window _ _ _ _ _ _ _ _ _ _ _ (omega arith) c.if-n-i.false c.link_at-x.ensures c.sought-to.ensures c.lay_u64.ensures c.put_photos-2.ensures
+returns c = inside_window _ _ _ _ _ _ _ _ _ _ _ (omega arith) c.if-n-i.false c.link_at-x.ensures (c.moved_to-to.ensures c.requires.1 c.requires.2) c.lay_u64.ensures c.put_photos-2.ensures

@@ -1,15 +1,17 @@
--- The words that have room are all that count.
-use Rattle.std.proofs.Common.{arith, sym, ◌∙◌, length-take-le}
-use Rattle.puts.specs.PutLaws.{blit-past, laid_at}
-use Rattle.planning.specs.WordLaws.{put_clip}
+-- The words so far are stored; past the end there is nothing to store.
+use Rattle.std.proofs.Common.{arith, sym}
+use Rattle.puts.specs.PutLaws.{blit-past}
+use Rattle.planning.specs.WordLaws.{put_none, put_next, put_all}
 use Rattle.planning.proofs.words.put_words.Goals as goal
 
-pub returns-then-room-at : goal.returns-then-room-at
-returns-then-room-at c = sym (blit-past _ _ _ (omega arith))
+pub loop-k-init : goal.loop-k-init
+loop-k-init c = put_none c.args.i c.args.words.now c.args.w.now
+
+pub loop-k-preserved : goal.loop-k-preserved
+loop-k-preserved c = put_next c.args.i c.loop-k.k c.args.words.now c.args.w.now c.loop-k.invariant (omega arith) c.put.ensures
+
+pub returns-then-room-i : goal.returns-then-room-i
+returns-then-room-i c = sym (blit-past _ _ _ (omega arith))
 
 pub returns : goal.returns
-returns c =
-    let a = c.args in
-    let k = c.min-k.result in
-    rw c.copy_from_slice.ensures.after
-    (laid_at a.i k _ _ a.w.now (omega arith) (length-take-le k a.words.now (omega arith)) (omega arith) ∙ put_clip _ _ _ _ c.min-k.ensures)
+returns c = put_all c.args.i c.loop-k.k c.args.words.now c.args.w.now c.loop-k.invariant (omega arith)
