@@ -17,7 +17,7 @@ use crate::strided::put_strided;
 use joined::cursor::Cursor;
 use joined::spot::{Spot, reach};
 
-// How many of n records begin at most so many bytes past the first one's start.
+// How many of n records begin at most so many bytes past the first one's start; of those that all begin there, the first alone.
 pub fn run_of(room: u64, stride: u64, n: u64) -> u64
     ensures { result ≡ run_in room stride n }
 {
