@@ -70,9 +70,7 @@ pub fn new_link(memo: &[u64], used: u64, a: u64) -> u64
     find(&memo[..2 * used.min(n) as usize], a).unwrap_or(0)
 }
 
-// The index of the first copies of the words, as many as it has room for. Apart in the machine code: a caller that returns before it asks for an index
-// clears no words for one.
-#[inline(never)]
+// The index of the first copies of the words, as many as it has room for.
 pub fn index_copies(memo: &[u64], used: u64) -> [u16; 4096]
     ensures { Indexes memo.now used result }
 {

@@ -6,8 +6,7 @@ ghost use Rattle.copying.specs.ChainIndex.{ChainIndexes, First};
 
 use index::enter;
 
-// The index of the chain's n words, where it has room for them. Apart in the machine code, as `index_copies` is.
-#[inline(never)]
+// The index of the chain's n words, where it has room for them.
 pub fn index_chain(memo: &[u64], n: u64) -> [u16; 4096]
     ensures { ChainIndexes memo.now n result }
 {

@@ -1,5 +1,5 @@
 // Reading: what is met is kept in lent words, blocks in `source` and fragments in `fragments`; an index of the blocks tells whether one is met again.
-ghost use Rattle.std.specs.Prelude.{◌≡◌, [], ◌≤◌, ◌<◌, length};
+ghost use Rattle.std.specs.Prelude.{◌≡◌, List, ℕ, [], ◌+◌, ◌≤◌, ◌<◌, length, set};
 ghost use Rattle.fields.specs.Answer.{verdict_of};
 ghost use Rattle.mdf.specs.Chain.{file_limits};
 ghost use Rattle.mdf.specs.Walk.{id_size_in};
@@ -8,6 +8,7 @@ ghost use Rattle.work_words.specs.Words.{source_words};
 ghost use Rattle.index.specs.Index.{Indexed};
 ghost use Rattle.reading.specs.Steps.{after, indexed_after, visited, met_cg, met_cn, after_data, data_in};
 ghost use Rattle.reading.specs.Walked.{given, walked_from, walked};
+ghost use Rattle.reading.specs.ClearLaws.{Filled};
 ghost use Rattle.reading.specs.Spans.{span_at};
 ghost use Rattle.reading.specs.Reading.{zeros, fragment_room, read_over, left, read_into};
 ghost use Rattle.reading.specs.Holding.{Holding};
@@ -234,15 +235,53 @@ pub fn walk_file(image: &[u8], source: &mut [u64; 4096]) -> Result<Read, Refusal
     walk(true, image, source, &mut fragments)
 }
 
-// Every word zero. One that is already isn't stored to: memory that nobody has touched stays so.
+// Eight words from i on zero; where they are already, none is stored to.
+fn clear_eight(words: &mut [u64], i: usize)
+    requires { i + 8 ≤ length words.old }
+    ensures { words.new ≡ set (set (set (set (set (set (set (set words.old i 0) (i + 1) 0) (i + 2) 0) (i + 3) 0) (i + 4) 0) (i + 5) 0) (i + 6) 0) (i + 7) 0 }
+{
+    let any = words[i]
+        | words[i + 1]
+        | words[i + 2]
+        | words[i + 3]
+        | words[i + 4]
+        | words[i + 5]
+        | words[i + 6]
+        | words[i + 7];
+    if any == 0 {
+        return;
+    }
+    words[i] = 0;
+    words[i + 1] = 0;
+    words[i + 2] = 0;
+    words[i + 3] = 0;
+    words[i + 4] = 0;
+    words[i + 5] = 0;
+    words[i + 6] = 0;
+    words[i + 7] = 0;
+}
+
+// Every word from index from on zero.
+fn clear_from(words: &mut [u64], from: usize)
+    ensures { (w : List ℕ) → Filled w from words.old → words.new ≡ zeros w }
+{
+    for i in from..words.len() {
+        if words[i] != 0 {
+            words[i] = 0;
+        }
+    }
+}
+
+// Every word zero. Eight that are already aren't stored to: memory that nobody has touched stays so. Eight by eight for speed: one by one the compiler
+// makes a loop that takes three times as long.
 pub fn clear(words: &mut [u64])
     ensures { words.new ≡ zeros words.old }
 {
-    for word in words.iter_mut() {
-        if *word != 0 {
-            *word = 0;
-        }
+    let eights = words.len() / 8;
+    for n in 0..eights {
+        clear_eight(words, 8 * n);
     }
+    clear_from(words, 8 * eights);
 }
 
 // The blocks from i up to the next DG or to n: where they end, and how many CG are among them.

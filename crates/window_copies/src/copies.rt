@@ -75,7 +75,39 @@ pub(crate) fn lay_copies_by(
     }
 }
 
-// The same by indices made for them, where a copy has a byte in the window; nothing where the words aren't there.
+// The same by indices made for them. Apart in the machine code: a function clears its arrays where it begins, and most windows hold no copy.
+#[inline(never)]
+fn lay_indexed(
+    w: &mut [u8],
+    a: u64,
+    image: &[u8],
+    memo: &[u64],
+    used: u64,
+    chain: u64,
+    fh: u64,
+    from: u64,
+    to: u64,
+)
+    requires { (to ≤ 2050) × (4100 ≤ length memo.now) }
+    ensures { (g : List ℕ) → Laying image.now memo.now (part history_at chain memo.now) (copies_in memo.now used) fh a to g from w.old → w.new ≡ g }
+{
+    let index = index_copies(memo, used);
+    let chained = index_chain(memo, chain);
+    let copies = Copies {
+        image,
+        memo,
+        index: &index,
+        used,
+    };
+    let history = HistoryChain {
+        chained: &chained,
+        chain,
+        fh,
+    };
+    lay_copies_by(w, a, copies, history, from, to);
+}
+
+// The copies number from up to to of those in the words, from the first that has a byte in the window; nothing where the words aren't there.
 pub fn lay_copies(
     w: &mut [u8],
     a: u64,
@@ -99,18 +131,5 @@ pub fn lay_copies(
     if to <= first {
         return;
     }
-    let index = index_copies(memo, used);
-    let chained = index_chain(memo, chain);
-    let copies = Copies {
-        image,
-        memo,
-        index: &index,
-        used,
-    };
-    let history = HistoryChain {
-        chained: &chained,
-        chain,
-        fh,
-    };
-    lay_copies_by(w, a, copies, history, first, to);
+    lay_indexed(w, a, image, memo, used, chain, fh, first, to);
 }

@@ -11,5 +11,4 @@ pub returns-then-to-first : goal.returns-then-to-first
 returns-then-to-first c = λ h l k n v. laying_end (c.first_in-first.ensures.passed _ _ _ _ _ refl (laying_begin _ _ _ _ _ _ _ _ _ _ h l v)) (omega arith)
 
 pub returns : goal.returns
-returns c = λ h l k n v. c.lay_copies_by.ensures _ c.index_copies-index.ensures c.index_chain-chained.ensures
-    (c.first_in-first.ensures.passed _ _ _ _ _ refl (laying_begin _ _ _ _ _ _ _ _ _ _ h l v))
+returns c = λ h l k n v. c.lay_indexed.ensures _ (c.first_in-first.ensures.passed _ _ _ _ _ refl (laying_begin _ _ _ _ _ _ _ _ _ _ h l v))
